@@ -1,0 +1,4 @@
+pub mod HeldLemmas
+pub mod Window
+pub mod Live
+pub mod ChildLemmas

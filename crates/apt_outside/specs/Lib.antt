@@ -1,0 +1,6 @@
+pub mod Count
+pub mod Files
+pub mod Child
+pub mod Stream
+pub mod Held
+pub mod Scripted

@@ -1,0 +1,51 @@
+-- What scripted children say.
+use Rattle.std.specs.Prelude.{◌≡◌, ℕ, ◌+◌, ◌<◌, ◌≤◌, List, [], ◌∷◌, length, take, drop, map, flat_map, string_bytes, bytes_eq, if◌then◌else◌, Option, None, Some, option_map, slice_get, Contains, IfSome}
+use mathlib.Core.Path.{sym}
+use Rattle.std.proofs.lemmas.List.{take-append-drop}
+use Rattle.apt_outside.specs.Child.{Says, Try, Child, Known, IsSound}
+use Rattle.apt_outside.specs.declared.script.Script.{Script}
+use Rattle.apt_outside.specs.declared.script.Call.{Call}
+use Rattle.apt_outside.specs.declared.script.Started.{Started}
+
+-- the first script of a name
+abbrev pub script_of : List Script → List ℕ → Option Script
+script_of [] name = None
+script_of (s ∷ ss) name = if bytes_eq (string_bytes s.name) name then Some s else script_of ss name
+
+-- its first n answers, joined
+abbrev pub answers_of : Option Script → ℕ → List ℕ
+answers_of None n = []
+answers_of (Some s) n = flat_map (λ a. a.items) (take n s.answers.items)
+
+-- one answer waits before the first frame, and one more after each
+abbrev pub script_says : List Script → Says
+script_says scripts name command frames = answers_of (script_of scripts name) (length frames + 1)
+
+abbrev pub shown_call : Call → Try
+shown_call call = (string_bytes call.name, map string_bytes call.command.items)
+
+abbrev pub frames_of : Started → List (List ℕ)
+frames_of s = map (λ f. f.items) s.sent.items
+
+-- all that a child has said
+abbrev pub said_of : List Script → Started → List ℕ
+said_of scripts s = script_says scripts (shown_call s.call).0 (shown_call s.call).1 (frames_of s)
+
+abbrev pub child_of : List Script → Started → Child
+child_of scripts s = record { name = (shown_call s.call).0; command = (shown_call s.call).1; sent = frames_of s; waiting = drop s.taken (said_of scripts s) }
+
+abbrev pub known_of : List Script → List Started → Known
+known_of scripts started k = option_map (child_of scripts) (slice_get started k)
+
+-- no child took more than it said
+abbrev pub TakesSaid : List Script → List Started → Type 0
+TakesSaid scripts started = (k : ℕ) (s : Started) → slice_get started k ≡ Some s → s.taken ≤ length (said_of scripts s)
+
+-- the children that live were started
+abbrev pub LiveStarted : List ℕ → List Started → Type 0
+LiveStarted live started = (k : ℕ) → Contains live k → k < length started
+
+-- what waits is the end of what was said
+pub sound_known : (scripts : List Script) (o : Option Started) → IfSome (option_map (child_of scripts) o) (IsSound (script_says scripts))
+sound_known scripts None = tt
+sound_known scripts (Some s) = (take s.taken (said_of scripts s), sym (take-append-drop s.taken (said_of scripts s)))
