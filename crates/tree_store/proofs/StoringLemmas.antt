@@ -1,0 +1,76 @@
+-- Files that go into the store one after the other.
+use Rattle.std.proofs.Common.{◌≡◌, ◌≢◌, ℕ, ◌+◌, ◌<◌, ◌≤◌, ◌^◌, true, List, [], ◌∷◌, ◌++◌, length, get_or, take, drop, map, All, Contains, Option, Some, None, refl, sym, ap, subst, ◌∙◌, arith, inl, inr}
+use Rattle.std.specs.Str.{bytes_eq}
+use Rattle.std.specs.FinMap as fin
+use Rattle.std.proofs.lemmas.List.{take_more, take-append-drop, length-take, length-map, get_or-map, get_or-take, map-append}
+use Rattle.std.proofs.lemmas.List.Elements.{All-push, All-more, Contains-get_or, Contains-append_left, Contains-push}
+use Rattle.std.proofs.lemmas.Slice.Eq.{bytes_eq-Decides}
+use Rattle.apt_outside.specs.Files.{Files, file_at, ChangesOnly}
+use Rattle.apt_outside.proofs.HeldLemmas.{file_at-insert}
+use Rattle.tree_store.specs.Output.{store_path}
+use Rattle.tree_store.specs.Storing.{Numbered, paths_of, AreDistinct, AreAbsent, AreWritten, ChangesAmong}
+use Rattle.tree_store.proofs.StorePaths.{store_path_injective}
+
+abbrev Stored : Type 0
+Stored = ℕ × List ℕ
+
+-- a file that was written has its bytes
+pub file_at-written : (old new : Files) (path bytes : List ℕ) → new ≡ fin.insert old path bytes → file_at new path ≡ Some bytes
+file_at-written old new path bytes is =
+    let same : bytes_eq path path ≡ true = (bytes_eq-Decides path path).1 refl in
+    rw (is, file_at-insert old path bytes path, same) refl
+
+abbrev path_of : Stored → List ℕ
+path_of file = store_path file.0
+
+-- one file, of which those before it are known
+module _ (files : Numbered) (i : ℕ) (file : Stored) (below : i < length files) (is : file ≡ get_or files i file) where
+  next_front : take (i + 1) files ≡ take i files ++ file ∷ []
+  next_front = take_more files i file below ∙ ap (λ (f : Stored). take i files ++ f ∷ []) (sym is)
+
+  -- its path is none of those before
+  pub path_not_before : file.0 < 2 ^ 32 → All (λ f. f.0 < 2 ^ 32) (take i files) → AreDistinct files → ¬ Contains (paths_of (take i files)) (store_path file.0)
+  path_not_before small fits distinct has =
+      let front = take i files in
+      let inside : has.0 < length front = omega (arith, length-map front path_of, has.1) in
+      let before : has.0 < i = omega (arith, length-take i files, inside) in
+      let at = get_or-map path_of front has.0 file (store_path file.0) inside in
+      let number : (get_or front has.0 file).0 ≡ file.0 = store_path_injective _ _ (omega (arith, fits has.0 file inside)) (omega arith) (sym at ∙ has.2) in
+      distinct has.0 i file before below (ap (λ (f : Stored). f.0) (sym (get_or-take i files has.0 file before)) ∙ number ∙ ap (λ (f : Stored). f.0) is)
+
+  -- no file stands at its path
+  pub absent_still : (tree mid : Files) → file.0 < 2 ^ 32 → All (λ f. f.0 < 2 ^ 32) (take i files) → AreDistinct files → AreAbsent tree files → ChangesAmong (paths_of (take i files)) tree mid → file_at mid (store_path file.0) ≡ None
+  absent_still tree mid small fits distinct absent among =
+      let at : get_or (paths_of files) i (store_path file.0) ≡ store_path file.0 = get_or-map path_of files i file (store_path file.0) below ∙ ap path_of (sym is) in
+      among.others (store_path file.0) (path_not_before small fits distinct)
+      ∙ subst (λ (path : List ℕ). file_at tree path ≡ None) at (absent i (store_path file.0) (omega (arith, length-map files path_of, below)))
+
+  -- it is changed beside those before
+  pub only_more : (old mid new : Files) → ChangesAmong (paths_of (take i files)) old mid → ChangesOnly (store_path file.0) mid new → ChangesAmong (paths_of (take (i + 1) files)) old new
+  only_more old mid new among only =
+      let front = paths_of (take i files) in
+      let paths : paths_of (take (i + 1) files) ≡ front ++ store_path file.0 ∷ [] = ap paths_of next_front ∙ map-append path_of (take i files) (file ∷ []) in
+      record {
+        others = λ q other.
+            let not_it : q ≢ store_path file.0 = λ e. other (subst (λ (ps : List (List ℕ)). Contains ps q) (sym paths) (subst (Contains (front ++ store_path file.0 ∷ [])) (sym e) (Contains-push front (store_path file.0)))) in
+            let not_before : ¬ Contains front q = λ has. other (subst (λ (ps : List (List ℕ)). Contains ps q) (sym paths) (Contains-append_left front (store_path file.0 ∷ []) q has)) in
+            only.others q not_it ∙ among.others q not_before;
+      }
+
+  -- it stands beside those before
+  pub written_more : (mid new : Files) → ¬ Contains (paths_of (take i files)) (store_path file.0) → AreWritten mid (take i files) → ChangesOnly (store_path file.0) mid new → file_at new (store_path file.0) ≡ Some file.1 → AreWritten new (take (i + 1) files)
+  written_more mid new other written only stands =
+      let front = take i files in
+      let before : AreWritten new front = λ k d lt.
+          let found : Contains (paths_of front) (store_path (get_or front k d).0) =
+              subst (Contains (paths_of front)) (get_or-map path_of front k d (path_of d) lt) (Contains-get_or (paths_of front) k (path_of d) (omega (arith, length-map front path_of, lt))) in
+          only.others _ (λ e. other (subst (Contains (paths_of front)) e found)) ∙ written k d lt in
+      subst (AreWritten new) (sym next_front) (All-push (λ f. file_at new (store_path f.0) ≡ Some f.1) front file before stands)
+
+-- what is changed among the first is changed among all
+pub only_all : (files : Numbered) (i : ℕ) (old new : Files) → ChangesAmong (paths_of (take i files)) old new → ChangesAmong (paths_of files) old new
+only_all files i old new among =
+    let paths : paths_of files ≡ paths_of (take i files) ++ paths_of (drop i files) = ap paths_of (sym (take-append-drop i files)) ∙ map-append path_of (take i files) (drop i files) in
+    record {
+      others = λ q other. among.others q (λ has. other (subst (λ (ps : List (List ℕ)). Contains ps q) (sym paths) (Contains-append_left (paths_of (take i files)) (paths_of (drop i files)) q has)));
+    }

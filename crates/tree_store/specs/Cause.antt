@@ -1,0 +1,17 @@
+-- Why a call of the store was refused.
+use Rattle.std.specs.Prelude.{ℕ, ◌≤◌, Result, IsErrOf}
+use Rattle.apt_outside.specs.Count.{Rose}
+use Rattle.apt_outside.specs.declared.fault.Fault.{Fault}
+use Rattle.apt_outside.specs.declared.fault.Fault.TheVariants as outside
+use Rattle.tree_store.specs.declared.fault.StoreFault.{StoreFault}
+use Rattle.tree_store.specs.declared.fault.StoreFault.TheVariants.{Failed, Memory}
+
+-- the tree's fault as the store's
+abbrev pub as_store_fault : Fault → StoreFault
+as_store_fault outside.Failed = Failed
+as_store_fault outside.Memory = Memory
+
+-- the tree's count never falls, and `Failed` is answered only where it rose
+pub record HasStoreCause {T : Type 0} (before now : ℕ) (result : Result T StoreFault) : Type 0 where
+  pub later : before ≤ now
+  pub failed : IsErrOf result Failed → Rose before now

@@ -1,0 +1,5 @@
+pub mod Cause
+pub mod Sources
+pub mod RecordFormat
+pub mod Output
+pub mod Storing

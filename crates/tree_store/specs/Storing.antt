@@ -1,0 +1,52 @@
+-- What is put into the store, and what is published.
+use Rattle.std.specs.Prelude.{◌≡◌, ◌≢◌, ℕ, List, length, map, codes, Option, None, Some, Contains, All, AllPairs, IsSome}
+use Rattle.std.specs.List.{AllZip}
+use Rattle.std.specs.FinMap as fin
+use Rattle.apt_outside.specs.Files.{Files, file_at}
+use Rattle.tree_store.specs.declared.record.StoredFile.{StoredFile}
+use Rattle.tree_store.specs.Output.{store_path, named_paths, output_of, StoresStand, ChangesBelow}
+
+-- the bytes of store files, by their numbers
+abbrev pub Numbered : Type 0
+Numbered = List (ℕ × List ℕ)
+
+-- where they stand
+abbrev pub paths_of : Numbered → List (List ℕ)
+paths_of files = map (λ file. store_path file.0) files
+
+-- no two have one number
+abbrev pub AreDistinct : Numbered → Type 0
+AreDistinct files = AllPairs (λ a b. a.0 ≢ b.0) files
+
+-- no file stands at their paths
+abbrev pub AreAbsent : Files → Numbered → Type 0
+AreAbsent tree files = All (λ path. file_at tree path ≡ None) (paths_of files)
+
+-- the record names none of them
+abbrev pub AreUnnamed : Files → Numbered → Type 0
+AreUnnamed tree files = All (λ path. ¬ Contains (named_paths tree) path) (paths_of files)
+
+-- each stands with its bytes
+abbrev pub AreWritten : Files → Numbered → Type 0
+AreWritten tree files = All (λ file. file_at tree (store_path file.0) ≡ Some file.1) files
+
+-- each file at none of the paths is as it was
+pub record ChangesAmong (paths : List (List ℕ)) (old new : Files) : Type 0 where
+  pub others : (q : List ℕ) → ¬ Contains paths q → file_at new q ≡ file_at old q
+
+-- the store gained files, and nothing else changed: each file that stood is as it was, and so is the published output
+pub record AddsToStore (old new : Files) : Type 0 where
+  pub kept : (q : List ℕ) → IsSome (file_at old q) → file_at new q ≡ file_at old q
+  pub inside : ChangesBelow (codes "out/store") old new
+  pub output : output_of new ≡ output_of old
+  pub stand : StoresStand old → StoresStand new
+
+-- the entry has the path and the length of the file, and its store file stands with the file's bytes
+pub record IsEntryOf (tree : Files) (entry : StoredFile) (file : List ℕ × List ℕ) : Type 0 where
+  pub path : entry.path ≡ file.0
+  pub size : entry.length ≡ length file.1
+  pub bytes : file_at tree (store_path entry.store) ≡ Some file.1
+
+-- the entries are those of the files, in order
+abbrev pub Holds : Files → List StoredFile → Files → Type 0
+Holds tree entries files = AllZip (IsEntryOf tree) entries (fin.entries files)
