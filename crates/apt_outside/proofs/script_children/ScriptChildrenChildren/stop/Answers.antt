@@ -8,7 +8,11 @@ use Rattle.apt_outside.proofs.script_children.ScriptChildrenChildren.stop.Goals 
 pub invariant_of-self : goal.invariant_of-self
 invariant_of-self c =
     let left : c.retain.new.self.items ≡ without c.args.child c.args.self.now.live.items = filter_same _ (λ k. not (k == c.args.child)) _ (λ x b f' told. search rules) _ _ c.retain.ensures.filtered in
-    record { takes = c.args.self.now.takes; lives = subst (λ live. LiveStarted live c.args.self.now.started.items) (sym left) (lives_filter (λ k. not (k == c.args.child)) c.args.self.now.live.items c.args.self.now.started.items c.args.self.now.lives) }
+    record {
+      takes = c.args.self.now.takes;
+      joins = c.args.self.now.joins;
+      lives = subst (λ live. LiveStarted live c.args.self.now.started.items) (sym left) (lives_filter (λ k. not (k == c.args.child)) c.args.self.now.live.items c.args.self.now.started.items c.args.self.now.lives);
+    }
 
 pub returns-clause-live : goal.returns-clause-live
 returns-clause-live c = filter_same _ _ _ (λ x b f' told. search rules) _ _ c.retain.ensures.filtered
