@@ -1,11 +1,11 @@
 -- What leaves the published output of a tree as it is, and what makes it.
-use Rattle.std.proofs.Common.{◌≡◌, ◌≢◌, ℕ, ◌+◌, ◌<◌, ◌^◌, Bool, true, false, cond, ◌&&◌, T, eqb, List, [], ◌∷◌, ◌++◌, length, map, All, Contains, codes, Option, Some, None, IsSome, unwrap_or, option_and_then, refl, sym, ap, subst, ◌∙◌, arith, filter_map}
+use Rattle.std.proofs.Common.{◌≡◌, ◌≢◌, ℕ, ◌<◌, ◌^◌, Bool, true, false, cond, ◌&&◌, T, eqb, List, [], ◌∷◌, length, map, All, Contains, codes, Option, Some, None, IsSome, unwrap_or, option_and_then, refl, sym, ap, subst, ◌∙◌, arith, filter_map}
 use Rattle.std.specs.List.{AllZip, cons_option}
 use Rattle.std.specs.Str.{bytes_eq}
 use Rattle.std.specs.Ordering.{nat_cmp, is_lt}
 use Rattle.std.specs.Cmp.Lexicographic.{slice_cmp, nat_list_cmp_total}
 use Rattle.std.specs.FinMap as fin
-use Rattle.std.specs.FinMap.{is_sorted, get-from_entries, get-entries, entries_sorted, len-entries, len-empty}
+use Rattle.std.specs.FinMap.{is_sorted, get-from_entries, get-entries, entries_sorted, len-entries, len-empty, get-empty}
 use Rattle.std.specs.FinMap.Entries.{below_all}
 use Rattle.std.proofs.lemmas.Bool.{false_from_ne_true, true≢false, eq-eqb}
 use Rattle.std.proofs.lemmas.List.{nil_from_length}
@@ -14,8 +14,8 @@ use Rattle.std.proofs.lemmas.Slice.Eq.{bytes_eq-Decides}
 use Rattle.apt_outside.specs.Files.{Files, file_at, is_below}
 use Rattle.apt_outside.proofs.HeldLemmas.{file_at-insert, same_files}
 use Rattle.tree_store.specs.declared.record.StoredFile.{StoredFile}
-use Rattle.tree_store.specs.RecordFormat.{ascends, record_form, read_record, IsEntry, IsRecord}
-use Rattle.tree_store.specs.Output.{store_path, record_path, entries_of, stored, output_of, named_paths, StoresStand, ChangesBelow, SameOutside}
+use Rattle.tree_store.specs.RecordFormat.{ascends, record_form, read_record, IsEntry}
+use Rattle.tree_store.specs.Output.{store_path, record_path, entries_of, stored, output_of, named_paths, StoresStand, SameOutside}
 use Rattle.tree_store.specs.Storing.{Numbered, paths_of, AreAbsent, AreUnnamed, ChangesAmong, AddsToStore, IsEntryOf, Holds}
 use Rattle.tree_store.proofs.RecordLemmas.{read_record-record_form}
 use Rattle.tree_store.proofs.StorePaths.{store_path-ne-record_path, store_path-below-store}
@@ -55,7 +55,7 @@ adds_to_store old new files absent unnamed only =
     let not_record : ¬ Contains paths record_path = λ has. All-contains (λ path. path ≢ record_path) paths record_path (All-map (λ path. path ≢ record_path) (λ (f : ℕ × List ℕ). store_path f.0) files (λ k d lt. store_path-ne-record_path _)) has refl in
     let record_same : file_at new record_path ≡ file_at old record_path = only.others record_path not_record in
     let stores_same : All (λ path. file_at new path ≡ file_at old path) (named_paths old) =
-        λ k d lt. only.others _ (λ has. All-contains (λ path. ¬ Contains (named_paths old) path) paths _ unnamed has (Contains-get_or (named_paths old) k d lt)) in
+    λ k d lt. only.others _ (λ has. All-contains (λ path. ¬ Contains (named_paths old) path) paths _ unnamed has (Contains-get_or (named_paths old) k d lt)) in
     record {
       kept = λ q stands. only.others q (λ has. true≢false (sym (subst IsSome (All-contains (λ path. file_at old path ≡ None) paths q absent has) stands)));
       inside = record {
@@ -107,12 +107,14 @@ held_after : (tree : Files) (bytes : List ℕ) (entries : List StoredFile) (file
 held_after tree bytes [] [] held = tt
 held_after tree bytes [] (file ∷ files) held = absurd held
 held_after tree bytes (entry ∷ entries) [] held = absurd held
-held_after tree bytes (entry ∷ entries) (file ∷ files) held =
-    (record {
-      path = held.0.path;
-      size = held.0.size;
-      bytes = file_at-beside_record tree bytes (store_path entry.store) (store_path-ne-record_path entry.store) ∙ held.0.bytes;
-    }, held_after tree bytes entries files held.1)
+held_after tree bytes (entry ∷ entries) (file ∷ files) held = (
+  record {
+    path = held.0.path;
+    size = held.0.size;
+    bytes = file_at-beside_record tree bytes (store_path entry.store) (store_path-ne-record_path entry.store) ∙ held.0.bytes;
+  },
+  held_after tree bytes entries files held.1,
+)
 
 stand_held : (tree : Files) (entries : List StoredFile) (files : List (List ℕ × List ℕ)) → AllZip (IsEntryOf tree) entries files → All (λ path. IsSome (file_at tree path)) (map (λ entry. store_path entry.store) entries)
 stand_held tree [] [] held = λ k d lt. absurd (omega arith)
@@ -131,9 +133,10 @@ unfolding output_of
 output_of-committed tree bytes entries files reads held =
     let new = fin.insert tree record_path bytes in
     let named : entries_of new ≡ entries = entries_of-committed tree bytes entries reads in
-    let after : Holds new entries files = held_after tree bytes entries (fin.entries files) held in
-    (rw (named, stored_held new entries (fin.entries files) after) (from_entries-entries files),
-     subst (λ (es : List StoredFile). All (λ path. IsSome (file_at new path)) (map (λ entry. store_path entry.store) es)) (sym named) (stand_held new entries (fin.entries files) after))
+    let after : Holds new entries files = held_after tree bytes entries (fin.entries files) held in (
+      rw (named, stored_held new entries (fin.entries files) after) (from_entries-entries files),
+      subst (λ (es : List StoredFile). All (λ path. IsSome (file_at new path)) (map (λ entry. store_path entry.store) es)) (sym named) (stand_held new entries (fin.entries files) after),
+    )
 
 below_all_held : (tree : Files) (path : List ℕ) (entries : List StoredFile) (files : List (List ℕ × List ℕ)) → AllZip (IsEntryOf tree) entries files → below_all (slice_cmp nat_cmp) path (map {B = List ℕ × ℕ} (λ e. (e.path, e.store)) entries) ≡ below_all (slice_cmp nat_cmp) path files
 below_all_held tree path [] [] held = refl
@@ -166,3 +169,23 @@ output_of-record_form tree entries files count are held =
 -- no entries hold no files
 pub Holds-none : (tree : Files) → Holds tree [] fin.empty
 Holds-none tree = subst (λ (files : List (List ℕ × List ℕ)). AllZip (IsEntryOf tree) [] files) (sym (nil_from_length (fin.entries fin.empty) (sym (len-entries {R = slice_cmp nat_cmp} fin.empty) ∙ len-empty (slice_cmp nat_cmp) (List ℕ)))) tt
+
+-- an empty tree has no files and names none
+pub absent_of_empty : (tree : Files) (files : Numbered) → tree ≡ fin.empty → AreAbsent tree files
+absent_of_empty tree files is = λ k d lt. rw is (get-empty (slice_cmp nat_cmp) _)
+
+named_paths-empty : (tree : Files) → tree ≡ fin.empty → named_paths tree ≡ []
+unfolding entries_of
+named_paths-empty tree is = rw (is, get-empty {X = List ℕ} (slice_cmp nat_cmp) record_path) refl
+
+pub unnamed_of_empty : (tree : Files) (files : Numbered) → tree ≡ fin.empty → AreUnnamed tree files
+unnamed_of_empty tree files is = λ k d lt has.
+    let none : has.0 < length (named_paths tree) = has.1 in
+    omega (arith, ap length (named_paths-empty tree is))
+
+pub StoresStand-empty : StoresStand fin.empty
+StoresStand-empty = λ k d lt. absurd (omega (arith, ap length (named_paths-empty fin.empty refl)))
+
+pub output_of-empty : output_of fin.empty ≡ fin.empty
+unfolding output_of entries_of
+output_of-empty = rw (get-empty {X = List ℕ} (slice_cmp nat_cmp) record_path) refl

@@ -1,14 +1,14 @@
 -- What is spelled as a record is read again, and what is read is spelled so.
-use Rattle.std.proofs.Common.{◌≡◌, ℕ, zero, suc, ◌+◌, ◌^◌, ◌<◌, Bool, true, false, cond, ◌&&◌, ◌==◌, T, eqb, List, [], ◌∷◌, ◌++◌, length, map, All, Option, Some, None, refl, sym, ap, subst, ◌∙◌, append_assoc, append-nil, arith}
+use Rattle.std.proofs.Common.{◌≡◌, ℕ, zero, suc, Bool, true, false, cond, ◌&&◌, eqb, List, [], ◌∷◌, ◌++◌, length, All, Option, Some, None, refl, sym, ap, subst, ◌∙◌, append_assoc, append-nil, arith}
 use Rattle.std.specs.List.{flat_map, AllByRecursion}
-use Rattle.std.specs.Int.{w16, w32, to_be_bytes}
+use Rattle.std.specs.Int.{w32, to_be_bytes}
 use Rattle.std.specs.Str.{bytes_eq}
 use Rattle.std.proofs.lemmas.Bool.{eqb-true}
 use Rattle.std.proofs.lemmas.List.{nil_from_length}
 use Rattle.std.proofs.lemmas.List.Concat.{flat_map-cons}
 use Rattle.std.proofs.lemmas.List.Elements.{All-from_recursion, All-head, All-tail}
 use Rattle.std.proofs.lemmas.Slice.Eq.{bytes_eq-Decides}
-use Rattle.decl_syntax.specs.Fields.{◌>>=◌, text_form, front_next, u32_next, text_next, is_text}
+use Rattle.decl_syntax.specs.Fields.{◌>>=◌, text_form, front_next, u32_next, text_next}
 use Rattle.decl_syntax.proofs.Fields.{IsBytes, IsBytes-rest, bind_some, some_is, front_next-again, front_next-takes, u32_next-again, u32_next-spelled, text_next-again, text_next-spelled}
 use Rattle.tree_store.specs.declared.record.StoredFile.{StoredFile}
 use Rattle.tree_store.specs.RecordFormat.{record_head, entry_form, record_form, entry_next, entries_next, ascends, read_record, IsEntry, IsRecord}
@@ -73,7 +73,7 @@ entry_takes bytes x fits e =
     let whole = then_takes bytes (text_form p.0.0 ++ to_be_bytes w32 s.0.0) s.0.1 (to_be_bytes w32 l.0.0) l.0.1 both third in
     let made : StoredFile × List ℕ = (record { path = p.0.0; store = s.0.0; length = l.0.0 }, l.0.1) in
     subst (λ (y : StoredFile × List ℕ). Takes bytes (entry_form y.0) y.1 × IsEntry y.0) (some_is made x l.2)
-        (whole, record { path = path.1; store = store.1; size = size.1; text = path.2 })
+    (whole, record { path = path.1; store = store.1; size = size.1; text = path.2 })
 
 entries_take : (count : ℕ) (bytes : List ℕ) (x : List StoredFile × List ℕ) → IsBytes bytes → entries_next count bytes ≡ Some x → Takes bytes (flat_map entry_form x.0) x.1 × (length x.0 ≡ count) × AllByRecursion IsEntry x.0
 unfolding entries_next
@@ -100,6 +100,9 @@ joined bytes head entries rest m n parts ended named same =
     let all : (head ++ to_be_bytes w32 m ++ entries) ++ rest ≡ head ++ to_be_bytes w32 m ++ entries = ap (λ (t : List ℕ). (head ++ to_be_bytes w32 m ++ entries) ++ t) ended ∙ append-nil (head ++ to_be_bytes w32 m ++ entries) in
     parts ∙ all ∙ (λ i. named i ++ to_be_bytes w32 (same i) ++ entries)
 
+as_read : (bytes : List ℕ) (read files : List StoredFile) → read ≡ files → bytes ≡ record_form read → IsRecord read → (bytes ≡ record_form files) × IsRecord files
+as_read bytes read files same spelled is = subst (λ (fs : List StoredFile). (bytes ≡ record_form fs) × IsRecord fs) same (spelled, is)
+
 -- what is read is spelled so
 pub read_record-spelled : (bytes : List ℕ) (files : List StoredFile) → IsBytes bytes → read_record bytes ≡ Some files → (bytes ≡ record_form files) × IsRecord files
 unfolding record_form read_record
@@ -118,5 +121,4 @@ read_record-spelled bytes files fits e =
     let named : h.0.0 ≡ record_head = (bytes_eq-Decides h.0.0 record_head).0 k.0 in
     let same : n.0.0 ≡ length r.0.0 = sym list.1 in
     let whole : bytes ≡ record_form r.0.0 = joined bytes h.0.0 (flat_map entry_form r.0.0) r.0.1 n.0.0 (length r.0.0) three.parts ended named same in
-    subst (λ (fs : List StoredFile). (bytes ≡ record_form fs) × IsRecord fs) k.3
-        (whole, record { count = omega (arith, list.1, number.1); entries = All-from_recursion IsEntry r.0.0 list.2; ascending = k.2 })
+    as_read bytes r.0.0 files k.3 whole (record { count = omega (arith, list.1, number.1); entries = All-from_recursion IsEntry r.0.0 list.2; ascending = k.2 })

@@ -1,5 +1,5 @@
 -- Where store files and the record stand, and which path is that of a number.
-use Rattle.std.proofs.Common.{◌≡◌, ◌≢◌, ℕ, suc, zero, ◌+◌, ◌^◌, ◌<◌, ◌≤◌, true, false, List, [], ◌∷◌, ◌++◌, length, get_or, drop, codes, refl, sym, ap, ◌∙◌, subst, arith, Result, Ok, Err, Option, None, Some, MatchOption, T, eqb}
+use Rattle.std.proofs.Common.{◌≡◌, ◌≢◌, ℕ, suc, zero, ◌^◌, ◌<◌, ◌≤◌, true, List, ◌++◌, length, get_or, drop, codes, refl, sym, ap, ◌∙◌, subst, arith, Result, Ok, Err, Option, None, Some, MatchOption, T, eqb}
 use Rattle.std.specs.Fmt.{decimal}
 use Rattle.std.specs.Str.Parse.{ParsesUnsigned, AllDigits, digits_value}
 use Rattle.std.proofs.lemmas.Fmt.{decimal_injective, decimal_digit, first_decimal, parse-decimal, decimal-digits_value}

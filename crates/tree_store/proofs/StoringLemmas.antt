@@ -1,9 +1,9 @@
 -- Files that go into the store one after the other.
-use Rattle.std.proofs.Common.{◌≡◌, ◌≢◌, ℕ, ◌+◌, ◌<◌, ◌≤◌, ◌^◌, true, List, [], ◌∷◌, ◌++◌, length, get_or, take, drop, map, All, Contains, Option, Some, None, refl, sym, ap, subst, ◌∙◌, arith, inl, inr}
+use Rattle.std.proofs.Common.{◌≡◌, ◌≢◌, ℕ, ◌+◌, ◌<◌, ◌^◌, true, List, [], ◌∷◌, ◌++◌, length, get_or, take, drop, All, Contains, Some, None, refl, sym, ap, subst, ◌∙◌, arith}
 use Rattle.std.specs.Str.{bytes_eq}
 use Rattle.std.specs.FinMap as fin
 use Rattle.std.proofs.lemmas.List.{take_more, take-append-drop, length-take, length-map, get_or-map, get_or-take, map-append}
-use Rattle.std.proofs.lemmas.List.Elements.{All-push, All-more, Contains-get_or, Contains-append_left, Contains-push}
+use Rattle.std.proofs.lemmas.List.Elements.{All-push, Contains-get_or, Contains-append_left, Contains-push}
 use Rattle.std.proofs.lemmas.Slice.Eq.{bytes_eq-Decides}
 use Rattle.apt_outside.specs.Files.{Files, file_at, ChangesOnly}
 use Rattle.apt_outside.proofs.HeldLemmas.{file_at-insert}
@@ -62,9 +62,9 @@ module _ (files : Numbered) (i : ℕ) (file : Stored) (below : i < length files)
   written_more mid new other written only stands =
       let front = take i files in
       let before : AreWritten new front = λ k d lt.
-          let found : Contains (paths_of front) (store_path (get_or front k d).0) =
-              subst (Contains (paths_of front)) (get_or-map path_of front k d (path_of d) lt) (Contains-get_or (paths_of front) k (path_of d) (omega (arith, length-map front path_of, lt))) in
-          only.others _ (λ e. other (subst (Contains (paths_of front)) e found)) ∙ written k d lt in
+      let found : Contains (paths_of front) (store_path (get_or front k d).0) =
+      subst (Contains (paths_of front)) (get_or-map path_of front k d (path_of d) lt) (Contains-get_or (paths_of front) k (path_of d) (omega (arith, length-map front path_of, lt))) in
+      only.others _ (λ e. other (subst (Contains (paths_of front)) e found)) ∙ written k d lt in
       subst (AreWritten new) (sym next_front) (All-push (λ f. file_at new (store_path f.0) ≡ Some f.1) front file before stands)
 
 -- what is changed among the first is changed among all

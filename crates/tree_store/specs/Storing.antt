@@ -1,5 +1,5 @@
 -- What is put into the store, and what is published.
-use Rattle.std.specs.Prelude.{◌≡◌, ◌≢◌, ℕ, List, length, map, codes, Option, None, Some, Contains, All, AllPairs, IsSome}
+use Rattle.std.specs.Prelude.{◌≡◌, ◌≢◌, ℕ, List, length, map, codes, None, Some, Contains, All, AllPairs, IsSome}
 use Rattle.std.specs.List.{AllZip}
 use Rattle.std.specs.FinMap as fin
 use Rattle.apt_outside.specs.Files.{Files, file_at}

@@ -19,7 +19,12 @@ pub struct RawSource {
 }
 
 /// Reads the file of a path that ends in `.java`, and none of another path.
-fn read_source<T: Tree>(alloc: Global, tree: &mut T, path: &str, limit: usize) -> Result<Option<RawSource>, StoreFault>
+fn read_source<T: Tree>(
+    alloc: Global,
+    tree: &mut T,
+    path: &str,
+    limit: usize,
+) -> Result<Option<RawSource>, StoreFault>
     ensures cause { HasStoreCause (T.faults tree.old) (T.faults tree.new) result }
     ensures same { Told T.tells (T.files tree.new ≡ T.files tree.old) }
     ensures source { Told T.tells (IfOk result (λ source. source ≡ source_at limit (T.files tree.old) path.now)) }
@@ -40,7 +45,11 @@ fn read_source<T: Tree>(alloc: Global, tree: &mut T, path: &str, limit: usize) -
 /// past the limit shows as such.
 ///
 /// The tree stays as it is. `Failed` comes only where the tree's count rose.
-pub fn read_sources<T: Tree>(alloc: Global, tree: &mut T, limit: usize) -> Result<List<RawSource>, StoreFault>
+pub fn read_sources<T: Tree>(
+    alloc: Global,
+    tree: &mut T,
+    limit: usize,
+) -> Result<List<RawSource>, StoreFault>
     ensures cause { HasStoreCause (T.faults tree.old) (T.faults tree.new) result }
     ensures same { Told T.tells (T.files tree.new ≡ T.files tree.old) }
     ensures sources { Told T.tells (IfOk result (λ sources. sources ≡ sources_of limit (T.files tree.old))) }

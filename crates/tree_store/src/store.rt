@@ -73,7 +73,12 @@ fn store_path(alloc: Global, number: u32) -> Result<String, StoreFault>
     Ok(format!(in alloc; "out/store/{number}")?)
 }
 
-fn put_file<T: Tree>(alloc: Global, tree: &mut T, number: u32, bytes: &List<u8>) -> Result<(), StoreFault>
+fn put_file<T: Tree>(
+    alloc: Global,
+    tree: &mut T,
+    number: u32,
+    bytes: &List<u8>,
+) -> Result<(), StoreFault>
     requires { Told T.tells (file_at (T.files tree.old) (store_path number) ≡ None) }
     ensures cause { HasStoreCause (T.faults tree.old) (T.faults tree.new) result }
     ensures written { Told T.tells (OnOk result (file_at (T.files tree.new) (store_path number) ≡ Some bytes.now)) }
@@ -88,7 +93,11 @@ fn put_file<T: Tree>(alloc: Global, tree: &mut T, number: u32, bytes: &List<u8>)
 ///
 /// Whatever it answers, the published output is as it was, and so is each file that stood. `Failed` comes only where
 /// the tree's count rose.
-pub fn put_files<T: Tree>(alloc: Global, tree: &mut T, files: &List<(u32, List<u8>)>) -> Result<(), StoreFault>
+pub fn put_files<T: Tree>(
+    alloc: Global,
+    tree: &mut T,
+    files: &List<(u32, List<u8>)>,
+) -> Result<(), StoreFault>
     requires distinct { AreDistinct files.now }
     requires absent { Told T.tells (AreAbsent (T.files tree.old) files.now) }
     requires unnamed { Told T.tells (AreUnnamed (T.files tree.old) files.now) }

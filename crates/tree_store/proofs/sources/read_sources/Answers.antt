@@ -1,4 +1,4 @@
-use Rattle.std.proofs.Common.{◌≡◌, None, Some, string_bytes, sym, ap, ◌∙◌, arith}
+use Rattle.std.proofs.Common.{◌≡◌, string_bytes, sym, ◌∙◌, arith}
 use Rattle.tree_store.specs.Sources.{source_at}
 use Rattle.tree_store.proofs.Reading.{source_more, none_more}
 use Rattle.tree_store.proofs.sources.read_sources.Goals as goal

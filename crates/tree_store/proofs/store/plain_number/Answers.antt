@@ -1,4 +1,4 @@
-use Rattle.std.proofs.Common.{true, sym, ◌∙◌, refl}
+use Rattle.std.proofs.Common.{sym, ◌∙◌}
 use Rattle.std.proofs.lemmas.Bool.{true≢false}
 use Rattle.tree_store.proofs.StorePaths.{decimal_read, decimal_unread, decimal_not_plain}
 use Rattle.tree_store.proofs.store.plain_number.Goals as goal

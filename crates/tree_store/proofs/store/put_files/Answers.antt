@@ -1,6 +1,6 @@
-use Rattle.std.proofs.Common.{◌+◌, ◌<◌, ◌^◌, All, take, sym, subst, arith}
+use Rattle.std.proofs.Common.{◌+◌, ◌<◌, ◌^◌, arith}
 use Rattle.std.proofs.lemmas.List.Elements.{All-more}
-use Rattle.tree_store.specs.Storing.{Numbered, AreDistinct, AreAbsent}
+use Rattle.tree_store.specs.Storing.{AreDistinct, AreAbsent}
 use Rattle.tree_store.proofs.OutputLemmas.{adds_to_store}
 use Rattle.tree_store.proofs.StoringLemmas.{path_not_before, absent_still, only_more, written_more, only_all}
 use Rattle.tree_store.proofs.store.put_files.Goals as goal
@@ -12,7 +12,7 @@ put_file-requires g c = λ told.
     let distinct : AreDistinct items = rw c.as_slice-number-items.ensures c.requires.distinct in
     let absent : AreAbsent (T.files c.args.tree.now) items = rw c.as_slice-number-items.ensures (c.requires.absent told) in
     absent_still items c.loop-number.number-index c.loop-number-item.result c.loop-number-test.true c.loop-number-item.is
-        (T.files c.args.tree.now) (T.files c.loop-number.tree) (omega arith) c.loop-number.invariant.small distinct absent (c.loop-number.invariant.only told)
+    (T.files c.args.tree.now) (T.files c.loop-number.tree) (omega arith) c.loop-number.invariant.small distinct absent (c.loop-number.invariant.only told)
 
 pub loop-number-preserved : goal.loop-number-preserved
 loop-number-preserved g c =
@@ -36,7 +36,7 @@ returns-in_err-put_file-clause-only g c = λ told.
     let items = c.as_slice-number-items.result.now in
     let i = c.loop-number.number-index in
     rw c.as_slice-number-items.ensures at
-        (only_all items (i + 1) _ _ (only_more items i c.loop-number-item.result c.loop-number-test.true c.loop-number-item.is (T.files c.args.tree.now) (T.files c.loop-number.tree) (T.files c.put_file.new.tree) (c.loop-number.invariant.only told) (c.in_err-put_file.ensures.only told)))
+    (only_all items (i + 1) _ _ (only_more items i c.loop-number-item.result c.loop-number-test.true c.loop-number-item.is (T.files c.args.tree.now) (T.files c.loop-number.tree) (T.files c.put_file.new.tree) (c.loop-number.invariant.only told) (c.in_err-put_file.ensures.only told)))
 
 pub returns-in_err-put_file-clause-adds : goal.returns-in_err-put_file-clause-adds
 returns-in_err-put_file-clause-adds g c = λ told.
@@ -46,4 +46,4 @@ pub returns-clause-adds : goal.returns-clause-adds
 returns-clause-adds g c = λ told.
     let items = c.as_slice-number-items.result.now in
     adds_to_store _ _ c.args.files.now (c.requires.absent told) (c.requires.unnamed told)
-        (rw c.as_slice-number-items.ensures at (only_all items c.loop-number.number-index _ _ (c.loop-number.invariant.only told)))
+    (rw c.as_slice-number-items.ensures at (only_all items c.loop-number.number-index _ _ (c.loop-number.invariant.only told)))

@@ -1,4 +1,4 @@
-use Rattle.std.proofs.Common.{◌∙◌, ◌++◌, codes, ap, sym, drop}
+use Rattle.std.proofs.Common.{◌∙◌, ◌++◌, codes, ap, sym}
 use Rattle.tree_store.proofs.StorePaths.{number_behind, store_path-elsewhere}
 use Rattle.tree_store.proofs.store.store_number.Goals as goal
 

@@ -18,12 +18,12 @@ loop-path-preserved g c =
     let path = string_bytes c.path-item.result in
     let are : AreNumbersOf c.match-store_number.numbers.items (front ++ path ∷ []) = elim c.match-store_number.branch [
       | in-Some+in_ok-push w ↦
-        let pushed : c.match-store_number.numbers.items ≡ c.loop-path.numbers.items ++ w.in-Some.number ∷ [] = rw w.numbers-is w.in_ok-push.ensures.items in
-        subst (λ (ns : List ℕ). AreNumbersOf ns (front ++ path ∷ [])) (sym pushed) (number_more c.loop-path.numbers.items front w.in-Some.number path (omega arith) (w.in-Some.ensures ∙ c.as_str.ensures.value) c.loop-path.invariant)
+          let pushed : c.match-store_number.numbers.items ≡ c.loop-path.numbers.items ++ w.in-Some.number ∷ [] = rw w.numbers-is w.in_ok-push.ensures.items in
+          subst (λ (ns : List ℕ). AreNumbersOf ns (front ++ path ∷ [])) (sym pushed) (number_more c.loop-path.numbers.items front w.in-Some.number path (omega arith) (w.in-Some.ensures ∙ c.as_str.ensures.value) c.loop-path.invariant)
       | in_default w ↦
-        let same : c.match-store_number.numbers.items ≡ c.loop-path.numbers.items = ap (λ v. v.items) w.numbers-is in
-        let none = rw (w.in_default.is, c.as_str.ensures.value) at c.store_number.ensures in
-        subst (λ (ns : List ℕ). AreNumbersOf ns (front ++ path ∷ [])) (sym same) (number_none c.loop-path.numbers.items front path none c.loop-path.invariant)
+          let same : c.match-store_number.numbers.items ≡ c.loop-path.numbers.items = ap (λ v. v.items) w.numbers-is in
+          let none = rw (w.in_default.is, c.as_str.ensures.value) at c.store_number.ensures in
+          subst (λ (ns : List ℕ). AreNumbersOf ns (front ++ path ∷ [])) (sym same) (number_none c.loop-path.numbers.items front path none c.loop-path.invariant)
     ] in
     subst (AreNumbersOf c.match-store_number.numbers.items) (sym (paths_more items i c.path-item.result c.loop-path-test.true c.path-item.is)) are
 

@@ -1,4 +1,4 @@
-use Rattle.std.proofs.Common.{◌≤◌, take, map, string_bytes}
+use Rattle.std.proofs.Common.{take, map, string_bytes}
 use Rattle.tree_store.proofs.Numbers.{AreNumbersOf}
 use Rattle.tree_store.proofs.store.taken_numbers.Given as goal
 
