@@ -8,7 +8,7 @@ use Rattle.std.proofs.lemmas.List.Elements.{Contains-push_cases}
 use Rattle.std.proofs.lemmas.Grind.{flat_map-append}
 use Rattle.std.proofs.lemmas.Bool.Decides.{eqb_tells}
 use Rattle.std.proofs.lemmas.Option.{slice_get_read, slice_get_within}
-use Rattle.apt_outside.specs.Child.{Try, Child, Changes, OthersKept, written_by, Sends, Receives}
+use Rattle.apt_outside.specs.Child.{Known, StaysSent, Try, Child, Changes, OthersKept, written_by, Sends, Receives}
 use Rattle.apt_outside.specs.declared.script.Script.{Script}
 use Rattle.apt_outside.specs.declared.script.Started.{Started}
 use Rattle.apt_outside.specs.Scripted.{script_of, answers_of, script_says, shown_call, frames_of, said_of, child_of, known_of, TakesSaid, LiveStarted}
@@ -188,3 +188,11 @@ fresh_child scripts s call is none zero_taken =
     let by_sent : List (Vec ℕ Global) → Child = λ fs. record { name = call.0; command = call.1; sent = map (λ f. f.items) fs; waiting = drop s.taken (script_says scripts call.0 call.1 (map (λ f. f.items) fs)) } in
     let by_taken : ℕ → Child = λ n. record { name = call.0; command = call.1; sent = []; waiting = drop n (script_says scripts call.0 call.1 []) } in
     ap by_call is ∙ ap by_sent none ∙ ap by_taken zero_taken
+
+itself : (o : Option Child) → IfSome o (λ before. IsSomeAnd o (λ after. after.sent ≡ before.sent))
+itself None = tt
+itself (Some c) = refl
+
+-- a child that doesn't change
+pub stays_sent : (child : ℕ) (known : Known) → StaysSent child known known
+stays_sent child known = record { same_sent = itself (known child) }

@@ -48,26 +48,26 @@ StoresStand-same old new same stores stand =
     let names : named_paths new ≡ named_paths old = ap (map (λ entry. store_path entry.store)) (entries_of-same old new same) in
     subst (λ (paths : List (List ℕ)). All (λ path. IsSome (file_at new path)) paths) (sym names) (λ k d lt. subst IsSome (sym (stores k d lt)) (stand k d lt))
 
--- store files that were absent and that no record names are gained, and nothing else changes
-pub adds_to_store : (old new : Files) (files : Numbered) → AreAbsent old files → AreUnnamed old files → ChangesAmong (paths_of files) old new → AddsToStore old new
-adds_to_store old new files absent unnamed only =
+-- where each named store file stands, a path without a file is none that the record names
+pub unnamed_from_absent : (tree : Files) (files : Numbered) → StoresStand tree → AreAbsent tree files → AreUnnamed tree files
+unnamed_from_absent tree files stand absent = λ k d lt has. true≢false (sym (subst IsSome (absent k d lt) (All-contains (λ path. IsSome (file_at tree path)) (named_paths tree) _ stand has)))
+
+-- store files that were absent are gained, and nothing else changes
+pub adds_to_store : (old new : Files) (files : Numbered) → AreAbsent old files → ChangesAmong (paths_of files) old new → AddsToStore old new
+adds_to_store old new files absent only =
     let paths = paths_of files in
     let not_record : ¬ Contains paths record_path = λ has. All-contains (λ path. path ≢ record_path) paths record_path (All-map (λ path. path ≢ record_path) (λ (f : ℕ × List ℕ). store_path f.0) files (λ k d lt. store_path-ne-record_path _)) has refl in
     let record_same : file_at new record_path ≡ file_at old record_path = only.others record_path not_record in
-    let stores_same : All (λ path. file_at new path ≡ file_at old path) (named_paths old) =
-    λ k d lt. only.others _ (λ has. All-contains (λ path. ¬ Contains (named_paths old) path) paths _ unnamed has (Contains-get_or (named_paths old) k d lt)) in
+    let stores_same : StoresStand old → All (λ path. file_at new path ≡ file_at old path) (named_paths old) =
+    λ stand k d lt. only.others _ (λ has. All-contains (λ path. ¬ Contains (named_paths old) path) paths _ (unnamed_from_absent old files stand absent) has (Contains-get_or (named_paths old) k d lt)) in
     record {
       kept = λ q stands. only.others q (λ has. true≢false (sym (subst IsSome (All-contains (λ path. file_at old path ≡ None) paths q absent has) stands)));
       inside = record {
         others = λ q outside. only.others q (λ has. true≢false (sym (All-contains (λ path. is_below (codes "out/store") path ≡ true) paths q (All-map (λ path. is_below (codes "out/store") path ≡ true) (λ (f : ℕ × List ℕ). store_path f.0) files (λ k d lt. store_path-below-store _)) has) ∙ outside));
       };
-      output = output_of-same old new record_same stores_same;
-      stand = StoresStand-same old new record_same stores_same;
+      output = λ stand. output_of-same old new record_same (stores_same stand);
+      stand = λ stand. StoresStand-same old new record_same (stores_same stand) stand;
     }
-
--- where each named store file stands, a path without a file is none that the record names
-pub unnamed_from_absent : (tree : Files) (files : Numbered) → StoresStand tree → AreAbsent tree files → AreUnnamed tree files
-unnamed_from_absent tree files stand absent = λ k d lt has. true≢false (sym (subst IsSome (absent k d lt) (All-contains (λ path. IsSome (file_at tree path)) (named_paths tree) _ stand has)))
 
 -- ---- what the record publishes
 
@@ -177,11 +177,6 @@ absent_of_empty tree files is = λ k d lt. rw is (get-empty (slice_cmp nat_cmp) 
 named_paths-empty : (tree : Files) → tree ≡ fin.empty → named_paths tree ≡ []
 unfolding entries_of
 named_paths-empty tree is = rw (is, get-empty {X = List ℕ} (slice_cmp nat_cmp) record_path) refl
-
-pub unnamed_of_empty : (tree : Files) (files : Numbered) → tree ≡ fin.empty → AreUnnamed tree files
-unnamed_of_empty tree files is = λ k d lt has.
-    let none : has.0 < length (named_paths tree) = has.1 in
-    omega (arith, ap length (named_paths-empty tree is))
 
 pub StoresStand-empty : StoresStand fin.empty
 StoresStand-empty = λ k d lt. absurd (omega (arith, ap length (named_paths-empty fin.empty refl)))

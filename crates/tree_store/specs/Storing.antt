@@ -34,11 +34,12 @@ AreWritten tree files = All (λ file. file_at tree (store_path file.0) ≡ Some 
 pub record ChangesAmong (paths : List (List ℕ)) (old new : Files) : Type 0 where
   pub others : (q : List ℕ) → ¬ Contains paths q → file_at new q ≡ file_at old q
 
--- the store gained files, and nothing else changed: each file that stood is as it was, and so is the published output
+-- the store gained files, and nothing else changed: each file that stood is as it was, and, where each store file that
+-- the record names stood, so is the published output
 pub record AddsToStore (old new : Files) : Type 0 where
   pub kept : (q : List ℕ) → IsSome (file_at old q) → file_at new q ≡ file_at old q
   pub inside : ChangesBelow (codes "out/store") old new
-  pub output : output_of new ≡ output_of old
+  pub output : StoresStand old → output_of new ≡ output_of old
   pub stand : StoresStand old → StoresStand new
 
 -- the entry has the path and the length of the file, and its store file stands with the file's bytes

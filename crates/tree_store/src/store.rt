@@ -7,7 +7,7 @@ ghost use Rattle.apt_outside.specs.Files.{Files, file_at, ChangesOnly};
 ghost use Rattle.tree_store.specs.Cause.{HasStoreCause};
 ghost use Rattle.tree_store.specs.RecordFormat.{read_record};
 ghost use Rattle.tree_store.specs.Output.{store_path, record_path, output_of, StoresStand, SameOutside};
-ghost use Rattle.tree_store.specs.Storing.{paths_of, AreDistinct, AreAbsent, AreUnnamed, AreWritten, ChangesAmong, AddsToStore, Holds};
+ghost use Rattle.tree_store.specs.Storing.{paths_of, AreDistinct, AreAbsent, AreWritten, ChangesAmong, AddsToStore, Holds};
 ghost use Rattle.tree_store.specs.declared.record.StoredFile.{StoredFile};
 
 use crate::StoreFault;
@@ -100,7 +100,6 @@ pub fn put_files<T: Tree>(
 ) -> Result<(), StoreFault>
     requires distinct { AreDistinct files.now }
     requires absent { Told T.tells (AreAbsent (T.files tree.old) files.now) }
-    requires unnamed { Told T.tells (AreUnnamed (T.files tree.old) files.now) }
     ensures cause { HasStoreCause (T.faults tree.old) (T.faults tree.new) result }
 
     // On success each stands with its bytes.
