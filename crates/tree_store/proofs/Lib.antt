@@ -4,3 +4,4 @@ pub mod RecordLemmas
 pub mod OutputLemmas
 pub mod StoringLemmas
 pub mod Reading
+pub mod Publishing

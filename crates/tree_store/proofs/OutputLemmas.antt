@@ -170,17 +170,20 @@ output_of-record_form tree entries files count are held =
 pub Holds-none : (tree : Files) → Holds tree [] fin.empty
 Holds-none tree = subst (λ (files : List (List ℕ × List ℕ)). AllZip (IsEntryOf tree) [] files) (sym (nil_from_length (fin.entries fin.empty) (sym (len-entries {R = slice_cmp nat_cmp} fin.empty) ∙ len-empty (slice_cmp nat_cmp) (List ℕ)))) tt
 
+-- ---- no record
+
+entries_of-no_record : (files : Files) → file_at files record_path ≡ None → entries_of files ≡ []
+unfolding entries_of
+entries_of-no_record files none = rw none refl
+
+-- without a record nothing is published
+pub output_of-no_record : (files : Files) → file_at files record_path ≡ None → output_of files ≡ fin.empty
+unfolding output_of
+output_of-no_record files none = rw (entries_of-no_record files none) refl
+
+pub StoresStand-no_record : (files : Files) → file_at files record_path ≡ None → StoresStand files
+StoresStand-no_record files none = λ k d lt. absurd (omega (arith, ap (λ (es : List StoredFile). length (map (λ entry. store_path entry.store) es)) (entries_of-no_record files none)))
+
 -- an empty tree has no files and names none
 pub absent_of_empty : (tree : Files) (files : Numbered) → tree ≡ fin.empty → AreAbsent tree files
 absent_of_empty tree files is = λ k d lt. rw is (get-empty (slice_cmp nat_cmp) _)
-
-named_paths-empty : (tree : Files) → tree ≡ fin.empty → named_paths tree ≡ []
-unfolding entries_of
-named_paths-empty tree is = rw (is, get-empty {X = List ℕ} (slice_cmp nat_cmp) record_path) refl
-
-pub StoresStand-empty : StoresStand fin.empty
-StoresStand-empty = λ k d lt. absurd (omega (arith, ap length (named_paths-empty fin.empty refl)))
-
-pub output_of-empty : output_of fin.empty ≡ fin.empty
-unfolding output_of entries_of
-output_of-empty = rw (get-empty {X = List ℕ} (slice_cmp nat_cmp) record_path) refl

@@ -1,10 +1,14 @@
 -- What is put into the store, and what is published.
-use Rattle.std.specs.Prelude.{◌≡◌, ◌≢◌, ℕ, List, length, map, codes, None, Some, Contains, All, AllPairs, IsSome}
+use Rattle.std.specs.Prelude.{◌≡◌, ◌≢◌, ◌↔◌, ℕ, ◌<◌, ◌^◌, List, length, map, codes, None, Some, Contains, All, AllPairs, IsSome}
 use Rattle.std.specs.List.{AllZip}
 use Rattle.std.specs.FinMap as fin
 use Rattle.apt_outside.specs.Files.{Files, file_at}
 use Rattle.tree_store.specs.declared.record.StoredFile.{StoredFile}
 use Rattle.tree_store.specs.Output.{store_path, named_paths, output_of, StoresStand, ChangesBelow}
+
+-- the numbers below 2^32 at whose store paths files stand
+abbrev pub AreTaken : Files → List ℕ → Type 0
+AreTaken tree numbers = (n : ℕ) → n < 2 ^ 32 → (Contains numbers n ↔ IsSome (file_at tree (store_path n)))
 
 -- the bytes of store files, by their numbers
 abbrev pub Numbered : Type 0

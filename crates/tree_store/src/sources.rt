@@ -27,7 +27,8 @@ fn read_source<T: Tree>(
 ) -> Result<Option<RawSource>, StoreFault>
     ensures cause { HasStoreCause (T.faults tree.old) (T.faults tree.new) result }
     ensures same { Told T.tells (T.files tree.new ≡ T.files tree.old) }
-    ensures source { Told T.tells (IfOk result (λ source. source ≡ source_at limit (T.files tree.old) path.now)) }
+    ensures source { Told T.tells (IfOk result
+        (λ source. source ≡ source_at limit (T.files tree.old) path.now)) }
 {
     if !path.as_bytes().ends_with(b".java") {
         return Ok(None);
@@ -52,7 +53,8 @@ pub fn read_sources<T: Tree>(
 ) -> Result<List<RawSource>, StoreFault>
     ensures cause { HasStoreCause (T.faults tree.old) (T.faults tree.new) result }
     ensures same { Told T.tells (T.files tree.new ≡ T.files tree.old) }
-    ensures sources { Told T.tells (IfOk result (λ sources. sources ≡ sources_of limit (T.files tree.old))) }
+    ensures sources { Told T.tells (IfOk result
+        (λ sources. sources ≡ sources_of limit (T.files tree.old))) }
 {
     let paths = tree.list("src")?;
     let mut sources = List::new(alloc);

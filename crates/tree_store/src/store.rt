@@ -1,5 +1,5 @@
 // The store of what a build made, and the record that publishes it.
-ghost use Rattle.std.specs.Prelude.{◌≡◌, ◌≢◌, ℕ, ◌<◌, ◌≤◌, ◌^◌, ◌↔◌, List, length, slice_index, string_bytes, decimal, Contains, IsTrue, IsSome, IfOk, OnOk, OnErr, MatchOption, None, Some};
+ghost use Rattle.std.specs.Prelude.{◌≡◌, ◌≢◌, ℕ, ◌<◌, ◌≤◌, ◌^◌, ◌↔◌, length, slice_index, string_bytes, decimal, IsTrue, IfOk, OnOk, OnErr, MatchOption, None, Some};
 ghost use Rattle.std.specs.FinMap as fin;
 ghost use Rattle.std.specs.List.Sorted.{IsStrictlyIncreasing};
 ghost use Rattle.apt_outside.specs.Count.{Told};
@@ -7,7 +7,7 @@ ghost use Rattle.apt_outside.specs.Files.{Files, file_at, ChangesOnly};
 ghost use Rattle.tree_store.specs.Cause.{HasStoreCause};
 ghost use Rattle.tree_store.specs.RecordFormat.{read_record};
 ghost use Rattle.tree_store.specs.Output.{store_path, record_path, output_of, StoresStand, SameOutside};
-ghost use Rattle.tree_store.specs.Storing.{paths_of, AreDistinct, AreAbsent, AreWritten, ChangesAmong, AddsToStore, Holds};
+ghost use Rattle.tree_store.specs.Storing.{AreTaken, AreDistinct, AreAbsent, AreWritten, paths_of, ChangesAmong, AddsToStore, Holds};
 ghost use Rattle.tree_store.specs.declared.record.StoredFile.{StoredFile};
 
 use crate::StoreFault;
@@ -17,7 +17,8 @@ use std::alloc::Global;
 
 // Without a sign and without a zero before other digits.
 fn is_plain(digits: &[u8]) -> bool
-    ensures { IsTrue result ↔ ((slice_index digits.now 0 ≢ 43) × (slice_index digits.now 0 ≡ 48 → length digits.now ≤ 1)) }
+    ensures { IsTrue result
+        ↔ ((slice_index digits.now 0 ≢ 43) × (slice_index digits.now 0 ≡ 48 → length digits.now ≤ 1)) }
 {
     match digits {
         [b'+', ..] => false,
@@ -28,7 +29,8 @@ fn is_plain(digits: &[u8]) -> bool
 
 // The number below 2^32 whose decimal digits these are.
 fn plain_number(digits: &str) -> Option<u32>
-    ensures { MatchOption result ((n : ℕ) → n < 2 ^ 32 → decimal n ≢ digits.now) (λ n. decimal n ≡ digits.now) }
+    ensures { MatchOption result
+        ((n : ℕ) → n < 2 ^ 32 → decimal n ≢ digits.now) (λ n. decimal n ≡ digits.now) }
 {
     match digits.parse::<u32>() {
         Ok(number) if is_plain(digits.as_bytes()) => Some(number),
@@ -38,7 +40,8 @@ fn plain_number(digits: &str) -> Option<u32>
 
 // The number below 2^32 whose store file stands at the path.
 fn store_number(path: &str) -> Option<u32>
-    ensures { MatchOption result ((n : ℕ) → n < 2 ^ 32 → store_path n ≢ path.now) (λ n. store_path n ≡ path.now) }
+    ensures { MatchOption result
+        ((n : ℕ) → n < 2 ^ 32 → store_path n ≢ path.now) (λ n. store_path n ≡ path.now) }
 {
     plain_number(path.strip_prefix("out/store/")?)
 }
@@ -51,7 +54,7 @@ pub fn taken_numbers<T: Tree>(alloc: Global, tree: &mut T) -> Result<List<u32>, 
     ensures cause { HasStoreCause (T.faults tree.old) (T.faults tree.new) result }
     ensures same { Told T.tells (T.files tree.new ≡ T.files tree.old) }
     ensures ascending { IfOk result IsStrictlyIncreasing }
-    ensures taken { Told T.tells (IfOk result (λ numbers. (n : ℕ) → n < 2 ^ 32 → (Contains numbers n ↔ IsSome (file_at (T.files tree.old) (store_path n))))) }
+    ensures taken { Told T.tells (IfOk result (AreTaken (T.files tree.old))) }
 {
     let paths = tree.list("out/store")?;
     let mut numbers = Vec::new(alloc);
@@ -60,6 +63,7 @@ pub fn taken_numbers<T: Tree>(alloc: Global, tree: &mut T) -> Result<List<u32>, 
             numbers.push(number)?;
         }
     }
+    // Another order than that of the paths; and a tree that tells nothing may list a path twice.
     numbers.sort_unstable();
     numbers.dedup();
     Ok(List::from_vec(numbers))
@@ -81,8 +85,10 @@ fn put_file<T: Tree>(
 ) -> Result<(), StoreFault>
     requires { Told T.tells (file_at (T.files tree.old) (store_path number) ≡ None) }
     ensures cause { HasStoreCause (T.faults tree.old) (T.faults tree.new) result }
-    ensures written { Told T.tells (OnOk result (file_at (T.files tree.new) (store_path number) ≡ Some bytes.now)) }
-    ensures only { Told T.tells (ChangesOnly (store_path number) (T.files tree.old) (T.files tree.new)) }
+    ensures written { Told T.tells (OnOk result
+        (file_at (T.files tree.new) (store_path number) ≡ Some bytes.now)) }
+    ensures only { Told T.tells
+        (ChangesOnly (store_path number) (T.files tree.old) (T.files tree.new)) }
 {
     let path = store_path(alloc, number)?;
     tree.write_new(path.as_str(), bytes.as_slice())?;
@@ -106,7 +112,8 @@ pub fn put_files<T: Tree>(
     ensures written { Told T.tells (OnOk result (AreWritten (T.files tree.new) files.now)) }
 
     // Whatever it answers.
-    ensures only { Told T.tells (ChangesAmong (paths_of files.now) (T.files tree.old) (T.files tree.new)) }
+    ensures only { Told T.tells
+        (ChangesAmong (paths_of files.now) (T.files tree.old) (T.files tree.new)) }
     ensures adds { Told T.tells (AddsToStore (T.files tree.old) (T.files tree.new)) }
 {
     for (number, bytes) in files.as_slice() {
@@ -120,7 +127,8 @@ pub fn put_files<T: Tree>(
 /// After any error the tree is as it was. `Failed` comes only where the tree's count rose.
 pub fn commit<T: Tree>(tree: &mut T, bytes: &List<u8>) -> Result<(), StoreFault>
     ensures cause { HasStoreCause (T.faults tree.old) (T.faults tree.new) result }
-    ensures ok { Told T.tells (OnOk result (T.files tree.new ≡ fin.insert (T.files tree.old) record_path bytes.now)) }
+    ensures ok { Told T.tells (OnOk result
+        (T.files tree.new ≡ fin.insert (T.files tree.old) record_path bytes.now)) }
     ensures err { Told T.tells (OnErr result (T.files tree.new ≡ T.files tree.old)) }
     ensures outside { Told T.tells (SameOutside (T.files tree.old) (T.files tree.new)) }
 
