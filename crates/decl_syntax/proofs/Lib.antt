@@ -1,1 +1,2 @@
+pub mod Dotted
 pub mod Fields

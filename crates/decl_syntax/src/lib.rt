@@ -2,16 +2,22 @@
 #![tactic(auto)]
 
 mod boxed;
+mod element;
 mod field_reader;
 mod field_writer;
+mod identifier;
+mod kinds;
 mod list;
 mod memory;
 mod name;
 mod type_text;
 
 pub use boxed::Boxed;
+pub use element::ElementRef;
 pub use field_reader::FieldReader;
 pub use field_writer::FieldWriter;
+pub use identifier::{is_dotted, is_identifier, is_pattern};
+pub use kinds::{Claim, Kind, What};
 pub use list::List;
 pub use memory::NoMemory;
 pub use name::Name;
