@@ -61,23 +61,24 @@ impl NamedPart {
     }
 }
 
+/// Equal types.
 #[cycle(copy_type)]
-fn copy_types(alloc: Global, types: &[TypeText]) -> Result<List<TypeText>, NoMemory>
-    ensures { IfOk result (λ list. list ≡ types.now) }
+pub(crate) fn copy_types(alloc: Global, items: &[TypeText]) -> Result<List<TypeText>, NoMemory>
+    ensures { IfOk result (λ list. list ≡ items.now) }
 {
     let mut copies = List::new(alloc);
-    for each in types {
+    for each in items {
         copies.push(each.copy(alloc)?)?;
     }
     Ok(copies)
 }
 
 #[cycle(copy_type)]
-fn copy_parts(alloc: Global, parts: &[NamedPart]) -> Result<List<NamedPart>, NoMemory>
-    ensures { IfOk result (λ list. list ≡ parts.now) }
+fn copy_parts(alloc: Global, items: &[NamedPart]) -> Result<List<NamedPart>, NoMemory>
+    ensures { IfOk result (λ list. list ≡ items.now) }
 {
     let mut copies = List::new(alloc);
-    for each in parts {
+    for each in items {
         copies.push(each.copy(alloc)?)?;
     }
     Ok(copies)
@@ -101,5 +102,18 @@ impl TypeText {
                 Some(Boxed::new(alloc, bound.get().copy(alloc)?)?),
             )),
         }
+    }
+}
+
+/// An equal type, where there is one.
+pub(crate) fn copy_type(
+    alloc: Global,
+    of: &Option<TypeText>,
+) -> Result<Option<TypeText>, NoMemory>
+    ensures { IfOk result (λ copy. copy ≡ of.now) }
+{
+    match of {
+        None => Ok(None),
+        Some(of) => Ok(Some(of.copy(alloc)?)),
     }
 }
