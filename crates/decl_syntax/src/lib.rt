@@ -14,6 +14,7 @@ mod list;
 mod member;
 mod memory;
 mod name;
+mod parse;
 mod type_text;
 
 pub use annotation::{AnnotationText, ElementValuePair, ValueText};
@@ -29,4 +30,5 @@ pub use list::List;
 pub use member::{ConstantDecl, ConstructorDecl, FieldDecl, MethodDecl, Param, TypeParam};
 pub use memory::NoMemory;
 pub use name::Name;
+pub use parse::ShapeFault;
 pub use type_text::{NamedPart, PrimitiveKind, TypeText, WildcardKind};
