@@ -6,3 +6,4 @@ pub mod Numbers
 pub mod Readers
 pub mod Types
 pub mod Values
+pub mod Written

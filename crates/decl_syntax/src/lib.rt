@@ -2,6 +2,7 @@
 #![tactic(auto)]
 
 mod annotation;
+mod annotation_writing;
 mod boxed;
 mod compilation;
 mod declaration;
@@ -12,10 +13,14 @@ mod identifier;
 mod kinds;
 mod list;
 mod member;
+mod member_writing;
 mod memory;
 mod name;
 mod parse;
 mod type_text;
+mod type_writing;
+mod unit_writing;
+mod writing;
 
 pub use annotation::{AnnotationText, ElementValuePair, ValueText};
 pub use boxed::Boxed;
@@ -32,3 +37,4 @@ pub use memory::NoMemory;
 pub use name::Name;
 pub use parse::ShapeFault;
 pub use type_text::{NamedPart, PrimitiveKind, TypeText, WildcardKind};
+pub use unit_writing::shape;
