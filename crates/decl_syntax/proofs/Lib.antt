@@ -1,3 +1,4 @@
+pub mod Counted
 pub mod Declarations
 pub mod Dotted
 pub mod Fields

@@ -1,5 +1,5 @@
 -- The spelling of types, by equations, and that their reader reads it.
-use Rattle.std.proofs.Common.{◌≡◌, ℕ, zero, suc, Bool, true, false, ◌&&◌, List, [], ◌∷◌, ◌++◌, length, map, Option, Some, None, refl, sym, ap, subst, ◌∙◌}
+use Rattle.std.proofs.Common.{◌≡◌, ℕ, zero, suc, ◌-◌, arith, Bool, true, false, ◌&&◌, List, [], ◌∷◌, ◌++◌, length, map, Option, Some, None, refl, sym, ap, subst, ◌∙◌}
 use Rattle.std.specs.List.{flat_map}
 use Rattle.decl_syntax.specs.Fields.{text_next}
 use Rattle.decl_syntax.specs.Forms.{Reader, name_form, count_form, list_form, opt_form, is_name, all_fit, fits_if_some, none_next, then_by, ◌>>◌, mapped, checked, numbered, tagged, opt_next, list_next}
@@ -137,3 +137,16 @@ Reads-inside (suc room) = Reads-type (inside_next room) (inside_type room) (Read
 pub Reads-type_next : (room : ℕ) → Reads (type_next room) type_form (is_legal_type room)
 unfolding type_next is_legal_type
 Reads-type_next room = Reads-type (inside_next room) (inside_type room) (Reads-inside room)
+
+-- ---- how much may open
+
+pub inside_next-none : (room : ℕ) (bytes : List ℕ) → room ≡ 0 → inside_next room bytes ≡ None
+unfolding inside_next
+inside_next-none room bytes e = ap (λ (n : ℕ). inside_next n bytes) e
+
+pub inside_next-more : (room : ℕ) (bytes : List ℕ) → (room ≡ 0 → ⊥) → inside_next room bytes ≡ type_next (room - 1) bytes
+unfolding inside_next type_next
+inside_next-more zero bytes more = absurd (more refl)
+inside_next-more (suc room) bytes more =
+    let k : suc room - 1 ≡ room = omega arith in
+    ap (λ (n : ℕ). type_in (inside_next n) bytes) (sym k)

@@ -53,12 +53,15 @@ wildcard_of_parts (kind, bound) = type.Wildcard kind bound
 abbrev pub agreeing : WildcardKind × Option TypeText → Bool
 agreeing (kind, bound) = agrees kind bound
 
+abbrev pub wildcard_in : Reader TypeText → Reader TypeText
+wildcard_in inside = mapped wildcard_of_parts (checked agreeing (numbered wildcard_of >> opt_next inside))
+
 abbrev pub type_choice : Reader TypeText → ℕ → Reader TypeText
 type_choice inside n =
     if n == 0 then mapped type.Primitive (numbered primitive_of)
     else if n == 1 then mapped type.Named (list_next (part_in inside))
     else if n == 2 then mapped type.Array inside
-    else if n == 3 then mapped wildcard_of_parts (checked agreeing (numbered wildcard_of >> opt_next inside))
+    else if n == 3 then wildcard_in inside
     else none_next
 
 unfoldable pub type_in : Reader TypeText → Reader TypeText

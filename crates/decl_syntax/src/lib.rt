@@ -17,6 +17,8 @@ mod member_writing;
 mod memory;
 mod name;
 mod parse;
+mod reading;
+mod type_reading;
 mod type_text;
 mod type_writing;
 mod unit_writing;
