@@ -8,22 +8,22 @@ use Rattle.std.proofs.lemmas.List.Elements.{Contains-push_cases}
 use Rattle.std.proofs.lemmas.Grind.{flat_map-append}
 use Rattle.std.proofs.lemmas.Bool.Decides.{eqb_tells}
 use Rattle.std.proofs.lemmas.Option.{slice_get_read, slice_get_within}
-use Rattle.apt_outside.specs.Child.{Try, Child, Changes, OthersKept, written_by, Sends, Receives}
+use Rattle.apt_outside.specs.Child.{Known, StaysSent, Try, Child, Changes, OthersKept, written_by, Sends, Receives}
 use Rattle.apt_outside.specs.declared.script.Script.{Script}
 use Rattle.apt_outside.specs.declared.script.Started.{Started}
 use Rattle.apt_outside.specs.Scripted.{script_of, answers_of, script_says, shown_call, frames_of, said_of, child_of, known_of, TakesSaid, LiveStarted}
 
-get_set_same : {X : Type 0} (xs : List X) (i : ℕ) (v : X) → i < length xs → slice_get (slice_set xs i v) i ≡ Some v
+pub get_set_same : {X : Type 0} (xs : List X) (i : ℕ) (v : X) → i < length xs → slice_get (slice_set xs i v) i ≡ Some v
 get_set_same xs i v h = slice_get_read (slice_set xs i v) (length xs) i v (sym (length-set xs i v)) h (sym (get_or-set_same xs i v v h))
 
-get_set_other : {X : Type 0} (xs : List X) (i k : ℕ) (v : X) → k ≢ i → slice_get (slice_set xs i v) k ≡ slice_get xs k
+pub get_set_other : {X : Type 0} (xs : List X) (i k : ℕ) (v : X) → k ≢ i → slice_get (slice_set xs i v) k ≡ slice_get xs k
 get_set_other [] i k v ne = refl
 get_set_other (x ∷ xs) zero zero v ne = absurd (ne refl)
 get_set_other (x ∷ xs) zero (suc k) v ne = refl
 get_set_other (x ∷ xs) (suc i) zero v ne = refl
 get_set_other (x ∷ xs) (suc i) (suc k) v ne = get_set_other xs i k v (λ e. ne (ap suc e))
 
-some_inj : {X : Type 0} (x y : X) → Some x ≡ Some y → x ≡ y
+pub some_inj : {X : Type 0} (x y : X) → Some x ≡ Some y → x ≡ y
 some_inj x y e = cc
 
 module _ (scripts : List Script) (started : List Started) (i : ℕ) (old new : Started) (is : slice_get started i ≡ Some old) where
@@ -123,11 +123,11 @@ takes_along scripts old new is takes = subst (TakesSaid scripts) (sym is) takes
 pub lives_along : (live live' : List ℕ) (started started' : List Started) → live' ≡ live → started' ≡ started → LiveStarted live started → LiveStarted live' started'
 lives_along live live' started started' l s lives = subst (λ xs. LiveStarted xs started') (sym l) (subst (LiveStarted live) (sym s) lives)
 
-get_push_same : {X : Type 0} (xs : List X) (x : X) → slice_get (xs ++ x ∷ []) (length xs) ≡ Some x
+pub get_push_same : {X : Type 0} (xs : List X) (x : X) → slice_get (xs ++ x ∷ []) (length xs) ≡ Some x
 get_push_same [] x = refl
 get_push_same (y ∷ xs) x = get_push_same xs x
 
-get_push_other : {X : Type 0} (xs : List X) (x : X) (k : ℕ) → k ≢ length xs → slice_get (xs ++ x ∷ []) k ≡ slice_get xs k
+pub get_push_other : {X : Type 0} (xs : List X) (x : X) (k : ℕ) → k ≢ length xs → slice_get (xs ++ x ∷ []) k ≡ slice_get xs k
 get_push_other [] x zero ne = absurd (ne refl)
 get_push_other [] x (suc k) ne = refl
 get_push_other (y ∷ xs) x zero ne = refl
@@ -188,3 +188,11 @@ fresh_child scripts s call is none zero_taken =
     let by_sent : List (Vec ℕ Global) → Child = λ fs. record { name = call.0; command = call.1; sent = map (λ f. f.items) fs; waiting = drop s.taken (script_says scripts call.0 call.1 (map (λ f. f.items) fs)) } in
     let by_taken : ℕ → Child = λ n. record { name = call.0; command = call.1; sent = []; waiting = drop n (script_says scripts call.0 call.1 []) } in
     ap by_call is ∙ ap by_sent none ∙ ap by_taken zero_taken
+
+itself : (o : Option Child) → IfSome o (λ before. IsSomeAnd o (λ after. after.sent ≡ before.sent))
+itself None = tt
+itself (Some c) = refl
+
+-- a child that doesn't change
+pub stays_sent : (child : ℕ) (known : Known) → StaysSent child known known
+stays_sent child known = record { same_sent = itself (known child) }

@@ -1,4 +1,5 @@
 pub mod Count
+pub mod Plan
 pub mod Files
 pub mod Child
 pub mod Stream

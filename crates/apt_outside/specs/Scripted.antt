@@ -1,5 +1,5 @@
 -- What scripted children say.
-use Rattle.std.specs.Prelude.{◌≡◌, ℕ, ◌+◌, ◌<◌, ◌≤◌, List, [], ◌∷◌, length, take, drop, map, flat_map, string_bytes, bytes_eq, if◌then◌else◌, Option, None, Some, option_map, slice_get, Contains, IfSome}
+use Rattle.std.specs.Prelude.{◌≡◌, ℕ, ◌+◌, ◌<◌, ◌≤◌, ◌-◌, ◌^◌, nat_le, Bool, ◌||◌, is_none, List, [], ◌∷◌, length, take, drop, map, flat_map, string_bytes, bytes_eq, if◌then◌else◌, Option, None, Some, option_map, slice_get, Contains, IfSome}
 use mathlib.Core.Path.{sym}
 use Rattle.std.proofs.lemmas.List.{take-append-drop}
 use Rattle.apt_outside.specs.Child.{Says, Try, Child, Known, IsSound}
@@ -16,6 +16,11 @@ script_of (s ∷ ss) name = if bytes_eq (string_bytes s.name) name then Some s e
 abbrev pub answers_of : Option Script → ℕ → List ℕ
 answers_of None n = []
 answers_of (Some s) n = flat_map (λ a. a.items) (take n s.answers.items)
+
+-- its answer at a place, and none past its last
+abbrev pub answer_of : Option Script → ℕ → List ℕ
+answer_of None at = []
+answer_of (Some s) at = flat_map (λ a. a.items) (take 1 (drop at s.answers.items))
 
 -- one answer waits before the first frame, and one more after each
 abbrev pub script_says : List Script → Says
@@ -40,6 +45,18 @@ known_of scripts started k = option_map (child_of scripts) (slice_get started k)
 -- no child took more than it said
 abbrev pub TakesSaid : List Script → List Started → Type 0
 TakesSaid scripts started = (k : ℕ) (s : Started) → slice_get started k ≡ Some s → s.taken ≤ length (said_of scripts s)
+
+-- a start without a script is refused, and one after 4,294,967,295 that succeeded
+abbrev pub refuses_start : List Script → List Started → Try → Bool
+refuses_start scripts started call = nat_le (2 ^ 32 - 1) (length started) || is_none (script_of scripts call.0)
+
+-- what a child was sent, and what it said, stand joined
+pub record IsJoined (scripts : List Script) (s : Started) : Type 0 where
+  pub sent : s.joined.items ≡ flat_map (λ frame. frame) (frames_of s)
+  pub said : s.said.items ≡ said_of scripts s
+
+abbrev pub EachJoined : List Script → List Started → Type 0
+EachJoined scripts started = (k : ℕ) (s : Started) → slice_get started k ≡ Some s → IsJoined scripts s
 
 -- the children that live were started
 abbrev pub LiveStarted : List ℕ → List Started → Type 0

@@ -1,4 +1,14 @@
-//! What stands outside the host: a tree of files, child programs, a source and a sink.
+//! What stands outside the host: a tree of files, child programs, a source and a sink of bytes.
+//!
+//! Four traits say what the host may rely on, and implementations in memory serve replays and tests. Each object has a count of
+//! its faults that never falls, and a call answers `Failed` only where that count rose in it; want of memory is no fault. An
+//! object that tells its content (`tells`) says what each call read, wrote, sent or took, in the words of `specs/`: the files of a
+//! tree by path (`Files`), what each child was sent and which of its bytes wait (`Child`), and bytes in order (`Stream`). An object
+//! may also tell which of its calls are to fail (`Plan`; of children, which starts), and then it fails exactly there.
+//!
+//! Nothing is promised of an object that doesn't tell its content but its counts, and of children their starts and which live.
+//! No file system, pipe or program is described here: that an implementation over real ones keeps the traits' clauses is its own
+//! proof, as far as it goes. Nor is it promised that a child answers, or that a call takes bounded time.
 #![tactic(auto)]
 
 mod children;
@@ -11,6 +21,8 @@ mod script;
 mod script_children;
 mod scripting;
 mod stream;
+#[cfg(test)]
+mod tests;
 mod tree;
 
 pub use children::Children;

@@ -1,30 +1,45 @@
 // Children that follow scripts.
-ghost use Rattle.apt_outside.specs.Scripted.{TakesSaid, LiveStarted};
+ghost use Rattle.apt_outside.specs.Scripted.{TakesSaid, EachJoined, LiveStarted};
 
 use crate::script::{Call, Script, Started};
-use crate::scripting::{add_frame, copy_call, find_script, give};
+use crate::scripting::{add_frame, begin, copy_call, find_script, give};
 use crate::{Children, Fault};
 use std::alloc::Global;
 
+/// Children in memory that say what scripts give, and tell all of it. They are numbered from 0 in the order of the starts that
+/// succeeded. A start of a name without a script fails, and so does one after 4,294,967,295 that succeeded; no other call does.
+/// Where two scripts have one name the first counts.
 #[derive(Drop)]
 pub struct ScriptChildren {
+    /// Where its room comes from.
     pub alloc: Global,
+    /// What the children of each name say.
     pub scripts: Vec<Script>,
+    /// The children that were started, by number.
     pub started: Vec<Started>,
+    /// The numbers of those that were not stopped.
     pub live: Vec<u32>,
+    /// The calls of `start` that answered Ok or Failed.
     pub tried: Vec<Call>,
+    /// How many starts failed.
     pub faults: u64,
     ghost takes: { TakesSaid scripts.items started.items },
+    ghost joins: { EachJoined scripts.items started.items },
     ghost lives: { LiveStarted live.items started.items },
 }
 
 impl ScriptChildren {
-    ghost use Rattle.std.specs.Prelude.{◌≡◌, []};
+    ghost use Rattle.std.specs.Prelude.{◌≡◌, [], option_map, option_copied};
+    ghost use Rattle.apt_outside.specs.Child.{sent_to};
+    ghost use Rattle.apt_outside.specs.Scripted.{known_of};
 
+    /// Children of these scripts, none of which was started.
     pub fn new(alloc: Global, scripts: Vec<Script>) -> Self
         ensures scripts { result.scripts ≡ scripts }
+        ensures started { result.started.items ≡ [] }
         ensures live { result.live.items ≡ [] }
         ensures tried { result.tried.items ≡ [] }
+        ensures faults { result.faults ≡ 0 }
     {
         ScriptChildren {
             alloc,
@@ -35,11 +50,22 @@ impl ScriptChildren {
             faults: 0,
         }
     }
+
+    /// All bytes that a child was sent, its frames joined in order, and None exactly where there is no such child.
+    /// A child that was stopped still has them.
+    pub fn sent(&self, child: u32) -> Option<&[u8]>
+        ensures { option_copied result ≡ option_map sent_to (known_of self.now.scripts.items self.now.started.items child) }
+    {
+        match self.started.get(child as usize) {
+            None => None,
+            Some(started) => Some(&started.joined),
+        }
+    }
 }
 
 impl Children for ScriptChildren {
-    ghost use Rattle.std.specs.Prelude.{true, length, map, slice_get};
-    ghost use Rattle.apt_outside.specs.Scripted.{script_says, shown_call, known_of, sound_known};
+    ghost use Rattle.std.specs.Prelude.{true, Some, length, map, slice_get};
+    ghost use Rattle.apt_outside.specs.Scripted.{script_says, refuses_start, shown_call, known_of, sound_known};
 
     ghost tells = { true };
 
@@ -55,6 +81,8 @@ impl Children for ScriptChildren {
 
     ghost known = { λ c. known_of c.scripts.items c.started.items };
 
+    ghost refusals = { λ c. Some (refuses_start c.scripts.items c.started.items) };
+
     ghost sound = { λ c k told. sound_known c.scripts.items (slice_get c.started.items k) };
 
     fn start(&mut self, name: &str, command: &[String]) -> Result<u32, Fault> {
@@ -63,6 +91,7 @@ impl Children for ScriptChildren {
         self.tried.reserve(1)?;
         self.live.reserve(1)?;
         self.started.reserve(1)?;
+        let begun = begin(self.alloc, &self.scripts, call)?;
         let number = self.started.len();
         if number >= u32::MAX as usize || find_script(&self.scripts, name).is_none() {
             self.tried.push(tried).unwrap();
@@ -70,29 +99,22 @@ impl Children for ScriptChildren {
             return Err(Fault::Failed);
         }
         self.tried.push(tried).unwrap();
-        self.started
-            .push(Started {
-                call,
-                sent: Vec::new(self.alloc),
-                taken: 0,
-            })
-            .unwrap();
+        self.started.push(begun).unwrap();
         self.live.push(number as u32).unwrap();
         Ok(number as u32)
     }
 
     fn send(&mut self, child: u32, frame: &[u8]) -> Result<(), Fault> {
-        let frame = frame.to_vec(self.alloc)?;
-        Ok(add_frame(&mut self.started[child as usize], frame)?)
-    }
-
-    fn receive(&mut self, child: u32, room: &mut [u8]) -> Result<usize, Fault> {
-        Ok(give(
+        Ok(add_frame(
             self.alloc,
             &self.scripts,
             &mut self.started[child as usize],
-            room,
+            frame,
         )?)
+    }
+
+    fn receive(&mut self, child: u32, room: &mut [u8]) -> Result<usize, Fault> {
+        Ok(give(&mut self.started[child as usize], room))
     }
 
     fn stop(&mut self, child: u32) {

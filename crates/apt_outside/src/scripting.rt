@@ -1,6 +1,6 @@
 // Reads scripts.
-ghost use Rattle.std.specs.Prelude.{◌≡◌, [], ◌∷◌, ◌++◌, ◌≤◌, ◌<◌, length, take, drop, IfOk, OnOk, OnErr, flat_map, map, string_bytes, option_copied};
-ghost use Rattle.apt_outside.specs.Scripted.{script_of, said_of, shown_call, frames_of};
+ghost use Rattle.std.specs.Prelude.{◌≡◌, [], ◌∷◌, ◌++◌, ◌≤◌, ◌<◌, length, take, drop, IfOk, OnOk, OnErr, map, flat_map, string_bytes, option_copied};
+ghost use Rattle.apt_outside.specs.Scripted.{script_of, answer_of, said_of, shown_call, frames_of, IsJoined};
 
 use crate::script::{Call, Script, Started};
 use std::alloc::{AllocError, Global};
@@ -29,64 +29,80 @@ pub fn find_script<'a>(scripts: &'a [Script], name: &str) -> Option<&'a Script>
     None
 }
 
-fn joined(alloc: Global, answers: &[Vec<u8>]) -> Result<Vec<u8>, AllocError>
-    ensures { IfOk result (λ all. all.items ≡ flat_map (λ a. a.items) answers.now) }
+/// What a child of this name says more after so many sends.
+pub fn answer_after<'a>(scripts: &'a [Script], name: &str, sends: usize) -> &'a [u8]
+    ensures { result.now ≡ answer_of (script_of scripts.now name.now) sends }
 {
-    let mut all = Vec::new(alloc);
-    for answer in answers {
-        all.extend_from_slice(answer)?;
-    }
-    Ok(all)
-}
-
-/// All that a child has said.
-pub fn said_by(alloc: Global, scripts: &[Script], started: &Started) -> Result<Vec<u8>, AllocError>
-    ensures { IfOk result (λ said. said.items ≡ said_of scripts.now started.now) }
-{
-    match find_script(scripts, started.call.name.as_str()) {
-        None => Ok(Vec::new(alloc)),
-        Some(script) => {
-            let sent = started.sent.len();
-            if sent < script.answers.len() {
-                joined(alloc, &script.answers[..sent + 1])
-            } else {
-                joined(alloc, &script.answers)
-            }
-        }
+    match find_script(scripts, name) {
+        None => &[],
+        Some(script) => answer_at(&script.answers, sends),
     }
 }
 
-/// Adds a frame to those that a child was sent.
-pub fn add_frame(started: &mut Started, frame: Vec<u8>) -> Result<(), AllocError>
+fn answer_at(answers: &Vec<Vec<u8>>, at: usize) -> &[u8]
+    ensures { result.now ≡ flat_map (λ a. a.items) (take 1 (drop at answers.now.items)) }
+{
+    if at < answers.len() {
+        &answers[at]
+    } else {
+        &[]
+    }
+}
+
+/// A child that was just started.
+pub fn begin(alloc: Global, scripts: &Vec<Script>, call: Call) -> Result<Started, AllocError>
+    ensures call { IfOk result (λ started. started.call ≡ call) }
+    ensures sent { IfOk result (λ started. started.sent.items ≡ []) }
+    ensures taken { IfOk result (λ started. started.taken ≡ 0) }
+    ensures joined { IfOk result (IsJoined scripts.now.items) }
+{
+    let said = answer_after(scripts, call.name.as_str(), 0).to_vec(alloc)?;
+    Ok(Started {
+        call,
+        sent: Vec::new(alloc),
+        joined: Vec::new(alloc),
+        said,
+        taken: 0,
+    })
+}
+
+/// Adds a frame to those that a child was sent, and what it then says more.
+pub fn add_frame(
+    alloc: Global,
+    scripts: &Vec<Script>,
+    started: &mut Started,
+    frame: &[u8],
+) -> Result<(), AllocError>
+    requires { IsJoined scripts.now.items started.old }
     ensures call { started.new.call ≡ started.old.call }
     ensures taken { started.new.taken ≡ started.old.taken }
-    ensures ok { OnOk result (frames_of started.new ≡ frames_of started.old ++ frame.items ∷ []) }
+    ensures joined { IsJoined scripts.now.items started.new }
+    ensures ok { OnOk result (frames_of started.new ≡ frames_of started.old ++ frame.now ∷ []) }
     ensures err { OnErr result (frames_of started.new ≡ frames_of started.old) }
 {
-    started.sent.push(frame)?;
+    let copy = frame.to_vec(alloc)?;
+    let answer = answer_after(scripts, started.call.name.as_str(), started.sent.len() + 1);
+    started.joined.reserve(frame.len())?;
+    started.said.reserve(answer.len())?;
+    started.sent.push(copy)?;
+    started.joined.extend_from_slice(frame).unwrap();
+    started.said.extend_from_slice(answer).unwrap();
     Ok(())
 }
 
 /// Gives the first of the bytes that wait.
-pub fn give(
-    alloc: Global,
-    scripts: &Vec<Script>,
-    started: &mut Started,
-    room: &mut [u8],
-) -> Result<usize, AllocError>
-    requires within { started.old.taken ≤ length (said_of scripts.now.items started.old) }
+pub fn give(started: &mut Started, room: &mut [u8]) -> usize
+    requires within { started.old.taken ≤ length started.old.said.items }
     requires room { 0 < length room.old }
-    ensures call { started.new.call ≡ started.old.call }
-    ensures sent { started.new.sent ≡ started.old.sent }
-    ensures within { started.new.taken ≤ length (said_of scripts.now.items started.old) }
-    ensures fits { IfOk result (λ n. n ≤ length room.new) }
-    ensures given { IfOk result (λ n. drop started.old.taken (said_of scripts.now.items started.old) ≡ take n room.new ++ drop started.new.taken (said_of scripts.now.items started.old)) }
-    ensures ended { IfOk result (λ n. take n room.new ≡ [] → drop started.old.taken (said_of scripts.now.items started.old) ≡ []) }
-    ensures err { OnErr result (started.new ≡ started.old) }
+    ensures rest { started.new ≡ record started.old { taken = started.new.taken } }
+    ensures within { started.new.taken ≤ length started.old.said.items }
+    ensures fits { result ≤ length room.new }
+    ensures given { drop started.old.taken started.old.said.items ≡ take result room.new ++ drop started.new.taken started.old.said.items }
+    ensures ended { take result room.new ≡ [] → drop started.old.taken started.old.said.items ≡ [] }
 {
-    let said = said_by(alloc, scripts, started)?;
-    let count = room.len().min(said.len() - started.taken);
-    room[..count].copy_from_slice(&said[started.taken..started.taken + count]);
+    let count = room.len().min(started.said.len() - started.taken);
+    let from = started.taken;
+    room[..count].copy_from_slice(&started.said[from..from + count]);
     started.taken += count;
-    Ok(count)
+    count
 }

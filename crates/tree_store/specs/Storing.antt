@@ -4,7 +4,7 @@ use Rattle.std.specs.List.{AllZip}
 use Rattle.std.specs.FinMap as fin
 use Rattle.apt_outside.specs.Files.{Files, file_at}
 use Rattle.tree_store.specs.declared.record.StoredFile.{StoredFile}
-use Rattle.tree_store.specs.Output.{store_path, named_paths, output_of, StoresStand, ChangesBelow}
+use Rattle.tree_store.specs.Output.{store_path, output_of, StoresStand, ChangesBelow}
 
 -- the numbers below 2^32 at whose store paths files stand
 abbrev pub AreTaken : Files → List ℕ → Type 0
@@ -26,10 +26,6 @@ AreDistinct files = AllPairs (λ a b. a.0 ≢ b.0) files
 abbrev pub AreAbsent : Files → Numbered → Type 0
 AreAbsent tree files = All (λ path. file_at tree path ≡ None) (paths_of files)
 
--- the record names none of them
-abbrev pub AreUnnamed : Files → Numbered → Type 0
-AreUnnamed tree files = All (λ path. ¬ Contains (named_paths tree) path) (paths_of files)
-
 -- each stands with its bytes
 abbrev pub AreWritten : Files → Numbered → Type 0
 AreWritten tree files = All (λ file. file_at tree (store_path file.0) ≡ Some file.1) files
@@ -38,11 +34,12 @@ AreWritten tree files = All (λ file. file_at tree (store_path file.0) ≡ Some 
 pub record ChangesAmong (paths : List (List ℕ)) (old new : Files) : Type 0 where
   pub others : (q : List ℕ) → ¬ Contains paths q → file_at new q ≡ file_at old q
 
--- the store gained files, and nothing else changed: each file that stood is as it was, and so is the published output
+-- the store gained files, and nothing else changed: each file that stood is as it was, and, where each store file that
+-- the record names stood, so is the published output
 pub record AddsToStore (old new : Files) : Type 0 where
   pub kept : (q : List ℕ) → IsSome (file_at old q) → file_at new q ≡ file_at old q
   pub inside : ChangesBelow (codes "out/store") old new
-  pub output : output_of new ≡ output_of old
+  pub output : StoresStand old → output_of new ≡ output_of old
   pub stand : StoresStand old → StoresStand new
 
 -- the entry has the path and the length of the file, and its store file stands with the file's bytes

@@ -7,7 +7,7 @@ ghost use Rattle.apt_outside.specs.Files.{Files, file_at, ChangesOnly};
 ghost use Rattle.tree_store.specs.Cause.{HasStoreCause};
 ghost use Rattle.tree_store.specs.RecordFormat.{read_record};
 ghost use Rattle.tree_store.specs.Output.{store_path, record_path, output_of, StoresStand, SameOutside};
-ghost use Rattle.tree_store.specs.Storing.{AreTaken, AreDistinct, AreAbsent, AreUnnamed, AreWritten, paths_of, ChangesAmong, AddsToStore, Holds};
+ghost use Rattle.tree_store.specs.Storing.{AreTaken, AreDistinct, AreAbsent, AreWritten, paths_of, ChangesAmong, AddsToStore, Holds};
 ghost use Rattle.tree_store.specs.declared.record.StoredFile.{StoredFile};
 
 use crate::StoreFault;
@@ -95,10 +95,11 @@ fn put_file<T: Tree>(
     Ok(())
 }
 
-/// Writes each of the files into the store under its number, in order, and stops at the first that fails.
+/// Writes each of the files into the store under its number, in order, and stops at the first that fails. The numbers
+/// differ, and no file stands at their paths.
 ///
-/// Whatever it answers, the published output is as it was, and so is each file that stood. `Failed` comes only where
-/// the tree's count rose.
+/// Whatever it answers, each file that stood is as it was, and so is the published output where each store file that
+/// the record names stood. `Failed` comes only where the tree's count rose.
 pub fn put_files<T: Tree>(
     alloc: Global,
     tree: &mut T,
@@ -106,7 +107,6 @@ pub fn put_files<T: Tree>(
 ) -> Result<(), StoreFault>
     requires distinct { AreDistinct files.now }
     requires absent { Told T.tells (AreAbsent (T.files tree.old) files.now) }
-    requires unnamed { Told T.tells (AreUnnamed (T.files tree.old) files.now) }
     ensures cause { HasStoreCause (T.faults tree.old) (T.faults tree.new) result }
 
     // On success each stands with its bytes.

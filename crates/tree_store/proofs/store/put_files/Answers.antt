@@ -40,10 +40,10 @@ returns-in_err-put_file-clause-only g c = λ told.
 
 pub returns-in_err-put_file-clause-adds : goal.returns-in_err-put_file-clause-adds
 returns-in_err-put_file-clause-adds g c = λ told.
-    adds_to_store _ _ c.args.files.now (c.requires.absent told) (c.requires.unnamed told) (returns-in_err-put_file-clause-only g c told)
+    adds_to_store _ _ c.args.files.now (c.requires.absent told) (returns-in_err-put_file-clause-only g c told)
 
 pub returns-clause-adds : goal.returns-clause-adds
 returns-clause-adds g c = λ told.
     let items = c.as_slice-number-items.result.now in
-    adds_to_store _ _ c.args.files.now (c.requires.absent told) (c.requires.unnamed told)
+    adds_to_store _ _ c.args.files.now (c.requires.absent told)
     (rw c.as_slice-number-items.ensures at (only_all items c.loop-number.number-index _ _ (c.loop-number.invariant.only told)))

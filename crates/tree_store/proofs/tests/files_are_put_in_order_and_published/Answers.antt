@@ -1,8 +1,5 @@
-use Rattle.tree_store.proofs.OutputLemmas.{absent_of_empty, unnamed_of_empty}
+use Rattle.tree_store.proofs.OutputLemmas.{absent_of_empty}
 use Rattle.tree_store.proofs.tests.files_are_put_in_order_and_published.Goals as goal
 
 pub put_files-put-requires-clause-absent : goal.put_files-put-requires-clause-absent
 put_files-put-requires-clause-absent g c = λ told. absent_of_empty _ _ c.new-tree.ensures
-
-pub put_files-put-requires-clause-unnamed : goal.put_files-put-requires-clause-unnamed
-put_files-put-requires-clause-unnamed g c = λ told. unnamed_of_empty _ _ c.new-tree.ensures

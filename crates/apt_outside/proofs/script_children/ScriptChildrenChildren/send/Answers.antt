@@ -1,10 +1,16 @@
 use Rattle.std.proofs.Common.{◌≡◌, ◌<◌, ◌++◌, ◌∷◌, [], length, rules}
-use Rattle.apt_outside.specs.Scripted.{frames_of}
+use Rattle.apt_outside.specs.Scripted.{IsJoined, frames_of}
 use Rattle.apt_outside.proofs.ChildLemmas.{changes, takes_set, lives_set, fits_either, sends, found_at}
+use Rattle.apt_outside.proofs.JoinedLemmas.{each_set, kept}
 use Rattle.apt_outside.proofs.script_children.ScriptChildrenChildren.send.Goals as goal
 
 pub index_mut-requires : goal.index_mut-requires
 index_mut-requires c = let below : c.args.child < length c.args.self.now.started.items = c.args.self.now.lives c.args.child c.requires in search rules
+
+pub add_frame-requires : goal.add_frame-requires
+add_frame-requires c =
+    let is = found_at c.args.self.now.started.items c.args.child c.index_mut.result.now (c.args.self.now.lives c.args.child c.requires) c.index_mut.ensures.value in
+    c.args.self.now.joins c.args.child c.index_mut.result.now is
 
 pub invariant_of-self : goal.invariant_of-self
 invariant_of-self c =
@@ -13,6 +19,7 @@ invariant_of-self c =
     record {
       takes = takes_set c.args.self.now.scripts.items c.args.self.now.started.items c.args.child c.index_mut.result.now c.add_frame.new.started is c.args.self.now.takes
           (fits_either c.args.self.now.scripts.items c.args.self.now.started.items c.args.child c.index_mut.result.now c.add_frame.new.started is c.add_frame.ensures.call fits c.add_frame.result _ c.add_frame.ensures.taken c.add_frame.ensures.ok c.add_frame.ensures.err);
+      joins = each_set (IsJoined c.args.self.now.scripts.items) c.args.self.now.started.items c.args.child c.index_mut.result.now c.add_frame.new.started is c.args.self.now.joins c.add_frame.ensures.joined;
       lives = lives_set c.args.self.now.live.items c.args.self.now.started.items c.args.child c.add_frame.new.started c.args.self.now.lives;
     }
 
@@ -20,6 +27,11 @@ pub returns-in_err-add_frame-clause-change : goal.returns-in_err-add_frame-claus
 returns-in_err-add_frame-clause-change c = λ _.
     let is = found_at c.args.self.now.started.items c.args.child c.index_mut.result.now (c.args.self.now.lives c.args.child c.requires) c.index_mut.ensures.value in
     changes c.args.self.now.scripts.items c.args.self.now.started.items c.args.child c.index_mut.result.now c.add_frame.new.started is c.add_frame.ensures.call
+
+pub returns-in_err-add_frame-clause-memory : goal.returns-in_err-add_frame-clause-memory
+returns-in_err-add_frame-clause-memory c = λ _ _.
+    let is = found_at c.args.self.now.started.items c.args.child c.index_mut.result.now (c.args.self.now.lives c.args.child c.requires) c.index_mut.ensures.value in
+    kept c.args.self.now.scripts.items c.args.self.now.started.items c.args.child c.index_mut.result.now c.add_frame.new.started is c.add_frame.ensures.call c.add_frame.ensures.taken (search rules)
 
 pub returns-clause-change : goal.returns-clause-change
 returns-clause-change c = λ _.
