@@ -9,7 +9,7 @@ use Rattle.std.specs.FinMap.{is_sorted, get-from_entries, get-entries, entries_s
 use Rattle.std.specs.FinMap.Entries.{below_all}
 use Rattle.std.proofs.lemmas.Bool.{false_from_ne_true, true≢false, eq-eqb}
 use Rattle.std.proofs.lemmas.List.{nil_from_length}
-use Rattle.std.proofs.lemmas.List.Elements.{All-head, All-tail, All-cons, All-map, All-contains, Contains-get_or}
+use Rattle.std.proofs.lemmas.List.Elements.{All-head, All-tail, All-cons, All-map, All-contains}
 use Rattle.std.proofs.lemmas.Slice.Eq.{bytes_eq-Decides}
 use Rattle.apt_outside.specs.Files.{Files, file_at, is_below}
 use Rattle.apt_outside.proofs.HeldLemmas.{file_at-insert, same_files}
