@@ -1,0 +1,100 @@
+-- A frame is sent, and the answer is read.
+use Rattle.std.proofs.Common.{◌≡◌, ℕ, suc, ◌+◌, ◌-◌, List, [], ◌∷◌, ◌++◌, length, Option, None, Some, option_map, Result, Ok, Err, IfOk, IfSome, IsSome, IsSomeAnd, refl, sym, ap, ◌∙◌, subst, length-append, arith}
+use Rattle.std.specs.Prelude.{option_and_then}
+use Rattle.apt_outside.specs.Child.{Says, Child, Known, Changes, Sends, written_by}
+use Rattle.wire_frames.specs.declared.frame.Frame.{Frame}
+use Rattle.wire_frames.specs.Frames.{frame_at}
+use Rattle.child_session.specs.Talk.{Stream, rest_after, frame_behind, answer_to, HasAnswered, Exchanged, Exchanges, FindsFrame, TakesFrame}
+use Rattle.child_session.proofs.FrameLemmas.{rest_after-append, rest_after-next}
+
+-- where the frame before it is answered, what waits begins with the answer
+next_answer : (stream : Stream) (sent : List (List ℕ)) (frame : List ℕ) (waiting : List ℕ) → rest_after (length sent) (stream (sent ++ frame ∷ [])) ≡ Some waiting → answer_to stream (sent ++ frame ∷ []) ≡ option_map (λ x. x.0) (frame_at waiting)
+next_answer stream sent frame waiting is =
+    let place : length (sent ++ frame ∷ []) - 1 ≡ length sent = omega (arith, length-append sent (frame ∷ [])) in
+    ap (λ n. option_map (λ x. x.0) (frame_behind n (stream (sent ++ frame ∷ [])))) place ∙ ap (λ o. option_map (λ x. x.0) (option_and_then frame_at o)) is
+
+record Sent (says : Says) (frame : List ℕ) (a b : Child) : Type 0 where
+  name : b.name ≡ a.name
+  command : b.command ≡ a.command
+  sent : b.sent ≡ a.sent ++ frame ∷ []
+  more : List ℕ
+  wrote : written_by says b ≡ written_by says a ++ more
+  waits : b.waiting ≡ a.waiting ++ more
+
+stream_is : (says : Says) (a c : Child) (sent : List (List ℕ)) → c.name ≡ a.name → c.command ≡ a.command → c.sent ≡ sent → written_by says c ≡ says a.name a.command sent
+stream_is says a c sent name command is = ap (λ n. says n c.command c.sent) name ∙ ap (λ w. says a.name w c.sent) command ∙ ap (says a.name a.command) is
+
+-- what waits once the frame was sent stands behind the answers to the frames before it
+behind : (says : Says) (frame : List ℕ) (a b : Child) → Sent says frame a b → HasAnswered says a → rest_after (length a.sent) (says a.name a.command (a.sent ++ frame ∷ [])) ≡ Some b.waiting
+behind says frame a b s before =
+    let wrote : says a.name a.command (a.sent ++ frame ∷ []) ≡ written_by says a ++ s.more = sym (stream_is says a b (a.sent ++ frame ∷ []) s.name s.command s.sent) ∙ s.wrote in
+    ap (rest_after (length a.sent)) wrote ∙ rest_after-append (length a.sent) (written_by says a) a.waiting s.more before ∙ ap Some (sym s.waits)
+
+found_is : (b c : Child) (found : Option Frame) → FindsFrame b.waiting found c.waiting → found ≡ option_map (λ x. x.0) (frame_at b.waiting)
+found_is b c None finds = ap (option_map {T = Frame × List ℕ} (λ x. x.0)) (sym finds)
+found_is b c (Some frame) finds = ap (option_map {T = Frame × List ℕ} (λ x. x.0)) (sym finds)
+
+-- an answer that was found is one frame more
+has_answered : (says : Says) (frame : List ℕ) (a b c : Child) (found : Option Frame) → Sent says frame a b → c.name ≡ a.name → c.command ≡ a.command → c.sent ≡ a.sent ++ frame ∷ [] → FindsFrame b.waiting found c.waiting → HasAnswered says a → IsSome found → HasAnswered says c
+has_answered says frame a b c None s name command sent finds before some = absurd cc
+has_answered says frame a b c (Some f) s name command sent finds before some =
+    let count : length c.sent ≡ suc (length a.sent) = omega (arith, ap length sent, length-append a.sent (frame ∷ [])) in
+    ap (λ n. rest_after n (written_by says c)) count ∙ ap (rest_after (suc (length a.sent))) (stream_is says a c (a.sent ++ frame ∷ []) name command sent)
+    ∙ rest_after-next (length a.sent) (says a.name a.command (a.sent ++ frame ∷ [])) b.waiting c.waiting f (behind says frame a b s before) finds
+
+-- what is known of three moments: before the frame, after it was sent, and after its answer was read
+answered : (says : Says) (frame : List ℕ) (a b c : Child) (found : Option Frame) → Sent says frame a b → c.name ≡ b.name → c.command ≡ b.command → c.sent ≡ b.sent → FindsFrame b.waiting found c.waiting → HasAnswered says a → Exchanged says frame found a c
+answered says frame a b c found s name command sent finds before =
+    let name_is : c.name ≡ a.name = name ∙ s.name in
+    let command_is : c.command ≡ a.command = command ∙ s.command in
+    let sent_is : c.sent ≡ a.sent ++ frame ∷ [] = sent ∙ s.sent in
+    record {
+      name = name_is;
+      command = command_is;
+      sent = sent_is;
+      answer_is = found_is b c found finds ∙ sym (next_answer (says a.name a.command) a.sent frame b.waiting (behind says frame a b s before)) ∙ ap (answer_to (says a.name a.command)) (sym sent_is);
+      answered = has_answered says frame a b c found s name_is command_is sent_is finds before;
+    }
+
+same_child_at : (x y : Option Child) (b c : Child) → x ≡ Some b → y ≡ Some c → (d : Child) × (y ≡ Some d) × (d.name ≡ b.name) × (d.command ≡ b.command) → (c.name ≡ b.name) × (c.command ≡ b.command)
+same_child_at x y b c xb yc kept =
+    let is : kept.0 ≡ c = let both : Some kept.0 ≡ Some c = sym kept.1 ∙ yc in cc in
+    (ap (λ d. d.name) (sym is) ∙ kept.2, ap (λ d. d.command) (sym is) ∙ kept.3)
+
+-- the change of one child, seen at the children that are known
+kept_child : (child : ℕ) (known known' : Known) (b c : Child) → Changes child known known' → known child ≡ Some b → known' child ≡ Some c → (c.name ≡ b.name) × (c.command ≡ b.command)
+kept_child child known known' b c change is is' = same_child_at (known child) (known' child) b c is is' (change.same_child b is)
+
+sent_at : (says : Says) (frame : List ℕ) (x y : Option Child) (a b : Child) → x ≡ Some a → y ≡ Some b → b.name ≡ a.name → b.command ≡ a.command → IfSome x (λ before. IsSomeAnd y (λ after. after.sent ≡ before.sent ++ frame ∷ []))
+    → IfSome x (λ before. IsSomeAnd y (λ after. (more : List ℕ) × (written_by says after ≡ written_by says before ++ more) × (after.waiting ≡ before.waiting ++ more))) → Sent says frame a b
+sent_at says frame x y a b xa yb name command sent waits =
+    let sent' : IfSome (Some a) (λ before. IsSomeAnd (Some b) (λ after. after.sent ≡ before.sent ++ frame ∷ [])) = subst (λ o. IfSome (Some a) (λ before. IsSomeAnd o (λ after. after.sent ≡ before.sent ++ frame ∷ []))) yb (subst (λ o. IfSome o (λ before. IsSomeAnd y (λ after. after.sent ≡ before.sent ++ frame ∷ []))) xa sent) in
+    let P : Child → Child → Type 0 = λ before after. (more : List ℕ) × (written_by says after ≡ written_by says before ++ more) × (after.waiting ≡ before.waiting ++ more) in
+    let waits' : P a b = subst (λ o. IsSomeAnd o (P a)) yb (subst (λ o. IfSome o (λ before. IsSomeAnd y (P before))) xa waits) in
+    record { name = name; command = command; sent = sent'; more = waits'.0; wrote = waits'.1; waits = waits'.2 }
+
+took_at : (x y : Option Child) (b c : Child) (found : Option Frame) → x ≡ Some b → y ≡ Some c → IfSome x (λ before. IsSomeAnd y (λ after. (after.sent ≡ before.sent) × FindsFrame before.waiting found after.waiting)) → (c.sent ≡ b.sent) × FindsFrame b.waiting found c.waiting
+took_at x y b c found xb yc first =
+    let P : Child → Child → Type 0 = λ before after. (after.sent ≡ before.sent) × FindsFrame before.waiting found after.waiting in
+    subst (λ o. IsSomeAnd o (P b)) yc (subst (λ o. IfSome o (λ before. IsSomeAnd y (P before))) xb first)
+
+module _ (child : ℕ) (says : Says) (k0 k1 k2 : Known) (frame : List ℕ) (found : Option Frame) where
+  at_child : Changes child k0 k1 → Sends says child frame k0 k1 → Changes child k1 k2 → TakesFrame child k1 k2 found → (a : Child) → k0 child ≡ Some a → HasAnswered says a → IsSomeAnd (k2 child) (Exchanged says frame found a)
+  at_child change sends change' takes a is before =
+      let b = change.same_child a is in
+      let c = change'.same_child b.0 b.1 in
+      let s = sent_at says frame (k0 child) (k1 child) a b.0 is b.1 b.2 b.3 sends.sent sends.waits in
+      let t = took_at (k1 child) (k2 child) b.0 c.0 found b.1 c.1 takes.first in
+      subst (λ o. IsSomeAnd o (Exchanged says frame found a)) (sym c.1) (answered says frame a b.0 c.0 found s c.2 c.3 t.0 t.1 before)
+
+  given : (P : Child → Type 0) (o : Option Child) → ((a : Child) → o ≡ Some a → P a) → IfSome o P
+  given P None h = tt
+  given P (Some a) h = h a refl
+
+  pub exchanges : Changes child k0 k1 → Sends says child frame k0 k1 → Changes child k1 k2 → TakesFrame child k1 k2 found → Exchanges child says k0 k2 frame found
+  exchanges change sends change' takes = record { exchanged = given _ (k0 child) (λ a is before. at_child change sends change' takes a is before) }
+
+-- a fact of what a call gave leads to another
+pub ok_map : {T E : Type 0} (r : Result T E) (P Q : T → Type 0) → ((x : T) → P x → Q x) → IfOk r P → IfOk r Q
+ok_map (Ok x) P Q h p = h x p
+ok_map (Err e) P Q h p = tt

@@ -1,0 +1,5 @@
+pub mod FrameLemmas
+pub mod Taking
+pub mod Answering
+pub mod Rounds
+pub mod Creations

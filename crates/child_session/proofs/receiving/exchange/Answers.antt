@@ -1,0 +1,9 @@
+use Rattle.child_session.proofs.Answering.{exchanges, ok_map}
+use Rattle.child_session.proofs.receiving.exchange.Goals as goal
+
+pub returns-clause-answer : goal.returns-clause-answer
+returns-clause-answer g c = λ told.
+    let C = g.C.Children in
+    ok_map c.read_frame.result _ _
+    (λ found takes. exchanges c.args.child (C.says c.args.children.now) _ _ _ c.args.frame.now found (c.send.ensures.change told) (c.in_ok-send.ensures.sent told) (c.read_frame.ensures.attends told).change takes)
+    (c.read_frame.ensures.taken told)

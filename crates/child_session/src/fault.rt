@@ -1,0 +1,65 @@
+// Why a session was refused.
+ghost use Rattle.std.specs.Prelude.{◌≡◌};
+ghost use Rattle.apt_outside.specs.declared.fault.Fault.TheVariants as outside;
+ghost use Rattle.child_session.specs.declared.fault.SessionFault.TheVariants.{Failed, Memory};
+ghost use Rattle.child_session.specs.Faults.{fault_of};
+
+use apt_outside::Fault;
+use decl_syntax::NoMemory;
+use std::alloc::{AllocError, AllocFailed};
+use wire_frames::FrameFault;
+
+/// Why a session was refused.
+#[derive(Clone, Copy, Debug, PartialEq, Eq)]
+pub enum SessionFault {
+    /// A call of the children failed, and their count of faults rose.
+    Failed,
+    /// The child's bytes are not the frames of this order and form, or it ended inside a frame that was wanted.
+    Unbuilt,
+    /// Want of memory.
+    Memory,
+}
+
+impl From<Fault> for SessionFault {
+    ghost from_gives = { λ fault e. e ≡ fault_of fault };
+
+    fn from(fault: Fault) -> SessionFault {
+        match fault {
+            Fault::Failed => SessionFault::Failed,
+            Fault::Memory => SessionFault::Memory,
+        }
+    }
+}
+
+impl From<AllocError> for SessionFault {
+    ghost from_gives = { λ _ e. e ≡ Memory };
+
+    fn from(_: AllocError) -> SessionFault {
+        SessionFault::Memory
+    }
+}
+
+impl<T: Drop> From<AllocFailed<T>> for SessionFault {
+    ghost from_gives = { λ _ e. e ≡ Memory };
+
+    fn from(_: AllocFailed<T>) -> SessionFault {
+        SessionFault::Memory
+    }
+}
+
+impl From<NoMemory> for SessionFault {
+    ghost from_gives = { λ _ e. e ≡ Memory };
+
+    fn from(_: NoMemory) -> SessionFault {
+        SessionFault::Memory
+    }
+}
+
+/// A frame that would pass the limit of a frame is answered as want of memory.
+impl From<FrameFault> for SessionFault {
+    ghost from_gives = { λ _ e. e ≡ Memory };
+
+    fn from(_: FrameFault) -> SessionFault {
+        SessionFault::Memory
+    }
+}

@@ -1,0 +1,14 @@
+//! A session with one child: frames are sent to it, and what it answers is read frame by frame.
+//!
+//! The contracts speak of what a child says to the frames that it was sent, and not of pieces of
+//! bytes: `specs/Talk.antt` has the frame that stands at a place of a child's stream, and what the
+//! answer to a round comes to.
+#![tactic(auto)]
+
+mod fault;
+mod receiving;
+mod round;
+
+pub use fault::SessionFault;
+pub use receiving::exchange;
+pub use round::show_round;

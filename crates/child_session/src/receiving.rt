@@ -1,0 +1,106 @@
+// Takes bytes and frames from a child.
+ghost use Rattle.std.specs.Prelude.{◌≡◌, ◌<◌, ◌≤◌, ◌+◌, [], length, Contains, IfOk, IfSome, option_map};
+ghost use Rattle.apt_outside.specs.Count.{HasCause, Told};
+ghost use Rattle.child_session.specs.Talk.{Attends, TakesMore, TakesCount, TakesFrame, Exchanges};
+
+use apt_outside::{Children, Fault};
+use std::alloc::Global;
+use wire_frames::{Frame, frame_length, read_child_frame};
+
+const ROOM: usize = 4096;
+
+/// Takes bytes that wait into the room, and adds them to those that came before.
+fn receive_more<C: Children>(
+    children: &mut C,
+    child: u32,
+    room: &mut [u8],
+    bytes: &mut Vec<u8>,
+) -> Result<usize, Fault>
+    requires lives { Contains (C.live children.old) child }
+    requires room { 0 < length room.old }
+    ensures cause { HasCause (C.faults children.old) (C.faults children.new) result }
+    ensures starts { C.starts children.new ≡ C.starts children.old }
+    ensures live { C.live children.new ≡ C.live children.old }
+    ensures attends { Told C.tells (Attends child (C.says children.old) (C.says children.new) (C.tried children.old) (C.tried children.new) (C.known children.old) (C.known children.new)) }
+    ensures fits { IfOk result (λ n. n ≤ length room.old) }
+    ensures counted { IfOk result (λ n. length bytes.new.items ≡ length bytes.old.items + n) }
+    ensures taken { Told C.tells (IfOk result (λ n. TakesMore child (C.known children.old) (C.known children.new) bytes.old.items bytes.new.items)) }
+    ensures ended { Told C.tells (IfOk result (λ n. n ≡ 0 → IfSome (C.known children.old child) (λ before. before.waiting ≡ []))) }
+{
+    let got = children.receive(child, room)?;
+    bytes.extend_from_slice(&room[..got])?;
+    Ok(got)
+}
+
+/// Takes so many bytes from a child, or none where it ends before.
+fn receive_bytes<C: Children>(
+    alloc: Global,
+    children: &mut C,
+    child: u32,
+    count: usize,
+) -> Result<Option<Vec<u8>>, Fault>
+    requires lives { Contains (C.live children.old) child }
+    ensures cause { HasCause (C.faults children.old) (C.faults children.new) result }
+    ensures starts { C.starts children.new ≡ C.starts children.old }
+    ensures live { C.live children.new ≡ C.live children.old }
+    ensures attends { Told C.tells (Attends child (C.says children.old) (C.says children.new) (C.tried children.old) (C.tried children.new) (C.known children.old) (C.known children.new)) }
+    ensures counted { IfOk result (λ found. IfSome found (λ bytes. length bytes.items ≡ count)) }
+    ensures taken { Told C.tells (IfOk result (λ found. TakesCount child (C.known children.old) (C.known children.new) count (option_map (λ bytes. bytes.items) found))) }
+{
+    let mut room = [0u8; ROOM];
+    let mut bytes = Vec::new(alloc);
+    while bytes.len() < count {
+        let wanted = (count - bytes.len()).min(ROOM);
+        if receive_more(children, child, &mut room[..wanted], &mut bytes)? == 0 {
+            return Ok(None);
+        }
+    }
+    Ok(Some(bytes))
+}
+
+/// The next frame of a child, or none where its bytes are no frame that a child may send, or it ends before the
+/// frame is whole.
+fn read_frame<C: Children>(
+    alloc: Global,
+    children: &mut C,
+    child: u32,
+) -> Result<Option<Frame>, Fault>
+    requires lives { Contains (C.live children.old) child }
+    ensures cause { HasCause (C.faults children.old) (C.faults children.new) result }
+    ensures starts { C.starts children.new ≡ C.starts children.old }
+    ensures live { C.live children.new ≡ C.live children.old }
+    ensures attends { Told C.tells (Attends child (C.says children.old) (C.says children.new) (C.tried children.old) (C.tried children.new) (C.known children.old) (C.known children.new)) }
+    ensures taken { Told C.tells (IfOk result (λ found. TakesFrame child (C.known children.old) (C.known children.new) found)) }
+{
+    let Some(head) = receive_bytes(alloc, children, child, 4)? else {
+        return Ok(None);
+    };
+    let Some(length) = frame_length(&head) else {
+        return Ok(None);
+    };
+    let Some(bytes) = receive_bytes(alloc, children, child, length as usize)? else {
+        return Ok(None);
+    };
+    match read_child_frame(alloc, &bytes) {
+        Ok(found) => Ok(found),
+        Err(_) => Err(Fault::Memory),
+    }
+}
+
+/// Sends a frame to a child, and gives its answer: the next frame, or none where its bytes are no such frame.
+pub fn exchange<C: Children>(
+    alloc: Global,
+    children: &mut C,
+    child: u32,
+    frame: &[u8],
+) -> Result<Option<Frame>, Fault>
+    requires lives { Contains (C.live children.old) child }
+    ensures cause { HasCause (C.faults children.old) (C.faults children.new) result }
+    ensures starts { C.starts children.new ≡ C.starts children.old }
+    ensures live { C.live children.new ≡ C.live children.old }
+    ensures attends { Told C.tells (Attends child (C.says children.old) (C.says children.new) (C.tried children.old) (C.tried children.new) (C.known children.old) (C.known children.new)) }
+    ensures answer { Told C.tells (IfOk result (λ answer. Exchanges child (C.says children.old) (C.known children.old) (C.known children.new) frame.now answer)) }
+{
+    children.send(child, frame)?;
+    read_frame(alloc, children, child)
+}

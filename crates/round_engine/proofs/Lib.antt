@@ -1,0 +1,4 @@
+pub mod Presence
+pub mod RunLemmas
+pub mod Sessions
+pub mod NumberLemmas

@@ -1,0 +1,141 @@
+// The numbers of the files that a run made.
+ghost use Rattle.std.specs.Prelude.{◌≡◌, ℕ, ◌+◌, ◌<◌, ◌≤◌, ◌^◌, ◌↔◌, [], map, length, true, All, Contains, IsTrue, IsOk, IfOk, IfSome, IfNone, string_bytes};
+ghost use Rattle.std.specs.Bool.{OnTrue};
+ghost use Rattle.std.specs.FinMap as fin;
+ghost use Rattle.std.specs.List.Sorted.{IsStrictlyIncreasing};
+ghost use Rattle.apt_outside.specs.Held.{files_of};
+ghost use Rattle.decl_syntax.specs.Fields.{is_text};
+ghost use Rattle.round_engine.specs.Numbering.{AreLeast, AreAhead, IsNextFree, SameFrom};
+
+use decl_syntax::{List, Name, NoMemory};
+use std::alloc::Global;
+use std::collections::BTreeMap;
+
+/// A file that a run made: where it is published, and the number of its file in the store.
+#[derive(Debug, Drop)]
+pub struct Made {
+    /// Its path in the output, as `CLASS_OUTPUT/x`.
+    pub path: Name,
+    /// The number of its store file.
+    pub store: u32,
+    /// What it holds.
+    pub bytes: List<u8>,
+}
+
+// The numbers that are left: those from `next` on but for the taken ones.
+#[derive(Drop)]
+struct Numbers<'a> {
+    taken: &'a [u32],
+    next: u64,
+}
+
+impl Numbers<'_> {
+    fn next_is_taken(&self) -> bool
+        requires { AreAhead self.now.taken.now self.now.next }
+        ensures taken { IsTrue result ↔ Contains self.now.taken.now self.now.next }
+        ensures small { OnTrue result (self.now.next < 2 ^ 32) }
+    {
+        match self.taken {
+            [first, ..] => u64::from(*first) == self.next,
+            [] => false,
+        }
+    }
+
+    // The least number that is left, which is then given. None where it would pass the largest `u32`.
+    fn give(&mut self) -> Option<u32>
+        requires { AreAhead self.old.taken.now self.old.next }
+        ensures free { IfSome result (IsNextFree self.old.taken.now self.old.next) }
+        ensures given { IfSome result (λ n. self.new.next ≡ n + 1) }
+        ensures none { IfNone result ((n : ℕ) → IsNextFree self.old.taken.now self.old.next n → 2 ^ 32 ≤ n) }
+        ensures ahead { AreAhead self.new.taken.now self.new.next }
+        ensures same { SameFrom self.new.next self.old.taken.now self.new.taken.now }
+    {
+        while self.next_is_taken() {
+            self.taken = &self.taken[1..];
+            self.next += 1;
+        }
+        let number = u32::try_from(self.next).ok()?;
+        self.next += 1;
+        Some(number)
+    }
+}
+
+// Whether so many bytes, or files, are written as a `u32`.
+fn fits(count: usize) -> bool
+    ensures { IsTrue result ↔ (count < 2 ^ 32) }
+{
+    u32::try_from(count).is_ok()
+}
+
+// The file under its number, which takes no memory. It fails where the path or the file has 2^32 bytes or more.
+fn made_file(alloc: Global, path: String, store: u32, bytes: Vec<u8>) -> Result<Made, NoMemory>
+    ensures file { IfOk result (λ file. file ≡ record { path = string_bytes path; store = store; bytes = bytes.items }) }
+    ensures text { IfOk result (λ file. is_text file.path ≡ true) }
+    ensures fits { IsOk result ↔ ((length (string_bytes path) < 2 ^ 32) × (length bytes.items < 2 ^ 32)) }
+{
+    if !fits(path.len()) || !fits(bytes.len()) {
+        return Err(NoMemory);
+    }
+    Ok(Made {
+        path: Name::from_string(alloc, path),
+        store,
+        bytes: List::from_vec(bytes),
+    })
+}
+
+/// The files that were made, ascending by path, each under the least number that is neither taken nor given to an
+/// earlier one.
+///
+/// It fails only for want of memory. No memory holds 2^32 files, or a path or a file of 2^32 bytes, or as many files
+/// as it takes until no number of 32 bits is left; so these too are answered with `NoMemory`.
+pub fn number_files(
+    alloc: Global,
+    taken: &[u32],
+    made: BTreeMap<String, Vec<u8>>,
+) -> Result<List<Made>, NoMemory>
+    requires { IsStrictlyIncreasing taken.now }
+    ensures files { IfOk result (λ files. map (λ file. (file.path, file.bytes)) files ≡ fin.entries (files_of made)) }
+    ensures numbers { IfOk result (λ files. AreLeast taken.now [] (map (λ file. file.store) files)) }
+    ensures texts { IfOk result (All (λ file. is_text file.path ≡ true)) }
+    ensures sizes { IfOk result (λ files. (length files < 2 ^ 32)
+        × All (λ file. (length file.path < 2 ^ 32) × (length file.bytes < 2 ^ 32)) files) }
+{
+    let mut numbers = Numbers { taken, next: 0 };
+    let mut files = List::new(alloc);
+    for (path, bytes) in made {
+        let store = numbers.give().ok_or(NoMemory)?;
+        files.push(made_file(alloc, path, store, bytes)?)?;
+    }
+    if !fits(files.len()) {
+        return Err(NoMemory);
+    }
+    Ok(files)
+}
+
+#[cfg(test)]
+mod tests {
+    use super::number_files;
+    use std::collections::BTreeMap;
+    use std::test::Fail;
+
+    #[test]
+    fn gives_the_least_free_numbers_in_order_of_paths(rt: HostRuntime) -> Result<(), Fail> {
+        let alloc = rt.alloc();
+        let mut made = BTreeMap::new(alloc);
+        made.insert(String::from_str(alloc, "c")?, b"last".to_vec(alloc)?)?;
+        made.insert(String::from_str(alloc, "a")?, b"first".to_vec(alloc)?)?;
+        made.insert(String::from_str(alloc, "b")?, b"".to_vec(alloc)?)?;
+        let files = number_files(alloc, &[0, 2, 3], made)?;
+        assert_eq!(rt; files.len(), 3);
+        for (at, (path, store, bytes)) in [("a", 1, "first"), ("b", 4, ""), ("c", 5, "last")]
+            .iter()
+            .enumerate()
+        {
+            let file = files.get(at).ok_or("absent")?;
+            assert_eq!(rt; file.path.as_str(), *path);
+            assert_eq!(rt; file.store, *store);
+            assert_eq!(rt; file.bytes.as_slice(), bytes.as_bytes());
+        }
+        Ok(())
+    }
+}

@@ -1,0 +1,31 @@
+// The units of a project, by the names of their types.
+ghost use Rattle.std.specs.Prelude.{◌≡◌, IfOk};
+ghost use Rattle.std.specs.FinMap.{keys};
+ghost use Rattle.apt_outside.specs.Held.{files_of};
+ghost use Rattle.round_engine.specs.Run.{is_present};
+
+use decl_syntax::{List, Name, NoMemory};
+use std::alloc::Global;
+use std::collections::BTreeMap;
+
+/// Whether an annotation of this name is written on a unit.
+pub fn is_present(units: &BTreeMap<String, Vec<u8>>, name: &[u8]) -> bool
+    ensures { result ≡ is_present (files_of units.now) name.now }
+{
+    let mut found = false;
+    for annotation in units.values() {
+        found = found || annotation.as_slice() == name;
+    }
+    found
+}
+
+/// The names of the units, ascending by their bytes.
+pub fn roots_of(alloc: Global, units: &BTreeMap<String, Vec<u8>>) -> Result<List<Name>, NoMemory>
+    ensures { IfOk result (λ roots. roots ≡ keys (files_of units.now)) }
+{
+    let mut roots = List::new(alloc);
+    for name in units.keys() {
+        roots.push(Name::new(alloc, name.as_str())?)?;
+    }
+    Ok(roots)
+}

@@ -1,0 +1,203 @@
+-- Of each part of a child's frame: what was written is read again, whatever follows, and what is read is spelled so.
+use Rattle.std.proofs.Common.{◌≡◌, ℕ, zero, suc, ◌+◌, ◌^◌, ◌<◌, Bool, true, false, cond, ◌&&◌, eqb, ltb, List, [], ◌∷◌, ◌++◌, length, Some, None, refl, sym, ap, subst, ◌∙◌, append_assoc, arith}
+use Rattle.std.specs.List.{flat_map, AllByRecursion}
+use Rattle.std.specs.Int.{w32, to_be_bytes}
+use Rattle.std.proofs.lemmas.Bool.{eqb-true, ltb-true, lt-ltb}
+use Rattle.std.proofs.lemmas.List.{length-append}
+use Rattle.decl_syntax.specs.Fields.{◌>>=◌, bool_form, bytes_form, text_form, is_text, u8_next, u32_next, bool_next, bytes_next, text_next}
+use Rattle.decl_syntax.proofs.Fields.{IsBytes, IsBytes-rest, bind_some, some_is, u8_next-again, u8_next-spelled, u32_next-again, u32_next-spelled, bool_next-again, bool_next-spelled, bytes_next-again, bytes_next-spelled, text_next-again, text_next-spelled}
+use Rattle.wire_frames.specs.declared.frame.Claim.{Claim}
+use Rattle.wire_frames.specs.declared.frame.Claim.TheVariants.{Always, Never, Varies}
+use Rattle.wire_frames.specs.declared.frame.Creation.TheVariants.{Resource}
+use Rattle.wire_frames.specs.declared.frame.Hello.{Hello}
+use Rattle.wire_frames.specs.declared.frame.Frame.{Frame}
+use Rattle.wire_frames.specs.declared.frame.Frame.TheVariants as frames
+use Rattle.wire_frames.specs.Frames.{texts_form, claim_number, are_distinct, AreDistinctTexts, texts_next, distinct_next, claim_of, hello_next, done_next, resource_next}
+use Rattle.wire_frames.proofs.Sizes.{length-text_form, count-le-texts_form}
+
+kept_some : {A : Type 0} (b : Bool) (x y : A) → cond b (Some x) None ≡ Some y → (b ≡ true) × (x ≡ y)
+kept_some true x y e = (refl, cc)
+kept_some false x y e = absurd cc
+
+-- each is a text
+abbrev AreTexts : List (List ℕ) → Type 0
+AreTexts texts = AllByRecursion (λ text. is_text text ≡ true) texts
+
+-- ---- lists of texts
+
+texts_next-again : (texts : List (List ℕ)) (rest : List ℕ) → AreTexts texts → length (flat_map text_form texts) < 2 ^ 32 → texts_next (length texts) (flat_map text_form texts ++ rest) ≡ Some (texts, rest)
+unfolding texts_next
+texts_next-again [] rest are short = refl
+texts_next-again (text ∷ texts) rest are short =
+    let sizes = length-append (text_form text) (flat_map text_form texts) in
+    let regrouped : flat_map text_form (text ∷ texts) ++ rest ≡ text_form text ++ (flat_map text_form texts ++ rest) = append_assoc (text_form text) (flat_map text_form texts) rest in
+    let first = text_next-again text (flat_map text_form texts ++ rest) are.0 (omega (arith, short, sizes, length-text_form text)) in
+    let others = texts_next-again texts rest are.1 (omega (arith, short, sizes)) in
+    rw (regrouped, first, others) refl
+
+distinct_next-again : (texts : List (List ℕ)) (rest : List ℕ) → AreDistinctTexts texts → length (texts_form texts) < 2 ^ 32 → distinct_next (texts_form texts ++ rest) ≡ Some (texts, rest)
+unfolding distinct_next
+distinct_next-again texts rest are short =
+    let sizes = length-append (to_be_bytes w32 (length texts)) (flat_map text_form texts) in
+    let regrouped : texts_form texts ++ rest ≡ to_be_bytes w32 (length texts) ++ (flat_map text_form texts ++ rest) = append_assoc (to_be_bytes w32 (length texts)) (flat_map text_form texts) rest in
+    let count = u32_next-again (length texts) (flat_map text_form texts ++ rest) (omega (arith, short, count-le-texts_form texts)) in
+    let all = texts_next-again texts rest are.0 (omega (arith, short, sizes)) in
+    rw (regrouped, count, all, are.1) refl
+
+-- what was read of a list of texts
+record Took (bytes : List ℕ) (form : List ℕ) (rest : List ℕ) : Type 0 where
+  parts : bytes ≡ form ++ rest
+  rest_fits : IsBytes rest
+
+took : (bytes form rest : List ℕ) → IsBytes bytes → bytes ≡ form ++ rest → Took bytes form rest
+took bytes form rest fits e = record { parts = e; rest_fits = IsBytes-rest bytes form rest e fits }
+
+Took-then : (a x b y c : List ℕ) → Took a x b → Took b y c → Took a (x ++ y) c
+Took-then a x b y c p q = record { parts = p.parts ∙ ap (λ (t : List ℕ). x ++ t) q.parts ∙ sym (append_assoc x y c); rest_fits = q.rest_fits }
+
+texts_next-spelled : (count : ℕ) (bytes : List ℕ) (x : List (List ℕ) × List ℕ) → IsBytes bytes → texts_next count bytes ≡ Some x → Took bytes (flat_map text_form x.0) x.1 × (length x.0 ≡ count) × AreTexts x.0
+unfolding texts_next
+texts_next-spelled zero bytes x fits e =
+    subst (λ (y : List (List ℕ) × List ℕ). Took bytes (flat_map text_form y.0) y.1 × (length y.0 ≡ 0) × AreTexts y.0) {x = ([], bytes)} (some_is ([], bytes) x e) (record { parts = refl; rest_fits = fits }, refl, tt)
+texts_next-spelled (suc count) bytes x fits e =
+    let a = bind_some (text_next bytes) (λ text. texts_next count text.1 >>= λ others. Some (text.0 ∷ others.0, others.1)) x e in
+    let b = bind_some (texts_next count a.0.1) (λ others. Some (a.0.0 ∷ others.0, others.1)) x a.2 in
+    let text = text_next-spelled bytes a.0.0 a.0.1 fits a.1 in
+    let first = took bytes (text_form a.0.0) a.0.1 fits text.0 in
+    let second = texts_next-spelled count a.0.1 b.0 first.rest_fits b.1 in
+    let made : List (List ℕ) × List ℕ = (a.0.0 ∷ b.0.0, b.0.1) in
+    subst (λ (y : List (List ℕ) × List ℕ). Took bytes (flat_map text_form y.0) y.1 × (length y.0 ≡ suc count) × AreTexts y.0) {x = made} (some_is made x b.2)
+    (Took-then bytes (text_form a.0.0) a.0.1 (flat_map text_form b.0.0) b.0.1 first second.0, ap suc second.1, (text.2, second.2))
+
+distinct_next-spelled : (bytes : List ℕ) (x : List (List ℕ) × List ℕ) → IsBytes bytes → distinct_next bytes ≡ Some x → Took bytes (texts_form x.0) x.1 × AreDistinctTexts x.0
+unfolding distinct_next
+distinct_next-spelled bytes x fits e =
+    let a = bind_some (u32_next bytes) (λ count. texts_next count.0 count.1 >>= λ texts. cond (are_distinct texts.0) (Some texts) None) x e in
+    let b = bind_some (texts_next a.0.0 a.0.1) (λ texts. cond (are_distinct texts.0) (Some texts) None) x a.2 in
+    let kept = kept_some (are_distinct b.0.0) b.0 x b.2 in
+    let count = u32_next-spelled bytes a.0.0 a.0.1 fits a.1 in
+    let first = took bytes (to_be_bytes w32 a.0.0) a.0.1 fits count.0 in
+    let second = texts_next-spelled a.0.0 a.0.1 b.0 first.rest_fits b.1 in
+    let both : Took bytes (texts_form b.0.0) b.0.1 = rw second.1 (Took-then bytes (to_be_bytes w32 a.0.0) a.0.1 (flat_map text_form b.0.0) b.0.1 first second.0) in
+    subst (λ (y : List (List ℕ) × List ℕ). Took bytes (texts_form y.0) y.1 × AreDistinctTexts y.0) {x = b.0} kept.1 (both, (second.2, kept.0))
+
+-- ---- claims
+
+claim_of-again : (claim : Claim) → claim_of (claim_number claim) ≡ Some claim
+claim_of-again Always = refl
+claim_of-again Never = refl
+claim_of-again Varies = refl
+
+claim_from : (number : ℕ) (claim : Claim) (always never varies : Bool) → eqb number 0 ≡ always → eqb number 1 ≡ never → eqb number 2 ≡ varies
+    → cond always (Some Always) (cond never (Some Never) (cond varies (Some Varies) None)) ≡ Some claim → number ≡ claim_number claim
+claim_from number claim true never varies p q r e = eqb-true number 0 p ∙ ap claim_number (some_is Always claim e)
+claim_from number claim false true varies p q r e = eqb-true number 1 q ∙ ap claim_number (some_is Never claim e)
+claim_from number claim false false true p q r e = eqb-true number 2 r ∙ ap claim_number (some_is Varies claim e)
+claim_from number claim false false false p q r e = absurd cc
+
+claim_of-spelled : (number : ℕ) (claim : Claim) → claim_of number ≡ Some claim → number ≡ claim_number claim
+claim_of-spelled number claim e = claim_from number claim (eqb number 0) (eqb number 1) (eqb number 2) refl refl refl e
+
+-- ---- frames
+
+-- the fields of a Hello, without the tag
+abbrev pub hello_fields : Hello → List ℕ
+hello_fields hello = texts_form hello.patterns ++ texts_form hello.options ++ claim_number hello.claim ∷ []
+
+pub hello_next-again : (hello : Hello) (rest : List ℕ) → AreDistinctTexts hello.patterns → AreDistinctTexts hello.options → length (hello_fields hello) < 2 ^ 32 → hello_next (hello_fields hello ++ rest) ≡ Some (frames.Hello hello, rest)
+unfolding hello_next
+hello_next-again hello rest patterns options short =
+    let p = texts_form hello.patterns in
+    let o = texts_form hello.options in
+    let n = claim_number hello.claim in
+    let sizes : length (hello_fields hello) ≡ length p + length o + 1 = simp length-append in
+    let regrouped : hello_fields hello ++ rest ≡ p ++ (o ++ (n ∷ rest)) = simp append_assoc in
+    let first = distinct_next-again hello.patterns (o ++ (n ∷ rest)) patterns (omega (arith, short, sizes)) in
+    let second = distinct_next-again hello.options (n ∷ rest) options (omega (arith, short, sizes)) in
+    rw (regrouped, first, second, u8_next-again n rest, claim_of-again hello.claim) refl
+
+pub hello_next-spelled : (bytes : List ℕ) (x : Frame × List ℕ) → IsBytes bytes → hello_next bytes ≡ Some x
+    → (hello : Hello) × (x.0 ≡ frames.Hello hello) × (bytes ≡ hello_fields hello ++ x.1) × AreDistinctTexts hello.patterns × AreDistinctTexts hello.options
+unfolding hello_next
+hello_next-spelled bytes x fits e =
+    let a = bind_some (distinct_next bytes) (λ patterns. distinct_next patterns.1 >>= λ options. u8_next options.1 >>= λ number. claim_of number.0 >>= λ claim. Some (frames.Hello (record { patterns = patterns.0; options = options.0; claim = claim }), number.1)) x e in
+    let b = bind_some (distinct_next a.0.1) (λ options. u8_next options.1 >>= λ number. claim_of number.0 >>= λ claim. Some (frames.Hello (record { patterns = a.0.0; options = options.0; claim = claim }), number.1)) x a.2 in
+    let c = bind_some (u8_next b.0.1) (λ number. claim_of number.0 >>= λ claim. Some (frames.Hello (record { patterns = a.0.0; options = b.0.0; claim = claim }), number.1)) x b.2 in
+    let d = bind_some (claim_of c.0.0) (λ claim. Some (frames.Hello (record { patterns = a.0.0; options = b.0.0; claim = claim }), c.0.1)) x c.2 in
+    let hello : Hello = record { patterns = a.0.0; options = b.0.0; claim = d.0 } in
+    let made : Frame × List ℕ = (frames.Hello hello, c.0.1) in
+    let first = distinct_next-spelled bytes a.0 fits a.1 in
+    let second = distinct_next-spelled a.0.1 b.0 first.0.rest_fits b.1 in
+    let third : b.0.1 ≡ claim_number d.0 ∷ c.0.1 = u8_next-spelled b.0.1 c.0.0 c.0.1 c.1 ∙ ap (λ (n : ℕ). n ∷ c.0.1) (claim_of-spelled c.0.0 d.0 d.1) in
+    let last = took b.0.1 (claim_number d.0 ∷ []) c.0.1 second.0.rest_fits third in
+    let all = Took-then bytes (texts_form a.0.0 ++ texts_form b.0.0) b.0.1 (claim_number d.0 ∷ []) c.0.1 (Took-then bytes (texts_form a.0.0) a.0.1 (texts_form b.0.0) b.0.1 first.0 second.0) last in
+    let same = some_is made x d.2 in
+    (hello, ap (λ (y : Frame × List ℕ). y.0) (sym same), all.parts ∙ ap (λ (y : Frame × List ℕ). hello_fields hello ++ y.1) same, first.1, second.1)
+
+pub done_next-again : (claimed : Bool) (rest : List ℕ) → done_next (bool_form claimed ++ rest) ≡ Some (frames.Done claimed, rest)
+unfolding done_next
+done_next-again claimed rest = rw (bool_next-again claimed rest) refl
+
+pub done_next-spelled : (bytes : List ℕ) (x : Frame × List ℕ) → done_next bytes ≡ Some x → (claimed : Bool) × (x.0 ≡ frames.Done claimed) × (bytes ≡ bool_form claimed ++ x.1)
+unfolding done_next
+done_next-spelled bytes x e =
+    let a = bind_some (bool_next bytes) (λ claimed. Some (frames.Done claimed.0, claimed.1)) x e in
+    let made : Frame × List ℕ = (frames.Done a.0.0, a.0.1) in
+    let same = some_is made x a.2 in
+    (a.0.0, ap (λ (y : Frame × List ℕ). y.0) (sym same), bool_next-spelled bytes a.0.0 a.0.1 a.1 ∙ ap (λ (y : Frame × List ℕ). bool_form a.0.0 ++ y.1) same)
+
+length-five : (x : ℕ) (a b c d : List ℕ) → length (x ∷ (a ++ b ++ c ++ d)) ≡ 1 + length a + length b + length c + length d
+length-five x a b c d = simp length-append (omega arith)
+
+five_regrouped : (x : ℕ) (a b c d rest : List ℕ) → (x ∷ (a ++ b ++ c ++ d)) ++ rest ≡ x ∷ (a ++ (b ++ (c ++ (d ++ rest))))
+five_regrouped x a b c d rest = simp append_assoc
+
+-- the fields of a resource's creation, without the tag
+abbrev pub resource_fields : ℕ → List ℕ → List ℕ → List ℕ → List ℕ
+resource_fields location folder relative content = location ∷ (text_form folder ++ text_form relative ++ bytes_form content ++ to_be_bytes w32 0)
+
+pub resource_next-again : (location : ℕ) (folder relative content rest : List ℕ) → location < 3 → is_text folder ≡ true → is_text relative ≡ true → length (resource_fields location folder relative content) < 2 ^ 32
+    → resource_next (resource_fields location folder relative content ++ rest) ≡ Some (frames.Create (Resource location folder relative content), rest)
+unfolding resource_next
+resource_next-again location folder relative content rest in_range is_folder is_relative short =
+    let none = to_be_bytes w32 0 in
+    let sizes : length (resource_fields location folder relative content) ≡ 1 + length (text_form folder) + length (text_form relative) + length (bytes_form content) + length none = length-five location (text_form folder) (text_form relative) (bytes_form content) none in
+    let regrouped : resource_fields location folder relative content ++ rest ≡ location ∷ (text_form folder ++ (text_form relative ++ (bytes_form content ++ (none ++ rest)))) = five_regrouped location (text_form folder) (text_form relative) (bytes_form content) none rest in
+    let first = text_next-again folder (text_form relative ++ (bytes_form content ++ (none ++ rest))) is_folder (omega (arith, short, sizes, length-text_form folder)) in
+    let second = text_next-again relative (bytes_form content ++ (none ++ rest)) is_relative (omega (arith, short, sizes, length-text_form relative)) in
+    let third = bytes_next-again content (none ++ rest) (omega (arith, short, sizes, length-text_form content)) in
+    let fourth = u32_next-again 0 rest (omega arith) in
+    rw (regrouped, u8_next-again location (text_form folder ++ (text_form relative ++ (bytes_form content ++ (none ++ rest)))), first, second, third, fourth, lt-ltb location 3 in_range) refl
+
+both_from : (a b : Bool) → (a && b) ≡ true → (a ≡ true) × (b ≡ true)
+both_from true b e = (refl, e)
+both_from false b e = absurd cc
+
+pub resource_next-spelled : (bytes : List ℕ) (x : Frame × List ℕ) → IsBytes bytes → resource_next bytes ≡ Some x
+    → (location : ℕ) × (folder : List ℕ) × (relative : List ℕ) × (content : List ℕ) × (x.0 ≡ frames.Create (Resource location folder relative content)) × (bytes ≡ resource_fields location folder relative content ++ x.1)
+    × (location < 3) × (is_text folder ≡ true) × (is_text relative ≡ true)
+unfolding resource_next
+resource_next-spelled bytes x fits e =
+    let made_of : ℕ → List ℕ → List ℕ → List ℕ → Frame = λ location folder relative content. frames.Create (Resource location folder relative content) in
+    let a = bind_some (u8_next bytes) (λ l. text_next l.1 >>= λ p. text_next p.1 >>= λ r. bytes_next r.1 >>= λ c. u32_next c.1 >>= λ o. cond (ltb l.0 3 && eqb o.0 0) (Some (made_of l.0 p.0 r.0 c.0, o.1)) None) x e in
+    let b = bind_some (text_next a.0.1) (λ p. text_next p.1 >>= λ r. bytes_next r.1 >>= λ c. u32_next c.1 >>= λ o. cond (ltb a.0.0 3 && eqb o.0 0) (Some (made_of a.0.0 p.0 r.0 c.0, o.1)) None) x a.2 in
+    let c = bind_some (text_next b.0.1) (λ r. bytes_next r.1 >>= λ c. u32_next c.1 >>= λ o. cond (ltb a.0.0 3 && eqb o.0 0) (Some (made_of a.0.0 b.0.0 r.0 c.0, o.1)) None) x b.2 in
+    let d = bind_some (bytes_next c.0.1) (λ c'. u32_next c'.1 >>= λ o. cond (ltb a.0.0 3 && eqb o.0 0) (Some (made_of a.0.0 b.0.0 c.0.0 c'.0, o.1)) None) x c.2 in
+    let o = bind_some (u32_next d.0.1) (λ o. cond (ltb a.0.0 3 && eqb o.0 0) (Some (made_of a.0.0 b.0.0 c.0.0 d.0.0, o.1)) None) x d.2 in
+    let made : Frame × List ℕ = (made_of a.0.0 b.0.0 c.0.0 d.0.0, o.0.1) in
+    let kept = kept_some (ltb a.0.0 3 && eqb o.0.0 0) made x o.2 in
+    let tests = both_from (ltb a.0.0 3) (eqb o.0.0 0) kept.0 in
+    let none : o.0.0 ≡ 0 = eqb-true o.0.0 0 tests.1 in
+    let first = took bytes (a.0.0 ∷ []) a.0.1 fits (u8_next-spelled bytes a.0.0 a.0.1 a.1) in
+    let folder = text_next-spelled a.0.1 b.0.0 b.0.1 first.rest_fits b.1 in
+    let second = took a.0.1 (text_form b.0.0) b.0.1 first.rest_fits folder.0 in
+    let relative = text_next-spelled b.0.1 c.0.0 c.0.1 second.rest_fits c.1 in
+    let third = took b.0.1 (text_form c.0.0) c.0.1 second.rest_fits relative.0 in
+    let content = bytes_next-spelled c.0.1 d.0.0 d.0.1 third.rest_fits d.1 in
+    let fourth = took c.0.1 (bytes_form d.0.0) d.0.1 third.rest_fits content.0 in
+    let origins = u32_next-spelled d.0.1 o.0.0 o.0.1 fourth.rest_fits o.1 in
+    let fifth : d.0.1 ≡ to_be_bytes w32 0 ++ o.0.1 = origins.0 ∙ ap (λ (n : ℕ). to_be_bytes w32 n ++ o.0.1) none in
+    let parts : bytes ≡ a.0.0 ∷ (text_form b.0.0 ++ (text_form c.0.0 ++ (bytes_form d.0.0 ++ (to_be_bytes w32 0 ++ o.0.1)))) =
+    first.parts ∙ ap (λ (t : List ℕ). a.0.0 ∷ t) (second.parts ∙ ap (λ (t : List ℕ). text_form b.0.0 ++ t) (third.parts ∙ ap (λ (t : List ℕ). text_form c.0.0 ++ t) (fourth.parts ∙ ap (λ (t : List ℕ). bytes_form d.0.0 ++ t) fifth))) in
+    let all : bytes ≡ resource_fields a.0.0 b.0.0 c.0.0 d.0.0 ++ o.0.1 = parts ∙ sym (five_regrouped a.0.0 (text_form b.0.0) (text_form c.0.0) (bytes_form d.0.0) (to_be_bytes w32 0) o.0.1) in
+    (a.0.0, b.0.0, c.0.0, d.0.0, ap (λ (y : Frame × List ℕ). y.0) (sym kept.1), all ∙ ap (λ (y : Frame × List ℕ). resource_fields a.0.0 b.0.0 c.0.0 d.0.0 ++ y.1) kept.1, ltb-true a.0.0 3 tests.0, folder.2, relative.2)

@@ -1,0 +1,4 @@
+pub mod Sizes
+pub mod Texts
+pub mod FieldLaws
+pub mod FrameLaws

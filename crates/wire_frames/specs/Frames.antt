@@ -1,0 +1,174 @@
+-- The frames that the host and a child send each other: the one spelling of each, and how a child's frame is read.
+-- A frame is a length of four bytes, from 1 to 134,217,724, and so many bytes: a tag of one byte and the tag's fields.
+use Rattle.std.specs.Prelude.{◌≡◌, ℕ, zero, suc, ◌<◌, ◌≤◌, Bool, true, not, ◌&&◌, ◌==◌, nat_lt, if◌then◌else◌, List, [], ◌∷◌, ◌++◌, length, take, drop, Option, Some, None, ⊤}
+use Rattle.std.specs.List.{flat_map, list_any, AllByRecursion}
+use Rattle.std.specs.Int.{w16, w32, to_be_bytes, from_be_bytes}
+use Rattle.std.specs.Str.{bytes_eq}
+use Rattle.decl_syntax.specs.Fields.{◌>>=◌, bool_form, bytes_form, text_form, is_text, front_next, u8_next, u32_next, bool_next, bytes_next, text_next}
+use Rattle.wire_frames.specs.declared.frame.Claim.{Claim}
+use Rattle.wire_frames.specs.declared.frame.Claim.TheVariants.{Always, Never, Varies}
+use Rattle.wire_frames.specs.declared.frame.Created.{Created}
+use Rattle.wire_frames.specs.declared.frame.Created.TheVariants.{Accepted, Exists, Unsupported, BadName, TooLarge}
+use Rattle.wire_frames.specs.declared.frame.Creation.{Creation}
+use Rattle.wire_frames.specs.declared.frame.Creation.TheVariants.{Resource}
+use Rattle.wire_frames.specs.declared.frame.Reply.TheVariants as replies
+use Rattle.wire_frames.specs.declared.frame.Hello.{Hello}
+use Rattle.wire_frames.specs.declared.frame.Init.{Init}
+use Rattle.wire_frames.specs.declared.frame.Frame.{Frame}
+use Rattle.wire_frames.specs.declared.frame.Frame.TheVariants as frames
+
+-- ---- spellings
+
+-- a list of texts: their number in four bytes, and each
+abbrev pub texts_form : List (List ℕ) → List ℕ
+texts_form texts = to_be_bytes w32 (length texts) ++ flat_map text_form texts
+
+-- an option: its key and its value
+abbrev pub option_form : List ℕ × List ℕ → List ℕ
+option_form option = text_form option.0 ++ text_form option.1
+
+abbrev pub options_form : List (List ℕ × List ℕ) → List ℕ
+options_form options = to_be_bytes w32 (length options) ++ flat_map option_form options
+
+abbrev pub claim_number : Claim → ℕ
+claim_number Always = 0
+claim_number Never = 1
+claim_number Varies = 2
+
+abbrev pub created_number : Created → ℕ
+created_number Accepted = 0
+created_number Exists = 1
+created_number Unsupported = 2
+created_number BadName = 3
+created_number TooLarge = 4
+
+-- each frame's tag and fields
+abbrev pub init_form : Init → List ℕ
+init_form init = 1 ∷ (text_form init.name ++ to_be_bytes w16 init.level ++ options_form init.options)
+
+abbrev pub round_form : ℕ → Bool → Bool → List (List ℕ) → List (List ℕ) → List ℕ
+round_form number over error offered roots = 2 ∷ (to_be_bytes w32 number ++ bool_form over ++ bool_form error ++ texts_form offered ++ texts_form roots)
+
+abbrev pub created_form : Created → List ℕ
+created_form created = 23 ∷ created_number created ∷ []
+
+abbrev pub hello_form : Hello → List ℕ
+hello_form hello = 64 ∷ (texts_form hello.patterns ++ texts_form hello.options ++ claim_number hello.claim ∷ [])
+
+abbrev pub done_form : Bool → List ℕ
+done_form claimed = 65 ∷ bool_form claimed
+
+-- the resource has no originating elements, which is a list of none
+abbrev pub resource_form : ℕ → List ℕ → List ℕ → List ℕ → List ℕ
+resource_form location folder relative content = 67 ∷ location ∷ (text_form folder ++ text_form relative ++ bytes_form content ++ to_be_bytes w32 0)
+
+abbrev pub creation_form : Creation → List ℕ
+creation_form (Resource location folder relative content) = resource_form location folder relative content
+
+unfoldable pub fields_of : Frame → List ℕ
+fields_of (frames.Init init) = init_form init
+fields_of (frames.Round number over error offered roots) = round_form number over error offered roots
+fields_of (frames.Reply (replies.Created created)) = created_form created
+fields_of (frames.Hello hello) = hello_form hello
+fields_of (frames.Done claimed) = done_form claimed
+fields_of (frames.Create creation) = creation_form creation
+
+-- the frame: the length of its tag and fields, and these
+abbrev pub spelling : Frame → List ℕ
+spelling frame = bytes_form (fields_of frame)
+
+-- ---- what a child may send
+
+-- no text stands in the list twice
+abbrev pub are_distinct : List (List ℕ) → Bool
+are_distinct [] = true
+are_distinct (text ∷ others) = not (list_any (bytes_eq text) others) && are_distinct others
+
+abbrev pub AreDistinctTexts : List (List ℕ) → Type 0
+AreDistinctTexts texts = AllByRecursion (λ text. is_text text ≡ true) texts × (are_distinct texts ≡ true)
+
+-- a child's frame: Hello, Done or the creation of a resource, with texts in UTF-8, and in Hello no text twice in a list
+abbrev pub IsFromChild : Frame → Type 0
+IsFromChild (frames.Init init) = ⊥
+IsFromChild (frames.Round number over error offered roots) = ⊥
+IsFromChild (frames.Reply reply) = ⊥
+IsFromChild (frames.Hello hello) = AreDistinctTexts hello.patterns × AreDistinctTexts hello.options
+IsFromChild (frames.Done claimed) = ⊤
+IsFromChild (frames.Create (Resource location folder relative content)) = (location < 3) × (is_text folder ≡ true) × (is_text relative ≡ true)
+
+-- a child's frame that is no longer than a frame may be
+abbrev pub MaySend : Frame → Type 0
+MaySend frame = IsFromChild frame × (length (fields_of frame) ≤ 134217724)
+
+-- ---- reading: what stands next, and the bytes after it
+
+-- so many texts
+unfoldable pub texts_next : ℕ → List ℕ → Option (List (List ℕ) × List ℕ)
+texts_next zero bytes = Some ([], bytes)
+texts_next (suc count) bytes = do
+  text ← text_next bytes
+  others ← texts_next count text.1
+  Some (text.0 ∷ others.0, others.1)
+
+-- a list of texts, no text twice
+unfoldable pub distinct_next : List ℕ → Option (List (List ℕ) × List ℕ)
+distinct_next bytes = do
+  count ← u32_next bytes
+  texts ← texts_next count.0 count.1
+  if are_distinct texts.0 then Some texts else None
+
+abbrev pub claim_of : ℕ → Option Claim
+claim_of number = if number == 0 then Some Always else (if number == 1 then Some Never else (if number == 2 then Some Varies else None))
+
+unfoldable pub hello_next : List ℕ → Option (Frame × List ℕ)
+hello_next bytes = do
+  patterns ← distinct_next bytes
+  options ← distinct_next patterns.1
+  number ← u8_next options.1
+  claim ← claim_of number.0
+  Some (frames.Hello (record { patterns = patterns.0; options = options.0; claim = claim }), number.1)
+
+unfoldable pub done_next : List ℕ → Option (Frame × List ℕ)
+done_next bytes = do
+  claimed ← bool_next bytes
+  Some (frames.Done claimed.0, claimed.1)
+
+unfoldable pub resource_next : List ℕ → Option (Frame × List ℕ)
+resource_next bytes = do
+  location ← u8_next bytes
+  folder ← text_next location.1
+  relative ← text_next folder.1
+  content ← bytes_next relative.1
+  origins ← u32_next content.1
+  if nat_lt location.0 3 && origins.0 == 0 then Some (frames.Create (Resource location.0 folder.0 relative.0 content.0), origins.1) else None
+
+-- the fields of a child's tag
+abbrev pub fields_next : ℕ → List ℕ → Option (Frame × List ℕ)
+fields_next tag bytes = if tag == 64 then hello_next bytes else (if tag == 65 then done_next bytes else (if tag == 67 then resource_next bytes else None))
+
+-- the child's frame whose tag and fields are the bytes, none left over
+unfoldable pub child_frame : List ℕ → Option Frame
+child_frame bytes = do
+  tag ← u8_next bytes
+  frame ← fields_next tag.0 tag.1
+  if length frame.1 == 0 then Some frame.0 else None
+
+-- ---- reading a stream
+
+-- the length that four bytes spell, where a frame may have it
+unfoldable pub length_of : List ℕ → Option ℕ
+length_of head = if length head == 4 && not (from_be_bytes w32 head == 0) && not (nat_lt 134217724 (from_be_bytes w32 head)) then Some (from_be_bytes w32 head) else None
+
+-- the length at the front, and the bytes after it
+abbrev pub length_at : List ℕ → Option (ℕ × List ℕ)
+length_at bytes = do
+  count ← length_of (take 4 bytes)
+  Some (count, drop 4 bytes)
+
+-- the first whole frame at the front, if a child may send it, and what follows it
+unfoldable pub frame_at : List ℕ → Option (Frame × List ℕ)
+frame_at bytes = do
+  count ← length_at bytes
+  body ← front_next count.0 count.1
+  frame ← child_frame body.0
+  Some (frame, body.1)

@@ -1,0 +1,219 @@
+ghost use Rattle.std.specs.Prelude.{◌≡◌, ℕ, true, map, length, IfOk, IfSome, Some};
+ghost use Rattle.wire_frames.specs.Frames.{are_distinct, texts_next, distinct_next, claim_of, hello_next, done_next, resource_next, fields_next, child_frame, length_of, fields_of, IsFromChild, MaySend};
+ghost use Rattle.decl_syntax.specs.Fields.{text_next, bytes_next};
+ghost use Rattle.wire_frames.specs.Reading.{Gives, GivesAll};
+
+use crate::frame::{Claim, Creation, Frame, Hello};
+use crate::tags::{DONE, HELLO, RESOURCE};
+use crate::writing::MAX_FRAME;
+use decl_syntax::{FieldReader, List, Name, NoMemory};
+use std::alloc::Global;
+use std::collections::BTreeSet;
+
+// Why no frame was read.
+#[derive(Clone, Copy, Debug, PartialEq, Eq)]
+pub enum Flaw {
+    Bad,
+    Memory,
+}
+
+impl From<NoMemory> for Flaw {
+    ghost use Rattle.wire_frames.specs.declared.reading.Flaw.TheVariants as flaws;
+
+    ghost from_gives = { λ _ flaw. flaw ≡ flaws.Memory };
+
+    fn from(_: NoMemory) -> Flaw {
+        Flaw::Memory
+    }
+}
+
+// ---- fields
+
+#[tactic(auto, unfolding(crate::specs::Frames::texts_next))]
+fn texts(alloc: Global, count: u32, reader: &mut FieldReader<'_>) -> Result<List<Name>, Flaw>
+    ensures { Gives (texts_next count) reader.old reader.new result }
+{
+    let mut texts = List::new(alloc);
+    for _ in 0..count {
+        let Some(text) = reader.text() else {
+            return Err(Flaw::Bad);
+        };
+        texts.push(Name::new(alloc, text)?)?;
+    }
+    Ok(texts)
+}
+
+fn are_distinct(alloc: Global, texts: &[Name]) -> Result<bool, NoMemory>
+    ensures { IfOk result (λ distinct. distinct ≡ are_distinct texts.now) }
+{
+    let set: BTreeSet<&str> = texts.iter().map(|text| text.as_str()).collect(alloc)?;
+    Ok(set.len() == texts.len())
+}
+
+#[tactic(auto, unfolding(crate::specs::Frames::distinct_next))]
+fn distinct_texts(alloc: Global, reader: &mut FieldReader<'_>) -> Result<List<Name>, Flaw>
+    ensures { Gives distinct_next reader.old reader.new result }
+{
+    let Some(count) = reader.u32() else {
+        return Err(Flaw::Bad);
+    };
+    let texts = texts(alloc, count, reader)?;
+    if !are_distinct(alloc, texts.as_slice())? {
+        return Err(Flaw::Bad);
+    }
+    Ok(texts)
+}
+
+fn claim_of(number: u8) -> Option<Claim>
+    ensures { result ≡ claim_of number }
+{
+    match number {
+        0 => Some(Claim::Always),
+        1 => Some(Claim::Never),
+        2 => Some(Claim::Varies),
+        _ => None,
+    }
+}
+
+// ---- frames
+
+#[tactic(auto, unfolding(crate::specs::Frames::hello_next))]
+fn hello(alloc: Global, reader: &mut FieldReader<'_>) -> Result<Frame, Flaw>
+    ensures { Gives hello_next reader.old reader.new result }
+{
+    let patterns = distinct_texts(alloc, reader)?;
+    let options = distinct_texts(alloc, reader)?;
+    let Some(number) = reader.u8() else {
+        return Err(Flaw::Bad);
+    };
+    let Some(claim) = claim_of(number) else {
+        return Err(Flaw::Bad);
+    };
+    Ok(Frame::Hello(Hello {
+        patterns,
+        options,
+        claim,
+    }))
+}
+
+#[tactic(auto, unfolding(crate::specs::Frames::done_next))]
+fn done(reader: &mut FieldReader<'_>) -> Result<Frame, Flaw>
+    ensures { Gives done_next reader.old reader.new result }
+{
+    match reader.bool() {
+        Some(claimed) => Ok(Frame::Done { claimed }),
+        None => Err(Flaw::Bad),
+    }
+}
+
+fn name(alloc: Global, reader: &mut FieldReader<'_>) -> Result<Name, Flaw>
+    ensures { Gives text_next reader.old reader.new result }
+{
+    let Some(text) = reader.text() else {
+        return Err(Flaw::Bad);
+    };
+    Ok(Name::new(alloc, text)?)
+}
+
+fn content(alloc: Global, reader: &mut FieldReader<'_>) -> Result<List<u8>, Flaw>
+    ensures { Gives bytes_next reader.old reader.new result }
+{
+    let Some(bytes) = reader.bytes() else {
+        return Err(Flaw::Bad);
+    };
+    match bytes.to_vec(alloc) {
+        Ok(bytes) => Ok(List::from_vec(bytes)),
+        Err(_) => Err(Flaw::Memory),
+    }
+}
+
+#[tactic(auto, unfolding(crate::specs::Frames::resource_next))]
+fn resource(alloc: Global, reader: &mut FieldReader<'_>) -> Result<Frame, Flaw>
+    ensures { Gives resource_next reader.old reader.new result }
+{
+    let Some(location) = reader.u8() else {
+        return Err(Flaw::Bad);
+    };
+    let package = name(alloc, reader)?;
+    let relative = name(alloc, reader)?;
+    let content = content(alloc, reader)?;
+    let Some(origins) = reader.u32() else {
+        return Err(Flaw::Bad);
+    };
+    if location > 2 || origins > 0 {
+        return Err(Flaw::Bad);
+    }
+    Ok(Frame::Create(Creation::Resource {
+        location,
+        package,
+        relative,
+        content,
+    }))
+}
+
+fn fields(alloc: Global, tag: u8, reader: &mut FieldReader<'_>) -> Result<Frame, Flaw>
+    ensures { Gives (fields_next tag) reader.old reader.new result }
+{
+    match tag {
+        HELLO => hello(alloc, reader),
+        DONE => done(reader),
+        RESOURCE => resource(alloc, reader),
+        _ => Err(Flaw::Bad),
+    }
+}
+
+#[tactic(auto, unfolding(crate::specs::Frames::child_frame))]
+fn frame_of(alloc: Global, bytes: &[u8]) -> Result<Frame, Flaw>
+    ensures { GivesAll (child_frame bytes.now) result }
+{
+    let mut reader = FieldReader::new(bytes);
+    let Some(tag) = reader.u8() else {
+        return Err(Flaw::Bad);
+    };
+    let frame = fields(alloc, tag, &mut reader)?;
+    if reader.left() > 0 {
+        return Err(Flaw::Bad);
+    }
+    Ok(frame)
+}
+
+/// The length that the four bytes at the front of a frame spell, or None where a frame can't have
+/// it, and where they aren't four.
+#[tactic(auto, unfolding(crate::specs::Frames::length_of))]
+pub fn frame_length(head: &[u8]) -> Option<u32>
+    ensures { result ≡ length_of head.now }
+{
+    if head.len() != 4 {
+        return None;
+    }
+    let count = u32::from_be_bytes([head[0], head[1], head[2], head[3]]);
+    if count == 0 || count as usize > MAX_FRAME - 4 {
+        None
+    } else {
+        Some(count)
+    }
+}
+
+fn child_frame(alloc: Global, bytes: &[u8]) -> Result<Option<Frame>, NoMemory>
+    ensures { IfOk result (λ found. found ≡ child_frame bytes.now) }
+{
+    match frame_of(alloc, bytes) {
+        Ok(frame) => Ok(Some(frame)),
+        Err(Flaw::Bad) => Ok(None),
+        Err(Flaw::Memory) => Err(NoMemory),
+    }
+}
+
+/// The child's frame whose tag and fields are these bytes, all of them: `Hello`, `Done` or `Create`.
+///
+/// None comes where they are no such frame's: texts are in UTF-8, in `Hello` no text stands twice in
+/// a list, and each number is in its range. The only error is `NoMemory`.
+pub fn read_child_frame(alloc: Global, bytes: &[u8]) -> Result<Option<Frame>, NoMemory>
+    ensures exact { IfOk result (λ found. found ≡ child_frame bytes.now) }
+    // What is read is spelled so, and a child may send it.
+    ensures found { IfOk result (λ found. IfSome found (λ frame. IsFromChild frame × (bytes.now ≡ fields_of frame))) }
+    // What is spelled so is read, so each frame has one spelling.
+    ensures only { (frame : Frame) → MaySend frame → bytes.now ≡ fields_of frame → IfOk result (λ found. found ≡ Some frame) }
+{
+    child_frame(alloc, bytes)
+}
