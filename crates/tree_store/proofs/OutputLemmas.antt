@@ -9,14 +9,14 @@ use Rattle.std.specs.FinMap.{is_sorted, get-from_entries, get-entries, entries_s
 use Rattle.std.specs.FinMap.Entries.{below_all}
 use Rattle.std.proofs.lemmas.Bool.{false_from_ne_true, true≢false, eq-eqb}
 use Rattle.std.proofs.lemmas.List.{nil_from_length}
-use Rattle.std.proofs.lemmas.List.Elements.{All-head, All-tail, All-cons, All-map, All-contains, Contains-get_or}
+use Rattle.std.proofs.lemmas.List.Elements.{All-head, All-tail, All-cons, All-map, All-contains}
 use Rattle.std.proofs.lemmas.Slice.Eq.{bytes_eq-Decides}
 use Rattle.apt_outside.specs.Files.{Files, file_at, is_below}
 use Rattle.apt_outside.proofs.HeldLemmas.{file_at-insert, same_files}
 use Rattle.tree_store.specs.declared.record.StoredFile.{StoredFile}
 use Rattle.tree_store.specs.RecordFormat.{ascends, record_form, read_record, IsEntry}
 use Rattle.tree_store.specs.Output.{store_path, record_path, entries_of, stored, output_of, named_paths, StoresStand, SameOutside}
-use Rattle.tree_store.specs.Storing.{Numbered, paths_of, AreAbsent, AreUnnamed, ChangesAmong, AddsToStore, IsEntryOf, Holds}
+use Rattle.tree_store.specs.Storing.{Numbered, paths_of, AreAbsent, ChangesAmong, AddsToStore, IsEntryOf, Holds}
 use Rattle.tree_store.proofs.RecordLemmas.{read_record-record_form}
 use Rattle.tree_store.proofs.StorePaths.{store_path-ne-record_path, store_path-below-store}
 
@@ -48,25 +48,21 @@ StoresStand-same old new same stores stand =
     let names : named_paths new ≡ named_paths old = ap (map (λ entry. store_path entry.store)) (entries_of-same old new same) in
     subst (λ (paths : List (List ℕ)). All (λ path. IsSome (file_at new path)) paths) (sym names) (λ k d lt. subst IsSome (sym (stores k d lt)) (stand k d lt))
 
--- where each named store file stands, a path without a file is none that the record names
-pub unnamed_from_absent : (tree : Files) (files : Numbered) → StoresStand tree → AreAbsent tree files → AreUnnamed tree files
-unnamed_from_absent tree files stand absent = λ k d lt has. true≢false (sym (subst IsSome (absent k d lt) (All-contains (λ path. IsSome (file_at tree path)) (named_paths tree) _ stand has)))
-
 -- store files that were absent are gained, and nothing else changes
 pub adds_to_store : (old new : Files) (files : Numbered) → AreAbsent old files → ChangesAmong (paths_of files) old new → AddsToStore old new
 adds_to_store old new files absent only =
     let paths = paths_of files in
+    let kept : (q : List ℕ) → IsSome (file_at old q) → file_at new q ≡ file_at old q =
+    λ q stands. only.others q (λ has. true≢false (sym (subst IsSome (All-contains (λ path. file_at old path ≡ None) paths q absent has) stands))) in
     let not_record : ¬ Contains paths record_path = λ has. All-contains (λ path. path ≢ record_path) paths record_path (All-map (λ path. path ≢ record_path) (λ (f : ℕ × List ℕ). store_path f.0) files (λ k d lt. store_path-ne-record_path _)) has refl in
     let record_same : file_at new record_path ≡ file_at old record_path = only.others record_path not_record in
-    let stores_same : StoresStand old → All (λ path. file_at new path ≡ file_at old path) (named_paths old) =
-    λ stand k d lt. only.others _ (λ has. All-contains (λ path. ¬ Contains (named_paths old) path) paths _ (unnamed_from_absent old files stand absent) has (Contains-get_or (named_paths old) k d lt)) in
     record {
-      kept = λ q stands. only.others q (λ has. true≢false (sym (subst IsSome (All-contains (λ path. file_at old path ≡ None) paths q absent has) stands)));
+      kept = kept;
       inside = record {
         others = λ q outside. only.others q (λ has. true≢false (sym (All-contains (λ path. is_below (codes "out/store") path ≡ true) paths q (All-map (λ path. is_below (codes "out/store") path ≡ true) (λ (f : ℕ × List ℕ). store_path f.0) files (λ k d lt. store_path-below-store _)) has) ∙ outside));
       };
-      output = λ stand. output_of-same old new record_same (stores_same stand);
-      stand = λ stand. StoresStand-same old new record_same (stores_same stand) stand;
+      output = λ stand. output_of-same old new record_same (λ k d lt. kept _ (stand k d lt));
+      stand = λ stand. StoresStand-same old new record_same (λ k d lt. kept _ (stand k d lt)) stand;
     }
 
 -- ---- what the record publishes
@@ -187,3 +183,9 @@ StoresStand-no_record files none = λ k d lt. absurd (omega (arith, ap (λ (es :
 -- an empty tree has no files and names none
 pub absent_of_empty : (tree : Files) (files : Numbered) → tree ≡ fin.empty → AreAbsent tree files
 absent_of_empty tree files is = λ k d lt. rw is (get-empty (slice_cmp nat_cmp) _)
+
+pub StoresStand-empty : StoresStand fin.empty
+StoresStand-empty = StoresStand-no_record fin.empty (get-empty (slice_cmp nat_cmp) record_path)
+
+pub output_of-empty : output_of fin.empty ≡ fin.empty
+output_of-empty = output_of-no_record fin.empty (get-empty (slice_cmp nat_cmp) record_path)

@@ -95,10 +95,10 @@ kept_some true true false x y e = absurd cc
 kept_some true false c x y e = absurd cc
 kept_some false b c x y e = absurd cc
 
-joined : (bytes head entries rest : List ℕ) (m n : ℕ) → bytes ≡ (head ++ to_be_bytes w32 m ++ entries) ++ rest → rest ≡ [] → head ≡ record_head → m ≡ n → bytes ≡ record_head ++ to_be_bytes w32 n ++ entries
+joined : (bytes head entries rest : List ℕ) (m n : ℕ) → bytes ≡ (head ++ to_be_bytes w32 m ++ entries) ++ rest → rest ≡ [] → head ≡ record_head → n ≡ m → bytes ≡ record_head ++ to_be_bytes w32 n ++ entries
 joined bytes head entries rest m n parts ended named same =
     let all : (head ++ to_be_bytes w32 m ++ entries) ++ rest ≡ head ++ to_be_bytes w32 m ++ entries = ap (λ (t : List ℕ). (head ++ to_be_bytes w32 m ++ entries) ++ t) ended ∙ append-nil (head ++ to_be_bytes w32 m ++ entries) in
-    parts ∙ all ∙ (λ i. named i ++ to_be_bytes w32 (same i) ++ entries)
+    parts ∙ all ∙ (λ i. named i ++ to_be_bytes w32 (sym same i) ++ entries)
 
 as_read : (bytes : List ℕ) (read files : List StoredFile) → read ≡ files → bytes ≡ record_form read → IsRecord read → (bytes ≡ record_form files) × IsRecord files
 as_read bytes read files same spelled is = subst (λ (fs : List StoredFile). (bytes ≡ record_form fs) × IsRecord fs) same (spelled, is)
@@ -119,6 +119,5 @@ read_record-spelled bytes files fits e =
     let three = then_takes bytes (h.0.0 ++ to_be_bytes w32 n.0.0) n.0.1 (flat_map entry_form r.0.0) r.0.1 two list.0 in
     let ended : r.0.1 ≡ [] = nil_from_length r.0.1 (eqb-true (length r.0.1) 0 k.1) in
     let named : h.0.0 ≡ record_head = (bytes_eq-Decides h.0.0 record_head).0 k.0 in
-    let same : n.0.0 ≡ length r.0.0 = sym list.1 in
-    let whole : bytes ≡ record_form r.0.0 = joined bytes h.0.0 (flat_map entry_form r.0.0) r.0.1 n.0.0 (length r.0.0) three.parts ended named same in
+    let whole : bytes ≡ record_form r.0.0 = joined bytes h.0.0 (flat_map entry_form r.0.0) r.0.1 n.0.0 (length r.0.0) three.parts ended named list.1 in
     as_read bytes r.0.0 files k.3 whole (record { count = omega (arith, list.1, number.1); entries = All-from_recursion IsEntry r.0.0 list.2; ascending = k.2 })

@@ -4,7 +4,7 @@ use Rattle.std.specs.List.{AllZip}
 use Rattle.std.specs.FinMap as fin
 use Rattle.apt_outside.specs.Files.{Files, file_at}
 use Rattle.tree_store.specs.declared.record.StoredFile.{StoredFile}
-use Rattle.tree_store.specs.Output.{store_path, named_paths, output_of, StoresStand, ChangesBelow}
+use Rattle.tree_store.specs.Output.{store_path, output_of, StoresStand, ChangesBelow}
 
 -- the numbers below 2^32 at whose store paths files stand
 abbrev pub AreTaken : Files → List ℕ → Type 0
@@ -25,10 +25,6 @@ AreDistinct files = AllPairs (λ a b. a.0 ≢ b.0) files
 -- no file stands at their paths
 abbrev pub AreAbsent : Files → Numbered → Type 0
 AreAbsent tree files = All (λ path. file_at tree path ≡ None) (paths_of files)
-
--- the record names none of them
-abbrev pub AreUnnamed : Files → Numbered → Type 0
-AreUnnamed tree files = All (λ path. ¬ Contains (named_paths tree) path) (paths_of files)
 
 -- each stands with its bytes
 abbrev pub AreWritten : Files → Numbered → Type 0

@@ -95,10 +95,11 @@ fn put_file<T: Tree>(
     Ok(())
 }
 
-/// Writes each of the files into the store under its number, in order, and stops at the first that fails.
+/// Writes each of the files into the store under its number, in order, and stops at the first that fails. The numbers
+/// differ, and no file stands at their paths.
 ///
-/// Whatever it answers, the published output is as it was, and so is each file that stood. `Failed` comes only where
-/// the tree's count rose.
+/// Whatever it answers, each file that stood is as it was, and so is the published output where each store file that
+/// the record names stood. `Failed` comes only where the tree's count rose.
 pub fn put_files<T: Tree>(
     alloc: Global,
     tree: &mut T,
