@@ -1,9 +1,9 @@
 -- How an index of rows is built and followed.
-use Rattle.std.proofs.Common.{◌≡◌, ◌≢◌, ◌⊎◌, ℕ, zero, suc, ◌+◌, ◌-◌, ◌<◌, ◌≤◌, eqb, true, false, List, [], ◌∷◌, length, slice_index, slice_set, get_or, replicate, Some, refl, sym, ap, ◌∙◌, subst, inl, inr, arith, length-set}
+use Rattle.std.proofs.Common.{◌≡◌, ◌≢◌, ◌⊎◌, ℕ, ◌+◌, ◌-◌, ◌<◌, ◌≤◌, eqb, true, false, List, length, slice_index, slice_set, replicate, sym, ap, ◌∙◌, subst, inl, inr, arith, length-set}
 use Rattle.std.proofs.lemmas.List.{get_or-set_same, get_or-set_other, get_or-replicate, length-replicate}
 use Rattle.std.proofs.lemmas.Bool.{cases_lt}
 use Rattle.std.proofs.lemmas.Bool.Decides.{eqb_tells}
-use Rattle.case_table.specs.Rows.{Row, text_at, number_at, key_of, LacksText, HasText}
+use Rattle.case_table.specs.Rows.{Row, text_at, number_at, key_of, LacksText}
 use Rattle.case_table.specs.Index.{key_at, next_of, IsLast, IsIndexed, IsPlaced}
 
 -- the search for a word has come down to an end

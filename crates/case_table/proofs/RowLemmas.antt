@@ -1,5 +1,5 @@
 -- What rows have at their places, and what is found in them.
-use Rattle.std.proofs.Common.{◌≡◌, ◌≢◌, ◌==◌, ℕ, zero, suc, ◌+◌, ◌<◌, ◌&&◌, ◌⊎◌, is_none, Bool, true, false, cond, List, [], ◌∷◌, length, get_or, bytes_eq, Option, None, Some, is_some, MatchOption, refl, sym, ap, ◌∙◌, inl, inr, arith}
+use Rattle.std.proofs.Common.{◌≡◌, ◌≢◌, ◌==◌, ℕ, zero, suc, ◌<◌, ◌&&◌, ◌⊎◌, is_none, Bool, true, false, cond, List, [], ◌∷◌, length, get_or, bytes_eq, Option, None, Some, is_some, MatchOption, refl, sym, ap, ◌∙◌, inl, inr, arith}
 use Rattle.std.proofs.lemmas.Bool.{false_from_ne_true, false≢true}
 use Rattle.std.proofs.lemmas.Bool.Decides.{Decides-eqb}
 use Rattle.std.proofs.lemmas.Slice.Eq.{bytes_eq-Decides}

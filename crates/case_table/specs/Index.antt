@@ -1,5 +1,5 @@
 -- How the first rows of a table are found by the first bytes of their texts, and by their numbers.
-use Rattle.std.specs.Prelude.{◌≡◌, ◌≢◌, ℕ, ◌+◌, ◌-◌, ◌<◌, ◌≤◌, List, slice_index}
+use Rattle.std.specs.Prelude.{◌≡◌, ◌≢◌, ℕ, ◌-◌, ◌<◌, ◌≤◌, List, slice_index}
 use Rattle.case_table.specs.Rows.{Row, text_at, number_at, key_of}
 
 -- the key of the text at a place

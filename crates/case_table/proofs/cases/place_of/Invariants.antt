@@ -1,5 +1,3 @@
-use Rattle.std.proofs.Common.{◌≤◌}
-use Rattle.case_table.specs.Rows.{key_of}
 use Rattle.case_table.proofs.IndexLemmas.{IsReached}
 use Rattle.case_table.proofs.cases.place_of.Given as goal
 
