@@ -1,0 +1,3 @@
+pub mod EscapeLemmas
+pub mod CharLemmas
+pub mod ReadLemmas

@@ -1,0 +1,130 @@
+// The characters of a file with their offsets.
+ghost use Rattle.std.specs.Prelude.{◌≡◌, ◌≤◌, ◌<◌, length, string_bytes, MatchResult};
+ghost use Rattle.java_tokens.specs.Characters.{AreChars, IsCharFault, slashes_after};
+ghost use Rattle.java_tokens.specs.CharsShown.{placed_chars, CoversChars, FaultAt, kept};
+
+use crate::TextFault;
+use crate::reading::read_char;
+use std::alloc::Global;
+
+/// The characters of a file, each with the offset at which it begins.
+#[derive(Drop)]
+pub struct Chars {
+    /// The characters.
+    pub text: String,
+    /// The offset of each, unless it is the place of the character in the text, as where the file has no escapes.
+    pub offsets: Option<Vec<u32>>,
+    ghost covered: { CoversChars (string_bytes text) offsets },
+}
+
+impl Chars {
+    /// The characters.
+    pub fn as_str(&self) -> &str
+        ensures { result.now ≡ string_bytes self.now.text }
+    {
+        self.text.as_str()
+    }
+}
+
+/// The characters of a file (JLS 3.3), or `Bad` with the offset of the first escape or UTF-8 sequence at which none goes on.
+/// A malformed escape and a lone surrogate are bad at their `\`. `Memory` comes for want of memory alone.
+pub fn read_chars(alloc: Global, bytes: &[u8]) -> Result<Chars, TextFault>
+    requires { length bytes.now ≤ 8_388_608 }
+    ensures { MatchResult result (λ chars. AreChars bytes.now (placed_chars (string_bytes chars.text) chars.offsets)) (FaultAt (IsCharFault bytes.now)) }
+{
+    let mut text = String::new(alloc);
+    let mut offsets = Vec::new(alloc);
+    let mut plain = true;
+    let mut slashes = 0;
+    let mut at = 0;
+    while at < bytes.len() {
+        let rest = &bytes[at..];
+        let Some(read) = read_char(rest, slashes) else {
+            return Err(TextFault::Bad { place: at as u32 });
+        };
+        plain = plain && at == text.len();
+        offsets.push(at as u32)?;
+        text.push(read.code)?;
+        slashes = count_slashes(slashes, &rest[..read.width]);
+        at += read.width;
+    }
+    Ok(Chars {
+        text,
+        offsets: kept_offsets(plain, offsets),
+    })
+}
+
+// The offsets are kept only where they aren't the places in the text.
+fn kept_offsets(plain: bool, offsets: Vec<u32>) -> Option<Vec<u32>>
+    ensures { result ≡ kept plain offsets }
+{
+    if plain { None } else { Some(offsets) }
+}
+
+// How many `\` stand directly before what follows a character that is spelled so.
+fn count_slashes(slashes: usize, spelling: &[u8]) -> usize
+    requires { slashes < 8_388_608 }
+    ensures { result ≡ slashes_after slashes spelling.now }
+{
+    if spelling == [b'\\'].as_slice() {
+        slashes + 1
+    } else {
+        0
+    }
+}
+
+#[cfg(test)]
+mod tests {
+    use super::*;
+    use std::process::Abort;
+    use std::test::Fail;
+
+    fn expect_text(
+        rt: &impl Abort,
+        alloc: Global,
+        bytes: &[u8],
+        text: &str,
+    ) -> Result<(), TextFault> {
+        if bytes.len() > 100 {
+            return Ok(());
+        }
+        let chars = read_chars(alloc, bytes)?;
+        assert_eq!(rt; chars.as_str(), text);
+        Ok(())
+    }
+
+    #[test]
+    fn reads_escapes(rt: HostRuntime) -> Result<(), Fail> {
+        let alloc = rt.alloc();
+        expect_text(&rt, alloc, b"\\u005cu005a", "\\u005a")?;
+        expect_text(&rt, alloc, b"\\\\u0041", "\\\\u0041")?;
+        expect_text(&rt, alloc, b"\\uuu0041", "A")?;
+        expect_text(&rt, alloc, b"\\ud83d\\ude00", "\u{1F600}")?;
+        expect_text(&rt, alloc, b"\\\\\\u0041\xc3\xa9", "\\\\A\u{e9}")?;
+        expect_text(&rt, alloc, b"", "")?;
+        Ok(())
+    }
+
+    fn expect_bad(rt: &impl Abort, alloc: Global, bytes: &[u8], place: u32) {
+        if bytes.len() > 100 {
+            return;
+        }
+        match read_chars(alloc, bytes) {
+            Ok(_) => assert!(rt; false, "it has characters"),
+            Err(fault) => assert_eq!(rt; fault, TextFault::Bad { place }),
+        }
+    }
+
+    #[test]
+    fn faults_have_their_places(rt: HostRuntime) {
+        let alloc = rt.alloc();
+        expect_bad(&rt, alloc, b"\\ud800x", 0);
+        expect_bad(&rt, alloc, b"\\u00g1", 0);
+        expect_bad(&rt, alloc, b"ab\\u12", 2);
+        expect_bad(&rt, alloc, b"a\\ude00\\ud83d", 1);
+        expect_bad(&rt, alloc, b"\\ud83d\\u0041", 0);
+        expect_bad(&rt, alloc, b"\xc3\xa9\xff", 2);
+        expect_bad(&rt, alloc, b"\xed\xa0\x80", 0);
+        expect_bad(&rt, alloc, b"x\xe2\x82", 1);
+    }
+}
