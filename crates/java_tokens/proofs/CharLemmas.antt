@@ -1,13 +1,13 @@
 -- What a character at the front of a text is, and where there is none.
 use lib.Utf8.{scalar_cases, scalars, scalar as scalar_of}
-use Rattle.std.proofs.Common.{◌≡◌, ◌⊎◌, inl, inr, Option, None, Some, MatchOption, Bool, true, false, ◌&&◌, min, suc, ℕ, ◌+◌, ◌%◌, ◌<◌, ◌≤◌, List, ◌∷◌, ◌++◌, length, take, drop, refl, sym, ap, ◌∙◌, subst, arith, append_assoc, length-append}
-use Rattle.std.proofs.lemmas.List.{drop_at, take_at, length-take, take-append-drop}
+use Rattle.std.proofs.Common.{◌≡◌, ◌⊎◌, inl, inr, Option, None, Some, MatchOption, Bool, true, false, ◌&&◌, min, suc, ℕ, ◌+◌, ◌%◌, ◌<◌, ◌≤◌, List, [], ◌∷◌, replicate, ◌++◌, length, take, drop, refl, sym, ap, ◌∙◌, subst, arith, append_assoc, length-append}
+use Rattle.std.proofs.lemmas.List.{drop_at, take_at, length-take, length-replicate, take-append-drop}
 use Rattle.std.proofs.Math.Seq.{take-take}
-use Rattle.std.proofs.lemmas.Str.{length-encode, len_utf8_bounds, IsUtf8-encode, cons_from_encodes}
+use Rattle.std.proofs.lemmas.Str.{length-encode, len_utf8_bounds, IsUtf8-encode, cons_from_encodes, encode_same}
 use Rattle.std.specs.Prelude.{encode_utf8}
 use Rattle.std.specs.Char.{IsScalar, len_utf8}
 use Rattle.std.specs.Str.{StartsWithNoChar, IsUtf8}
-use Rattle.java_tokens.specs.Escapes.{HasEscape, NoEscape}
+use Rattle.java_tokens.specs.Escapes.{IsEscape, HasEscape, NoEscape}
 use Rattle.java_tokens.specs.Characters.{BeginsEscape, IsHigh, IsLow, joined, Spells, raw, escape, pair, HasChar, HasNoChar}
 use Rattle.java_tokens.proofs.EscapeLemmas.{one_escape}
 
@@ -114,3 +114,56 @@ first_found bytes text rest after k (Some c) is split utf8 longest found =
 -- an escape begins with two bytes
 pub long_escape : (s : ℕ) (bytes : List ℕ) → BeginsEscape s bytes → length bytes ≤ 1 → ⊥
 long_escape s bytes b short = let long : length bytes ≡ suc (suc (length b.after)) = ap length b.begins in omega (arith, long, short)
+
+escape_long : (spelling : List ℕ) (value : ℕ) → IsEscape spelling value → 6 ≤ length spelling
+escape_long spelling value e =
+    let h = e.hex in
+    let inner : length (replicate e.more 117 ++ e.digits) ≡ e.more + 4 = length-append (replicate e.more 117) e.digits ∙ ap (λ n. n + length e.digits) (length-replicate {A = ℕ} e.more 117) ∙ ap (λ ds. e.more + length ds) h.four in
+    let whole : length spelling ≡ suc (suc (length (replicate e.more 117 ++ e.digits))) = ap length e.spelled in
+    omega (arith, whole, inner)
+
+-- no character is spelled in fewer bytes than it has in UTF-8
+pub has_long : (s : ℕ) (text : List ℕ) (width code : ℕ) → HasChar s text width code → len_utf8 code ≤ width
+has_long s text width code (spelling, after, split, wide, how) = by_spelling how
+  where
+    by_spelling : Spells s spelling after code → len_utf8 code ≤ width
+    by_spelling (raw scalar is _) = omega (arith, wide, ap length is, length-encode code)
+    by_spelling (escape b e scalar) = omega (arith, wide, escape_long spelling code e, len_utf8_bounds code)
+    by_spelling (pair f g h l b cut e e' high low is) = omega (arith, wide, ap length cut, length-append f g, escape_long f h e, len_utf8_bounds code)
+
+-- a text begins with one character
+pub one_char : (s : ℕ) (text : List ℕ) (w c w' c' : ℕ) → HasChar s text w c → HasChar s text w' c' → (w ≡ w') × (c ≡ c')
+one_char s text w c w' c' (sp, after, split, wide, how) (sp', after', split', wide', how') = both how how'
+  where
+    turned : BeginsEscape s (sp ++ after) → BeginsEscape s (sp' ++ after')
+    turned b = subst (BeginsEscape s) (sym split ∙ split') b
+
+    turned_back : BeginsEscape s (sp' ++ after') → BeginsEscape s (sp ++ after)
+    turned_back b = subst (BeginsEscape s) (sym split' ∙ split) b
+
+    no_high : (v : ℕ) → IsScalar v → IsHigh v → ⊥
+    no_high v scalar high = surrogate v high.0 (omega (arith, high.1)) scalar
+
+    both : Spells s sp after c → Spells s sp' after' c' → (w ≡ w') × (c ≡ c')
+    both (raw scalar is _) (raw scalar' is' _) =
+        let same = (encode_same c c' after after' (ap (λ x. x ++ after) (sym is) ∙ sym split ∙ split' ∙ ap (λ x. x ++ after') is')).0 in
+        (wide ∙ ap length (is ∙ ap encode_utf8 same ∙ sym is') ∙ sym wide', same)
+    both (raw scalar is not) (escape b e scalar') = absurd (not (turned_back b))
+    both (raw scalar is not) (pair f g h l b cut e e' high low is') = absurd (not (turned_back b))
+    both (escape b e scalar) (raw scalar' is' not) = absurd (not (turned b))
+    both (escape b e scalar) (escape b' e' scalar') = one_escape text w c w' c' (after, sp, split, wide, e) (after', sp', split', wide', e')
+    both (escape b e scalar) (pair f g h l b' cut e' e'' high low is') =
+        let same = one_escape text w c (length f) h (after, sp, split, wide, e) (g ++ after', f, split' ∙ ap (λ x. x ++ after') cut ∙ append_assoc f g after', refl, e') in
+        absurd (no_high c scalar (subst IsHigh (sym same.1) high))
+    both (pair f g h l b' cut e' e'' high low is') (escape b e scalar) =
+        let same = one_escape text w' c' (length f) h (after', sp', split', wide', e) (g ++ after, f, split ∙ ap (λ x. x ++ after) cut ∙ append_assoc f g after, refl, e') in
+        absurd (no_high c' scalar (subst IsHigh (sym same.1) high))
+    both (pair f g h l b cut e e' high low is) (raw scalar' is' not) = absurd (not (turned b))
+    both (pair f g h l b cut e e' high low is) (pair f' g' h' l' b' cut' d d' high' low' is') =
+        let whole : text ≡ f ++ (g ++ after) = split ∙ ap (λ x. x ++ after) cut ∙ append_assoc f g after in
+        let whole' : text ≡ f' ++ (g' ++ after') = split' ∙ ap (λ x. x ++ after') cut' ∙ append_assoc f' g' after' in
+        let first = one_escape text (length f) h (length f') h' (g ++ after, f, whole, refl, e) (g' ++ after', f', whole', refl, d) in
+        let rest : drop (length f) text ≡ g ++ after = ap (drop (length f)) whole ∙ drop_at f (g ++ after) (length f) refl in
+        let rest' : drop (length f) text ≡ g' ++ after' = ap (λ n. drop n text) first.0 ∙ ap (drop (length f')) whole' ∙ drop_at f' (g' ++ after') (length f') refl in
+        let second = one_escape (drop (length f) text) (length g) l (length g') l' (after, g, rest, refl, e') (after', g', rest', refl, d') in
+        (omega (arith, wide, wide', ap length cut, ap length cut', length-append f g, length-append f' g', first.0, second.0), is ∙ ap (λ v. joined v l) first.1 ∙ ap (joined h') second.1 ∙ sym is')

@@ -1,3 +1,4 @@
 pub mod EscapeLemmas
 pub mod CharLemmas
 pub mod ReadLemmas
+pub mod LawLemmas

@@ -1,6 +1,6 @@
 // The characters of a file with their offsets.
-ghost use Rattle.std.specs.Prelude.{◌≡◌, ◌≤◌, ◌<◌, length, string_bytes, MatchResult};
-ghost use Rattle.java_tokens.specs.Characters.{AreChars, IsCharFault, slashes_after};
+ghost use Rattle.std.specs.Prelude.{ℕ, List, ◌≡◌, ◌≤◌, ◌<◌, length, string_bytes, MatchResult};
+ghost use Rattle.java_tokens.specs.Characters.{Placed, AreChars, IsCharFault, slashes_after};
 ghost use Rattle.java_tokens.specs.CharsShown.{placed_chars, CoversChars, FaultAt, kept};
 
 use crate::TextFault;
@@ -30,7 +30,9 @@ impl Chars {
 /// A malformed escape and a lone surrogate are bad at their `\`. `Memory` comes for want of memory alone.
 pub fn read_chars(alloc: Global, bytes: &[u8]) -> Result<Chars, TextFault>
     requires { length bytes.now ≤ 8_388_608 }
-    ensures { MatchResult result (λ chars. AreChars bytes.now (placed_chars (string_bytes chars.text) chars.offsets)) (FaultAt (IsCharFault bytes.now)) }
+    ensures chars { MatchResult result (λ chars. AreChars bytes.now (placed_chars (string_bytes chars.text) chars.offsets)) (FaultAt (IsCharFault bytes.now)) }
+    ensures list { (all : List Placed) → AreChars bytes.now all → MatchResult result (λ chars. placed_chars (string_bytes chars.text) chars.offsets ≡ all) (λ e. e ≡ TextFault.Memory) }
+    ensures place { (place : ℕ) → IsCharFault bytes.now place → MatchResult result (λ _. ⊥) (FaultAt (λ at. at ≡ place)) }
 {
     let mut text = String::new(alloc);
     let mut offsets = Vec::new(alloc);

@@ -4,8 +4,10 @@ use Rattle.std.proofs.lemmas.Bool.{false≢true}
 use Rattle.std.proofs.lemmas.Bool.Decides.{Decides-eqb}
 use Rattle.std.proofs.lemmas.Str.{IsUtf8-string_bytes}
 use Rattle.std.specs.Prelude.{encode_utf8}
-use Rattle.java_tokens.specs.Characters.{HasChar, HasNoChar, slashes_after}
-use Rattle.java_tokens.proofs.ReadLemmas.{IsReading, reading_none, reading_more, reading_stuck}
+use Rattle.java_tokens.specs.Characters.{HasChar, HasNoChar, slashes_after, AreChars}
+use Rattle.java_tokens.specs.CharsShown.{placed_chars}
+use Rattle.java_tokens.proofs.LawLemmas.{one_list, never_both, one_place}
+use Rattle.java_tokens.proofs.ReadLemmas.{IsReading, reading_none, reading_more, reading_done, reading_stuck}
 use Rattle.java_tokens.proofs.chars.read_chars.Goals as goal
 use Rattle.java_tokens.proofs.chars.read_chars.Goals.{then-plain, else-plain}
 
@@ -14,10 +16,30 @@ loop-at-init c =
     subst (λ text. IsReading c.args.bytes.now text c.new-offsets.result.items true 0 0) (sym c.new-text.ensures.bytes)
     (subst (λ offsets. IsReading c.args.bytes.now [] offsets true 0 0) (sym c.new-offsets.ensures.items) (reading_none c.args.bytes.now))
 
-pub returns-in_default : goal.returns-in_default
-returns-in_default c =
+pub returns-in_default-clause-chars : goal.returns-in_default-clause-chars
+returns-in_default-clause-chars c =
     reading_stuck c.args.bytes.now (string_bytes c.loop-at.text) c.loop-at.offsets.items c.loop-at.plain c.loop-at.slashes c.loop-at.at c.loop-at.invariant c.loop-at-test.true
-    (subst (HasNoChar c.loop-at.slashes) (take_rest c.args.bytes.now c.loop-at.at) c.in_default.ensures.char)
+        (subst (HasNoChar c.loop-at.slashes) (take_rest c.args.bytes.now c.loop-at.at) c.in_default.ensures.char)
+
+pub returns-in_default-clause-list : goal.returns-in_default-clause-list
+returns-in_default-clause-list c = λ all are.
+    absurd (never_both c.args.bytes.now all c.loop-at.at are (reading_stuck c.args.bytes.now (string_bytes c.loop-at.text) c.loop-at.offsets.items c.loop-at.plain c.loop-at.slashes c.loop-at.at c.loop-at.invariant c.loop-at-test.true
+        (subst (HasNoChar c.loop-at.slashes) (take_rest c.args.bytes.now c.loop-at.at) c.in_default.ensures.char)))
+
+pub returns-in_default-clause-place : goal.returns-in_default-clause-place
+returns-in_default-clause-place c = λ place is.
+    one_place c.args.bytes.now c.loop-at.at place (reading_stuck c.args.bytes.now (string_bytes c.loop-at.text) c.loop-at.offsets.items c.loop-at.plain c.loop-at.slashes c.loop-at.at c.loop-at.invariant c.loop-at-test.true
+        (subst (HasNoChar c.loop-at.slashes) (take_rest c.args.bytes.now c.loop-at.at) c.in_default.ensures.char)) is
+
+pub returns-clause-list : goal.returns-clause-list
+returns-clause-list c = λ all are.
+    one_list c.args.bytes.now _ all
+        (subst (λ o. AreChars c.args.bytes.now (placed_chars (string_bytes c.loop-at.text) o)) (sym c.kept_offsets.ensures) (reading_done c.args.bytes.now (string_bytes c.loop-at.text) c.loop-at.offsets c.loop-at.plain c.loop-at.slashes c.loop-at.at c.loop-at.invariant c.loop-at-test.false)) are
+
+pub returns-clause-place : goal.returns-clause-place
+returns-clause-place c = λ place is.
+    never_both c.args.bytes.now _ place
+        (subst (λ o. AreChars c.args.bytes.now (placed_chars (string_bytes c.loop-at.text) o)) (sym c.kept_offsets.ensures) (reading_done c.args.bytes.now (string_bytes c.loop-at.text) c.loop-at.offsets c.loop-at.plain c.loop-at.slashes c.loop-at.at c.loop-at.invariant c.loop-at-test.false)) is
 
 pub loop-at-preserved : goal.loop-at-preserved
 loop-at-preserved c =
