@@ -1,8 +1,8 @@
 -- A file has one list of characters or one place, and never both.
-use Rattle.std.proofs.Common.{◌≡◌, ℕ, ◌+◌, ◌<◌, ◌≤◌, List, [], ◌∷◌, ◌++◌, length, take, drop, refl, sym, ap, ◌∙◌, subst, arith, length-append}
+use Rattle.std.proofs.Common.{◌≡◌, ℕ, ◌+◌, List, [], ◌∷◌, ◌++◌, length, take, drop, refl, sym, ap, ◌∙◌, subst, arith, length-append}
 use Rattle.std.proofs.lemmas.List.{drop_at, take_at}
 use Rattle.std.proofs.lemmas.Str.{len_utf8_bounds}
-use Rattle.java_tokens.specs.Characters.{Placed, Spells, Spelled, HasChar, HasNoChar, slashes_after, AreChars, IsCharFault}
+use Rattle.java_tokens.specs.Characters.{Placed, Spells, Spelled, HasNoChar, slashes_after, AreChars, IsCharFault}
 use Rattle.java_tokens.proofs.CharLemmas.{one_char, has_long}
 
 -- an empty text has no character
@@ -22,7 +22,7 @@ same_reading s o text (c ∷ cs) (d ∷ ds) rest rest' s' s'' (at, (sp, after, s
     let spelling : sp' ≡ sp = sym (take_at sp' after' (length sp') refl) ∙ ap (take (length sp')) (sym split' ∙ split) ∙ ap (λ n. take n (sp ++ after)) (sym one.0) ∙ take_at sp after (length sp) refl in
     let left : after' ≡ after = sym (drop_at sp' after' (length sp') refl) ∙ ap (drop (length sp')) (sym split' ∙ split) ∙ ap (λ n. drop n (sp ++ after)) (sym one.0) ∙ drop_at sp after (length sp) refl in
     let later : Spelled (slashes_after s sp) (o + length sp) after ds rest' s'' =
-        subst (λ x. Spelled (slashes_after s x) (o + length x) after ds rest' s'') spelling (subst (λ t. Spelled (slashes_after s sp') (o + length sp') t ds rest' s'') left more') in
+    subst (λ x. Spelled (slashes_after s x) (o + length x) after ds rest' s'') spelling (subst (λ t. Spelled (slashes_after s sp') (o + length sp') t ds rest' s'') left more') in
     let others = same_reading (slashes_after s sp) (o + length sp) after cs ds rest rest' s' s'' more none later none' in
     (ap (λ x. (x, c.1) ∷ cs) one.1 ∙ ap (λ x. (d.0, x) ∷ cs) (at ∙ sym at') ∙ ap (λ xs. d ∷ xs) others.0, others.1)
 

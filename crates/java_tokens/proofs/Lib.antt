@@ -2,3 +2,4 @@ pub mod EscapeLemmas
 pub mod CharLemmas
 pub mod ReadLemmas
 pub mod LawLemmas
+pub mod OffsetLemmas

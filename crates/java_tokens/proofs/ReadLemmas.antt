@@ -9,6 +9,7 @@ use Rattle.std.specs.Char.{IsScalar, len_utf8}
 use Rattle.std.specs.Str.{chars, IsUtf8, encode_utf8_all}
 use Rattle.std.specs.declared.alloc.Global.{Global}
 use Rattle.java_tokens.specs.Characters.{Placed, Spells, Spelled, HasChar, HasNoChar, slashes_after, AreChars, IsCharFault}
+use Rattle.java_tokens.proofs.CharLemmas.{has_long}
 use Rattle.java_tokens.specs.CharsShown.{plain_offsets, placed_chars, kept, CoversChars}
 
 -- one character more at the end
@@ -44,6 +45,7 @@ plain_offsets-length from (c ∷ cs) = ap suc (plain_offsets-length (from + len_
 pub record IsReading (file text offsets : List ℕ) (plain : Bool) (slashes at : ℕ) : Type 0 where
   pub within : at ≤ length file
   pub few : slashes ≤ at
+  pub short : length text ≤ at
   pub spelled : Spelled 0 0 file (zip (chars text) offsets) (drop at file) slashes
   pub covers : length offsets ≡ length (chars text)
   pub plain_is : plain ≡ true → offsets ≡ plain_offsets 0 (chars text)
@@ -52,6 +54,7 @@ pub reading_none : (file : List ℕ) → IsReading file [] [] true 0 0
 reading_none file = record {
   within = omega arith;
   few = omega arith;
+  short = omega arith;
   spelled = subst (λ cs. Spelled 0 0 file (zip cs []) (drop 0 file) 0) (sym chars-nil) (refl, refl);
   covers = ap length (sym chars-nil);
   plain_is = λ _. ap (plain_offsets 0) (sym chars-nil);
@@ -76,6 +79,7 @@ reading_more file text offsets plain plain' slashes at width code reading utf8 (
     record {
       within = fits;
       few = subst (λ sp. slashes_after slashes sp ≤ at + width) (sym front) (omega (arith, few_after (bytes_eq spelling (92 ∷ [])) slashes width (λ e. omega (arith, wide, ap length ((bytes_eq-Decides spelling (92 ∷ [])).0 e))), reading.few));
+      short = omega (arith, reading.short, length-append text (encode_utf8 code), length-encode code, has_long slashes (drop at file) width code (spelling, after, split, wide, how));
       spelled = subst (λ cs. Spelled 0 0 file cs (drop (at + width) file) (slashes_after slashes (take width (drop at file)))) (sym pairs)
           (subst (λ r. Spelled 0 0 file (zip (chars text) offsets ++ (code, at) ∷ []) r (slashes_after slashes (take width (drop at file)))) (sym left)
           (subst (λ sp. Spelled 0 0 file (zip (chars text) offsets ++ (code, at) ∷ []) after (slashes_after slashes sp)) (sym front) more));

@@ -1,7 +1,8 @@
 // The characters of a file with their offsets.
-ghost use Rattle.std.specs.Prelude.{ℕ, List, ◌≡◌, ◌≤◌, ◌<◌, length, string_bytes, MatchResult};
+ghost use Rattle.std.specs.Prelude.{ℕ, List, ◌≡◌, ◌≤◌, ◌<◌, length, string_bytes, slice_get, MatchResult};
+ghost use Rattle.std.specs.Str.{chars};
 ghost use Rattle.java_tokens.specs.Characters.{Placed, AreChars, IsCharFault, slashes_after};
-ghost use Rattle.java_tokens.specs.CharsShown.{placed_chars, CoversChars, FaultAt, kept};
+ghost use Rattle.java_tokens.specs.CharsShown.{placed_chars, offsets_of, plain_offsets, CoversChars, FaultAt, kept};
 
 use crate::TextFault;
 use crate::reading::read_char;
@@ -15,6 +16,7 @@ pub struct Chars {
     /// The offset of each, unless it is the place of the character in the text, as where the file has no escapes.
     pub offsets: Option<Vec<u32>>,
     ghost covered: { CoversChars (string_bytes text) offsets },
+    ghost small: { length (string_bytes text) ≤ 8_388_608 },
 }
 
 impl Chars {
@@ -24,6 +26,34 @@ impl Chars {
     {
         self.text.as_str()
     }
+
+    /// The offset in the file of the character with this number, counted from 0, and None exactly where there is no such character.
+    /// It is found in one step where offsets are kept, and else by a walk over the characters before it; it takes no memory.
+    pub fn offset(&self, at: u32) -> Option<u32>
+        ensures { result ≡ slice_get (offsets_of (chars (string_bytes self.now.text)) self.now.offsets) at }
+    {
+        match &self.offsets {
+            Some(offsets) => offsets.get(at as usize).copied(),
+            None => plain_offset(self.text.as_str(), at),
+        }
+    }
+}
+
+// The offset of a character whose file has no escapes before it.
+fn plain_offset(text: &str, at: u32) -> Option<u32>
+    requires { length text.now ≤ 8_388_608 }
+    ensures { result ≡ slice_get (plain_offsets 0 (chars text.now)) at }
+{
+    let mut place = 0;
+    let mut left = at;
+    for c in text.chars() {
+        if left == 0 {
+            return Some(place);
+        }
+        left -= 1;
+        place += c.len_utf8() as u32;
+    }
+    None
 }
 
 /// The characters of a file (JLS 3.3), or `Bad` with the offset of the first escape or UTF-8 sequence at which none goes on.
@@ -104,6 +134,21 @@ mod tests {
         expect_text(&rt, alloc, b"\\ud83d\\ude00", "\u{1F600}")?;
         expect_text(&rt, alloc, b"\\\\\\u0041\xc3\xa9", "\\\\A\u{e9}")?;
         expect_text(&rt, alloc, b"", "")?;
+        Ok(())
+    }
+
+    #[test]
+    fn offsets_are_those_of_the_file(rt: HostRuntime) -> Result<(), Fail> {
+        let alloc = rt.alloc();
+        let plain = read_chars(alloc, b"a\xc3\xa9b")?;
+        assert_eq!(rt; plain.offset(0), Some(0));
+        assert_eq!(rt; plain.offset(2), Some(3));
+        assert_eq!(rt; plain.offset(3), None);
+        assert!(rt; plain.offsets.is_none());
+        let escaped = read_chars(alloc, b"a\\u0041b")?;
+        assert_eq!(rt; escaped.offset(1), Some(1));
+        assert_eq!(rt; escaped.offset(2), Some(7));
+        assert_eq!(rt; escaped.offset(3), None);
         Ok(())
     }
 

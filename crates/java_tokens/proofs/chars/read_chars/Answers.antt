@@ -19,27 +19,27 @@ loop-at-init c =
 pub returns-in_default-clause-chars : goal.returns-in_default-clause-chars
 returns-in_default-clause-chars c =
     reading_stuck c.args.bytes.now (string_bytes c.loop-at.text) c.loop-at.offsets.items c.loop-at.plain c.loop-at.slashes c.loop-at.at c.loop-at.invariant c.loop-at-test.true
-        (subst (HasNoChar c.loop-at.slashes) (take_rest c.args.bytes.now c.loop-at.at) c.in_default.ensures.char)
+    (subst (HasNoChar c.loop-at.slashes) (take_rest c.args.bytes.now c.loop-at.at) c.in_default.ensures.char)
 
 pub returns-in_default-clause-list : goal.returns-in_default-clause-list
 returns-in_default-clause-list c = λ all are.
     absurd (never_both c.args.bytes.now all c.loop-at.at are (reading_stuck c.args.bytes.now (string_bytes c.loop-at.text) c.loop-at.offsets.items c.loop-at.plain c.loop-at.slashes c.loop-at.at c.loop-at.invariant c.loop-at-test.true
-        (subst (HasNoChar c.loop-at.slashes) (take_rest c.args.bytes.now c.loop-at.at) c.in_default.ensures.char)))
+    (subst (HasNoChar c.loop-at.slashes) (take_rest c.args.bytes.now c.loop-at.at) c.in_default.ensures.char)))
 
 pub returns-in_default-clause-place : goal.returns-in_default-clause-place
 returns-in_default-clause-place c = λ place is.
     one_place c.args.bytes.now c.loop-at.at place (reading_stuck c.args.bytes.now (string_bytes c.loop-at.text) c.loop-at.offsets.items c.loop-at.plain c.loop-at.slashes c.loop-at.at c.loop-at.invariant c.loop-at-test.true
-        (subst (HasNoChar c.loop-at.slashes) (take_rest c.args.bytes.now c.loop-at.at) c.in_default.ensures.char)) is
+    (subst (HasNoChar c.loop-at.slashes) (take_rest c.args.bytes.now c.loop-at.at) c.in_default.ensures.char)) is
 
 pub returns-clause-list : goal.returns-clause-list
 returns-clause-list c = λ all are.
     one_list c.args.bytes.now _ all
-        (subst (λ o. AreChars c.args.bytes.now (placed_chars (string_bytes c.loop-at.text) o)) (sym c.kept_offsets.ensures) (reading_done c.args.bytes.now (string_bytes c.loop-at.text) c.loop-at.offsets c.loop-at.plain c.loop-at.slashes c.loop-at.at c.loop-at.invariant c.loop-at-test.false)) are
+    (subst (λ o. AreChars c.args.bytes.now (placed_chars (string_bytes c.loop-at.text) o)) (sym c.kept_offsets.ensures) (reading_done c.args.bytes.now (string_bytes c.loop-at.text) c.loop-at.offsets c.loop-at.plain c.loop-at.slashes c.loop-at.at c.loop-at.invariant c.loop-at-test.false)) are
 
 pub returns-clause-place : goal.returns-clause-place
 returns-clause-place c = λ place is.
     never_both c.args.bytes.now _ place
-        (subst (λ o. AreChars c.args.bytes.now (placed_chars (string_bytes c.loop-at.text) o)) (sym c.kept_offsets.ensures) (reading_done c.args.bytes.now (string_bytes c.loop-at.text) c.loop-at.offsets c.loop-at.plain c.loop-at.slashes c.loop-at.at c.loop-at.invariant c.loop-at-test.false)) is
+    (subst (λ o. AreChars c.args.bytes.now (placed_chars (string_bytes c.loop-at.text) o)) (sym c.kept_offsets.ensures) (reading_done c.args.bytes.now (string_bytes c.loop-at.text) c.loop-at.offsets c.loop-at.plain c.loop-at.slashes c.loop-at.at c.loop-at.invariant c.loop-at-test.false)) is
 
 pub loop-at-preserved : goal.loop-at-preserved
 loop-at-preserved c =
