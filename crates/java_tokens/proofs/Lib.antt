@@ -1,0 +1,5 @@
+pub mod EscapeLemmas
+pub mod CharLemmas
+pub mod ReadLemmas
+pub mod LawLemmas
+pub mod OffsetLemmas

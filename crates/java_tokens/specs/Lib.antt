@@ -1,0 +1,3 @@
+pub mod Escapes
+pub mod Characters
+pub mod CharsShown
