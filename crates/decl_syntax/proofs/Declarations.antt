@@ -92,13 +92,13 @@ module _ (room : ℕ) (nested : Reader TypeDecl) (fits : TypeDecl → Bool) wher
       let of_nested = variant choose member_form test 4 member.Nested member_form-Nested (λ x. ap (member_fits room fits) (member.outs-Nested x)) (λ bytes. refl) (r) in
       let Q : Member → Type 0 = λ m. (rest : List ℕ) → test m ≡ true → tagged choose (member_form m ++ rest) ≡ Some (m, rest) in
       Reads-tagged choose member_form test
-        (member_cases Q of_field.again of_method.again of_constructor.again of_constant.again of_nested.again)
-        (λ n. Spells-or member_form test n 0 (mapped member.Field (field_next room)) _ of_field.spelled
-          (Spells-or member_form test n 1 (mapped member.Method (method_next room)) _ of_method.spelled
-          (Spells-or member_form test n 2 (mapped member.Constructor (constructor_next room)) _ of_constructor.spelled
-          (Spells-or member_form test n 3 (mapped member.Constant (constant_next room)) _ of_constant.spelled
-          (Spells-or member_form test n 4 (mapped member.Nested (nested)) none_next of_nested.spelled
-          (Spells-none member_form test n))))))
+      (member_cases Q of_field.again of_method.again of_constructor.again of_constant.again of_nested.again)
+      (λ n. Spells-or member_form test n 0 (mapped member.Field (field_next room)) _ of_field.spelled
+      (Spells-or member_form test n 1 (mapped member.Method (method_next room)) _ of_method.spelled
+      (Spells-or member_form test n 2 (mapped member.Constructor (constructor_next room)) _ of_constructor.spelled
+      (Spells-or member_form test n 3 (mapped member.Constant (constant_next room)) _ of_constant.spelled
+      (Spells-or member_form test n 4 (mapped member.Nested (nested)) none_next of_nested.spelled
+      (Spells-none member_form test n))))))
 
 -- the parts of a declaration
 abbrev head_of : TypeDecl → Head
@@ -116,18 +116,18 @@ Reads-head : (room start : ℕ) → Reads (head_next room start) head_parts_form
 unfolding head_next
 Reads-head room start =
     and_reads (and_reads (and_reads (and_reads (and_reads (and_reads (and_reads (Reads-numbered kind_of kind_number kind_back kind_on) (Reads-canonical start)) Reads-modifiers)
-      (list_reads (Reads-annotation_next room))) (opt_reads Reads-text)) (list_reads (Reads-type_param room))) (opt_reads (Reads-type_next room))) (list_reads (Reads-type_next room))
+    (list_reads (Reads-annotation_next room))) (opt_reads Reads-text)) (list_reads (Reads-type_param room))) (opt_reads (Reads-type_next room))) (list_reads (Reads-type_next room))
 
 module _ (nested : ℕ → Reader TypeDecl) (fits : ℕ → TypeDecl → Bool) where
   pub Reads-declaration : (room start : ℕ) → ((at : ℕ) → Reads (nested at) declaration_form (fits at)) → Reads (declaration_in nested room start) declaration_form (declaration_fits fits room start)
   unfolding declaration_in
   Reads-declaration room start r =
       let members : (h : Head) → Reads (list_next (member_in room (nested (members_start start h)))) (list_form member_form) (all_fit (λ m. member_fits room (fits (members_start start h)) (out-Member m))) =
-            λ h. list_reads (Reads-member room (nested (members_start start h)) (fits (members_start start h)) (r (members_start start h))) in
+      λ h. list_reads (Reads-member room (nested (members_start start h)) (fits (members_start start h)) (r (members_start start h))) in
       let parts = Reads-then (head_next room start) head_parts_form (head_fits room start) (λ h. list_next (member_in room (nested (members_start start h)))) (list_form member_form)
-            (λ h. all_fit (λ m. member_fits room (fits (members_start start h)) (out-Member m))) (Reads-head room start) members in
+      (λ h. all_fit (λ m. member_fits room (fits (members_start start h)) (out-Member m))) (Reads-head room start) members in
       same_reads declaration_form (declaration_fits fits room start) (λ d. sym (declaration_form-is d)) (λ d. refl)
-        (check_reads declaration_has_room (map_reads declaration_of (λ d. (head_of d, d.members)) (λ d. refl) (λ x. refl) parts))
+      (check_reads declaration_has_room (map_reads declaration_of (λ d. (head_of d, d.members)) (λ d. refl) (λ x. refl) parts))
 
 pub Reads-inside_declaration : (room start : ℕ) → Reads (inside_declaration_next room start) declaration_form (inside_declaration room start)
 unfolding inside_declaration_next inside_declaration
@@ -144,7 +144,7 @@ pub Reads-import : Reads import_next import_form is_legal_import
 unfolding import_next import_form is_legal_import
 Reads-import =
     same_reads import_form is_legal_import (λ i. refl) (λ i. refl)
-      (map_reads import_with (λ i. (i.kind, i.name)) (λ i. refl) (λ x. refl) (and_reads (Reads-numbered import_of import_number import_back import_on) Reads-text))
+    (map_reads import_with (λ i. (i.kind, i.name)) (λ i. refl) (λ x. refl) (and_reads (Reads-numbered import_of import_number import_back import_on) Reads-text))
 
 pub Reads-body : (room start : ℕ) → Reads (body_next room start) body_form (is_legal_body room start)
 unfolding body_next body_form is_legal_body
@@ -159,14 +159,14 @@ Reads-body room start =
       | Info annotations doc ↦ info.again (annotations, doc)
     ] in
     Reads-tagged choose form test again
-      (λ n. Spells-or form test n 0 (mapped Declared (declaration_next room start)) _ declared.spelled
-        (Spells-or form test n 1 (mapped info_of (list_next (annotation_next room) >> opt_next text_next)) none_next info.spelled (Spells-none form test n)))
+    (λ n. Spells-or form test n 0 (mapped Declared (declaration_next room start)) _ declared.spelled
+    (Spells-or form test n 1 (mapped info_of (list_next (annotation_next room) >> opt_next text_next)) none_next info.spelled (Spells-none form test n)))
 
 pub Reads-unit : Reads unit_next unit_form is_legal
 unfolding unit_next unit_form is_legal front_of_unit_next
 Reads-unit =
     let front = and_reads (and_reads (Reads-canonical 0) (list_reads Reads-import)) (list_reads Reads-text) in
     let parts = Reads-then front_of_unit_next (λ x. name_form x.0.0 ++ list_form import_form x.0.1 ++ list_form name_form x.1)
-          (λ x. is_canonical 0 x.0.0 && all_fit is_legal_import x.0.1 && all_fit is_name x.1) (λ x. body_next depth (body_start x)) body_form (λ x. is_legal_body depth (body_start x)) front (λ x. Reads-body depth (body_start x)) in
+    (λ x. is_canonical 0 x.0.0 && all_fit is_legal_import x.0.1 && all_fit is_name x.1) (λ x. body_next depth (body_start x)) body_form (λ x. is_legal_body depth (body_start x)) front (λ x. Reads-body depth (body_start x)) in
     same_reads unit_form is_legal (λ u. refl) (λ u. refl)
-      (map_reads unit_of (λ u. (((u.package, u.imports), u.siblings), u.body)) (λ u. refl) (λ x. refl) parts)
+    (map_reads unit_of (λ u. (((u.package, u.imports), u.siblings), u.body)) (λ u. refl) (λ x. refl) parts)

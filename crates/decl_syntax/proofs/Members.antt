@@ -24,6 +24,7 @@ smaller n = small_at (ltb n 4096) refl
     none : (b : Bool) → (b && false) ≡ false
     none true = refl
     none false = refl
+
     small_at : (b : Bool) → ltb n 4096 ≡ b → (ltb n 65536 && ltb n 4096) ≡ ltb n 4096
     small_at true e = rw (lt-ltb n 65536 (omega (arith, ltb-true n 4096 e))) refl
     small_at false e = rw e (none (ltb n 65536))
@@ -35,42 +36,42 @@ pub Reads-type_param : (room : ℕ) → Reads (type_param_next room) type_param_
 unfolding type_param_next type_param_form is_legal_type_param
 Reads-type_param room =
     same_reads type_param_form (is_legal_type_param room) (λ p. refl) (λ p. refl)
-      (map_reads type_param_of (λ p. ((p.name, p.annotations), p.bounds)) (λ p. refl) (λ x. refl)
-        (and_reads (and_reads Reads-text (list_reads (Reads-annotation_next room))) (list_reads (Reads-type_next room))))
+    (map_reads type_param_of (λ p. ((p.name, p.annotations), p.bounds)) (λ p. refl) (λ x. refl)
+    (and_reads (and_reads Reads-text (list_reads (Reads-annotation_next room))) (list_reads (Reads-type_next room))))
 
 pub Reads-param : (room : ℕ) → Reads (param_next room) param_form (is_legal_param room)
 unfolding param_next param_form is_legal_param
 Reads-param room =
     same_reads param_form (is_legal_param room) (λ p. refl) (λ p. refl)
-      (map_reads param_of (λ p. (((p.name, p.modifiers), p.annotations), p.of)) (λ p. refl) (λ x. refl)
-        (and_reads (and_reads (and_reads Reads-text Reads-modifiers) (list_reads (Reads-annotation_next room))) (Reads-type_next room)))
+    (map_reads param_of (λ p. (((p.name, p.modifiers), p.annotations), p.of)) (λ p. refl) (λ x. refl)
+    (and_reads (and_reads (and_reads Reads-text Reads-modifiers) (list_reads (Reads-annotation_next room))) (Reads-type_next room)))
 
 pub Reads-field : (room : ℕ) → Reads (field_next room) field_form (is_legal_field room)
 unfolding field_next field_form is_legal_field
 Reads-field room =
     same_reads field_form (is_legal_field room) (λ f. refl) (λ f. refl)
-      (map_reads field_of (λ f. (((((f.name, f.modifiers), f.annotations), f.doc), f.of), f.constant)) (λ f. refl) (λ x. refl)
-        (and_reads (and_reads (and_reads (and_reads (and_reads Reads-text Reads-modifiers) (list_reads (Reads-annotation_next room))) (opt_reads Reads-text)) (Reads-type_next room)) (opt_reads (Reads-value_next room))))
+    (map_reads field_of (λ f. (((((f.name, f.modifiers), f.annotations), f.doc), f.of), f.constant)) (λ f. refl) (λ x. refl)
+    (and_reads (and_reads (and_reads (and_reads (and_reads Reads-text Reads-modifiers) (list_reads (Reads-annotation_next room))) (opt_reads Reads-text)) (Reads-type_next room)) (opt_reads (Reads-value_next room))))
 
 pub Reads-method : (room : ℕ) → Reads (method_next room) method_form (is_legal_method room)
 unfolding method_next method_form is_legal_method
 Reads-method room =
     same_reads method_form (is_legal_method room) (λ m. refl) (λ m. refl)
-      (check_reads method_has_room
-      (map_reads method_of (λ m. (((((((((m.name, m.modifiers), m.annotations), m.doc), m.parameters), m.result), m.arguments), m.varargs), m.thrown), m.default)) (λ m. refl) (λ x. refl)
-        (and_reads (and_reads (and_reads (and_reads (and_reads (and_reads (and_reads (and_reads (and_reads Reads-text Reads-modifiers) (list_reads (Reads-annotation_next room))) (opt_reads Reads-text)) (list_reads (Reads-type_param room))) (Reads-type_next room)) (list_reads (Reads-param room))) Reads-bool) (list_reads (Reads-type_next room))) (opt_reads (Reads-value_next room)))))
+    (check_reads method_has_room
+    (map_reads method_of (λ m. (((((((((m.name, m.modifiers), m.annotations), m.doc), m.parameters), m.result), m.arguments), m.varargs), m.thrown), m.default)) (λ m. refl) (λ x. refl)
+    (and_reads (and_reads (and_reads (and_reads (and_reads (and_reads (and_reads (and_reads (and_reads Reads-text Reads-modifiers) (list_reads (Reads-annotation_next room))) (opt_reads Reads-text)) (list_reads (Reads-type_param room))) (Reads-type_next room)) (list_reads (Reads-param room))) Reads-bool) (list_reads (Reads-type_next room))) (opt_reads (Reads-value_next room)))))
 
 pub Reads-constructor : (room : ℕ) → Reads (constructor_next room) constructor_form (is_legal_constructor room)
 unfolding constructor_next constructor_form is_legal_constructor
 Reads-constructor room =
     same_reads constructor_form (is_legal_constructor room) (λ c. refl) (λ c. refl)
-      (check_reads constructor_has_room
-      (map_reads constructor_of (λ c. ((((((c.modifiers, c.annotations), c.doc), c.parameters), c.arguments), c.varargs), c.thrown)) (λ c. refl) (λ x. refl)
-        (and_reads (and_reads (and_reads (and_reads (and_reads (and_reads Reads-modifiers (list_reads (Reads-annotation_next room))) (opt_reads Reads-text)) (list_reads (Reads-type_param room))) (list_reads (Reads-param room))) Reads-bool) (list_reads (Reads-type_next room)))))
+    (check_reads constructor_has_room
+    (map_reads constructor_of (λ c. ((((((c.modifiers, c.annotations), c.doc), c.parameters), c.arguments), c.varargs), c.thrown)) (λ c. refl) (λ x. refl)
+    (and_reads (and_reads (and_reads (and_reads (and_reads (and_reads Reads-modifiers (list_reads (Reads-annotation_next room))) (opt_reads Reads-text)) (list_reads (Reads-type_param room))) (list_reads (Reads-param room))) Reads-bool) (list_reads (Reads-type_next room)))))
 
 pub Reads-constant : (room : ℕ) → Reads (constant_next room) constant_form (is_legal_constant room)
 unfolding constant_next constant_form is_legal_constant
 Reads-constant room =
     same_reads constant_form (is_legal_constant room) (λ c. refl) (λ c. refl)
-      (map_reads constant_of (λ c. (((c.name, c.annotations), c.doc), c.body)) (λ c. refl) (λ x. refl)
-        (and_reads (and_reads (and_reads Reads-text (list_reads (Reads-annotation_next room))) (opt_reads Reads-text)) Reads-bool))
+    (map_reads constant_of (λ c. (((c.name, c.annotations), c.doc), c.body)) (λ c. refl) (λ x. refl)
+    (and_reads (and_reads (and_reads Reads-text (list_reads (Reads-annotation_next room))) (opt_reads Reads-text)) Reads-bool))

@@ -39,17 +39,17 @@ pub Reads-then : {A B : Type 0} (first : Reader A) (f : A → List ℕ) (P : A �
     → Reads first f P → ((a : A) → Reads (second a) g (Q a)) → Reads (then_by first second) (λ x. f x.0 ++ g x.1) (λ x. P x.0 && Q x.0 x.1)
 Reads-then {A} {B} first f P second g Q r s = record {
   again = λ x rest h.
-    let t = both (P x.0) (Q x.0 x.1) h in
-    let one : first ((f x.0 ++ g x.1) ++ rest) ≡ Some (x.0, g x.1 ++ rest) = ap first (append_assoc (f x.0) (g x.1) rest) ∙ r.again x.0 (g x.1 ++ rest) t.0 in
-    rw (one, (s x.0).again x.1 rest t.1) refl;
+      let t = both (P x.0) (Q x.0 x.1) h in
+      let one : first ((f x.0 ++ g x.1) ++ rest) ≡ Some (x.0, g x.1 ++ rest) = ap first (append_assoc (f x.0) (g x.1) rest) ∙ r.again x.0 (g x.1 ++ rest) t.0 in
+      rw (one, (s x.0).again x.1 rest t.1) refl;
   spelled = λ bytes x rest fits e.
-    let b = bind_some (first bytes) (λ a. second a.0 a.1 >>= λ b. Some ((a.0, b.0), b.1)) (x, rest) e in
-    let c = bind_some (second b.0.0 b.0.1) (λ y. Some ((b.0.0, y.0), y.1)) (x, rest) b.2 in
-    let one = r.spelled bytes b.0.0 b.0.1 fits b.1 in
-    let two = (s b.0.0).spelled b.0.1 c.0.0 c.0.1 (IsBytes-rest bytes (f b.0.0) b.0.1 one.0 fits) c.1 in
-    let whole : bytes ≡ (f b.0.0 ++ g c.0.0) ++ c.0.1 = one.0 ∙ ap (λ (t : List ℕ). f b.0.0 ++ t) two.0 ∙ sym (append_assoc (f b.0.0) (g c.0.0) c.0.1) in
-    let same = some_is ((b.0.0, c.0.0), c.0.1) (x, rest) c.2 in
-    subst (λ (y : (A × B) × List ℕ). (bytes ≡ (f y.0.0 ++ g y.0.1) ++ y.1) × ((P y.0.0 && Q y.0.0 y.0.1) ≡ true)) same (whole, both_from _ _ one.1 two.1);
+      let b = bind_some (first bytes) (λ a. second a.0 a.1 >>= λ b. Some ((a.0, b.0), b.1)) (x, rest) e in
+      let c = bind_some (second b.0.0 b.0.1) (λ y. Some ((b.0.0, y.0), y.1)) (x, rest) b.2 in
+      let one = r.spelled bytes b.0.0 b.0.1 fits b.1 in
+      let two = (s b.0.0).spelled b.0.1 c.0.0 c.0.1 (IsBytes-rest bytes (f b.0.0) b.0.1 one.0 fits) c.1 in
+      let whole : bytes ≡ (f b.0.0 ++ g c.0.0) ++ c.0.1 = one.0 ∙ ap (λ (t : List ℕ). f b.0.0 ++ t) two.0 ∙ sym (append_assoc (f b.0.0) (g c.0.0) c.0.1) in
+      let same = some_is ((b.0.0, c.0.0), c.0.1) (x, rest) c.2 in
+      subst (λ (y : (A × B) × List ℕ). (bytes ≡ (f y.0.0 ++ g y.0.1) ++ y.1) × ((P y.0.0 && Q y.0.0 y.0.1) ≡ true)) same (whole, both_from _ _ one.1 two.1);
 }
 
 pub Reads-mapped : {A B : Type 0} (next : Reader A) (f : A → List ℕ) (P : A → Bool) (make : A → B) (parts : B → A) → ((b : B) → make (parts b) ≡ b) → ((a : A) → parts (make a) ≡ a)
@@ -57,22 +57,22 @@ pub Reads-mapped : {A B : Type 0} (next : Reader A) (f : A → List ℕ) (P : A 
 Reads-mapped {A} {B} next f P make parts makes_back parts_back r = record {
   again = λ b rest h. rw (r.again (parts b) rest h) (ap (λ (x : B). Some (x, rest)) (makes_back b));
   spelled = λ bytes b rest fits e.
-    let t = bind_some (next bytes) (λ a. Some (make a.0, a.1)) (b, rest) e in
-    let one = r.spelled bytes t.0.0 t.0.1 fits t.1 in
-    let same = some_is (make t.0.0, t.0.1) (b, rest) t.2 in
-    let back : t.0.0 ≡ parts (make t.0.0) = sym (parts_back t.0.0) in
-    let made : (bytes ≡ f (parts (make t.0.0)) ++ t.0.1) × (P (parts (make t.0.0)) ≡ true) = subst (λ (a : A). (bytes ≡ f a ++ t.0.1) × (P a ≡ true)) back one in
-    subst (λ (y : B × List ℕ). (bytes ≡ f (parts y.0) ++ y.1) × (P (parts y.0) ≡ true)) same made;
+      let t = bind_some (next bytes) (λ a. Some (make a.0, a.1)) (b, rest) e in
+      let one = r.spelled bytes t.0.0 t.0.1 fits t.1 in
+      let same = some_is (make t.0.0, t.0.1) (b, rest) t.2 in
+      let back : t.0.0 ≡ parts (make t.0.0) = sym (parts_back t.0.0) in
+      let made : (bytes ≡ f (parts (make t.0.0)) ++ t.0.1) × (P (parts (make t.0.0)) ≡ true) = subst (λ (a : A). (bytes ≡ f a ++ t.0.1) × (P a ≡ true)) back one in
+      subst (λ (y : B × List ℕ). (bytes ≡ f (parts y.0) ++ y.1) × (P (parts y.0) ≡ true)) same made;
 }
 
 pub Reads-checked : {A : Type 0} (test : A → Bool) (next : Reader A) (f : A → List ℕ) (P : A → Bool) → Reads next f P → Reads (checked test next) f (λ x. P x && test x)
 Reads-checked {A} test next f P r = record {
   again = λ x rest h. let t = both (P x) (test x) h in rw (r.again x rest t.0, t.1) refl;
   spelled = λ bytes x rest fits e.
-    let b = bind_some (next bytes) (λ a. cond (test a.0) (Some a) None) (x, rest) e in
-    let k = kept (test b.0.0) b.0 (x, rest) b.2 in
-    let one = r.spelled bytes b.0.0 b.0.1 fits b.1 in
-    subst (λ (y : A × List ℕ). (bytes ≡ f y.0 ++ y.1) × ((P y.0 && test y.0) ≡ true)) k.1 (one.0, both_from _ _ one.1 k.0);
+      let b = bind_some (next bytes) (λ a. cond (test a.0) (Some a) None) (x, rest) e in
+      let k = kept (test b.0.0) b.0 (x, rest) b.2 in
+      let one = r.spelled bytes b.0.0 b.0.1 fits b.1 in
+      subst (λ (y : A × List ℕ). (bytes ≡ f y.0 ++ y.1) × ((P y.0 && test y.0) ≡ true)) k.1 (one.0, both_from _ _ one.1 k.0);
 }
 
 -- the same form and the same test, however they are written
@@ -80,8 +80,8 @@ pub Reads-same : {A : Type 0} (next : Reader A) (f g : A → List ℕ) (P Q : A 
 Reads-same next f g P Q forms tests r = record {
   again = λ x rest h. ap (λ (t : List ℕ). next (t ++ rest)) (sym (forms x)) ∙ r.again x rest (tests x ∙ h);
   spelled = λ bytes x rest fits e.
-    let one = r.spelled bytes x rest fits e in
-    (one.0 ∙ ap (λ (t : List ℕ). t ++ rest) (forms x), sym (tests x) ∙ one.1);
+      let one = r.spelled bytes x rest fits e in
+      (one.0 ∙ ap (λ (t : List ℕ). t ++ rest) (forms x), sym (tests x) ∙ one.1);
 }
 
 opt_again : {A : Type 0} (next : Reader A) (f : A → List ℕ) (P : A → Bool) → Reads next f P → (x : Option A) (rest : List ℕ) → fits_if_some P x ≡ true → opt_next next (opt_form f x ++ rest) ≡ Some (x, rest)
@@ -178,11 +178,11 @@ pub Reads-numbered : {A : Type 0} (of : ℕ → Option A) (number : A → ℕ) �
 Reads-numbered {A} of number back on = record {
   again = λ a rest h. rw (u8_next-again (number a) rest, back a) refl;
   spelled = λ bytes a rest fits e.
-    let b = bind_some (u8_next bytes) (λ n. of n.0 >>= λ a. Some (a, n.1)) (a, rest) e in
-    let c = bind_some (of b.0.0) (λ x. Some (x, b.0.1)) (a, rest) b.2 in
-    let one = u8_next-spelled bytes b.0.0 b.0.1 b.1 in
-    let same = some_is (c.0, b.0.1) (a, rest) c.2 in
-    (one ∙ ap (λ (n : ℕ). n ∷ b.0.1) (on b.0.0 c.0 c.1) ∙ ap (λ (y : A × List ℕ). number y.0 ∷ y.1) same, refl);
+      let b = bind_some (u8_next bytes) (λ n. of n.0 >>= λ a. Some (a, n.1)) (a, rest) e in
+      let c = bind_some (of b.0.0) (λ x. Some (x, b.0.1)) (a, rest) b.2 in
+      let one = u8_next-spelled bytes b.0.0 b.0.1 b.1 in
+      let same = some_is (c.0, b.0.1) (a, rest) c.2 in
+      (one ∙ ap (λ (n : ℕ). n ∷ b.0.1) (on b.0.0 c.0 c.1) ∙ ap (λ (y : A × List ℕ). number y.0 ∷ y.1) same, refl);
 }
 
 -- what a choice of readers reads behind the tag n
@@ -223,10 +223,10 @@ pub Reads-tagged : {B : Type 0} (choose : ℕ → Reader B) (form : B → List �
 Reads-tagged choose form fits again spells = record {
   again = again;
   spelled = λ bytes x rest h e.
-    let b = bind_some (u8_next bytes) (λ n. choose n.0 n.1) (x, rest) e in
-    let one = u8_next-spelled bytes b.0.0 b.0.1 b.1 in
-    let two = spells b.0.0 b.0.1 x rest (IsBytes-rest bytes (b.0.0 ∷ []) b.0.1 one h) b.2 in
-    (one ∙ two.0, two.1);
+      let b = bind_some (u8_next bytes) (λ n. choose n.0 n.1) (x, rest) e in
+      let one = u8_next-spelled bytes b.0.0 b.0.1 b.1 in
+      let two = spells b.0.0 b.0.1 x rest (IsBytes-rest bytes (b.0.0 ∷ []) b.0.1 one h) b.2 in
+      (one ∙ two.0, two.1);
 }
 
 -- ---- the same, with what can be read from the facts left out

@@ -24,6 +24,7 @@ list_form-spelled form xs = rw (lengths form xs, joins form xs) refl
     lengths : {A : Type 0} (form : A → List ℕ) (xs : List A) → length (map form xs) ≡ length xs
     lengths form [] = refl
     lengths form (x ∷ xs) = ap suc (lengths form xs)
+
     joins : {A : Type 0} (form : A → List ℕ) (xs : List A) → flat_map spelled (map form xs) ≡ flat_map form xs
     joins form [] = refl
     joins form (x ∷ xs) = ap (λ (t : List ℕ). form x ++ t) (joins form xs)
@@ -81,9 +82,9 @@ module _ (inside : Reader TypeText) (fits : TypeText → Bool) where
   unfolding part_in
   Reads-part r =
       let pairs = Reads-then text_next name_form is_name (λ _. opt_next (list_next inside)) (opt_form (list_form type_form)) (λ _. fits_if_some (all_fit fits))
-            Reads-text (λ _. Reads-opt (list_next inside) (list_form type_form) (all_fit fits) (Reads-list inside type_form fits r)) in
+      Reads-text (λ _. Reads-opt (list_next inside) (list_form type_form) (all_fit fits) (Reads-list inside type_form fits r)) in
       let whole = Reads-mapped (text_next >> opt_next (list_next inside)) (λ x. name_form x.0 ++ opt_form (list_form type_form) x.1) (λ x. is_name x.0 && fits_if_some (all_fit fits) x.1)
-            part_of (λ part. (part.name, part.arguments)) (λ part. refl) (λ x. refl) pairs in
+      part_of (λ part. (part.name, part.arguments)) (λ part. refl) (λ x. refl) pairs in
       Reads-same (part_in inside) _ part_form _ (part_fits fits) (λ part. sym (part_form-is part)) (λ part. refl) whole
 
   abbrev test : TypeText → Bool
@@ -98,8 +99,8 @@ module _ (inside : Reader TypeText) (fits : TypeText → Bool) where
   Reads-wildcard : Reads inside type_form fits → Reads (checked agreeing (numbered wildcard_of >> opt_next inside)) wildcard_parts_form wildcard_parts_fit
   Reads-wildcard r =
       Reads-checked agreeing (numbered wildcard_of >> opt_next inside) wildcard_parts_form (λ x. true && fits_if_some fits x.1)
-        (Reads-then (numbered wildcard_of) (λ k. wildcard_number k ∷ []) (λ k. true) (λ _. opt_next inside) (opt_form type_form) (λ _. fits_if_some fits)
-          (Reads-numbered wildcard_of wildcard_number wildcard_back wildcard_on) (λ _. Reads-opt inside type_form fits r))
+      (Reads-then (numbered wildcard_of) (λ k. wildcard_number k ∷ []) (λ k. true) (λ _. opt_next inside) (opt_form type_form) (λ _. fits_if_some fits)
+      (Reads-numbered wildcard_of wildcard_number wildcard_back wildcard_on) (λ _. Reads-opt inside type_form fits r))
 
   pub Reads-type : Reads inside type_form fits → Reads (type_in inside) type_form test
   unfolding type_in
@@ -114,20 +115,20 @@ module _ (inside : Reader TypeText) (fits : TypeText → Bool) where
       let wildcard_forms : (x : WildcardKind × Option TypeText) → type_form (wildcard_of_parts x) ≡ 3 ∷ wildcard_parts_form x = λ x. type_form-Wildcard x.0 x.1 in
       let Q : TypeText → Type 0 = λ text. (rest : List ℕ) → test text ≡ true → tagged (type_choice inside) (type_form text ++ rest) ≡ Some (text, rest) in
       Reads-tagged (type_choice inside) type_form test
-        (type_cases Q
-          (tagged-again (type_choice inside) type_form test 0 type.Primitive (numbered primitive_of) (λ k. primitive_number k ∷ []) (λ k. true) type_form-Primitive primitive_tests primitive (λ bytes. refl))
-          (tagged-again (type_choice inside) type_form test 1 type.Named (list_next (part_in inside)) (list_form part_form) (all_fit (part_fits fits)) type_form-Named named_tests parts (λ bytes. refl))
-          (tagged-again (type_choice inside) type_form test 2 type.Array inside type_form fits type_form-Array array_tests r (λ bytes. refl))
-          (λ kind bound. tagged-again (type_choice inside) type_form test 3 wildcard_of_parts (checked agreeing (numbered wildcard_of >> opt_next inside)) wildcard_parts_form wildcard_parts_fit wildcard_forms wildcard_tests wildcards (λ bytes. refl) (kind, bound)))
-        (λ n. Spells-or type_form test n 0 (mapped type.Primitive (numbered primitive_of)) _
-            (Spells-variant type_form test 0 type.Primitive (numbered primitive_of) (λ k. primitive_number k ∷ []) (λ k. true) type_form-Primitive primitive_tests primitive)
-          (Spells-or type_form test n 1 (mapped type.Named (list_next (part_in inside))) _
-            (Spells-variant type_form test 1 type.Named (list_next (part_in inside)) (list_form part_form) (all_fit (part_fits fits)) type_form-Named named_tests parts)
-          (Spells-or type_form test n 2 (mapped type.Array inside) _
-            (Spells-variant type_form test 2 type.Array inside type_form fits type_form-Array array_tests r)
-          (Spells-or type_form test n 3 (mapped wildcard_of_parts (checked agreeing (numbered wildcard_of >> opt_next inside))) none_next
-            (Spells-variant type_form test 3 wildcard_of_parts (checked agreeing (numbered wildcard_of >> opt_next inside)) wildcard_parts_form wildcard_parts_fit wildcard_forms wildcard_tests wildcards)
-          (Spells-none type_form test n)))))
+      (type_cases Q
+      (tagged-again (type_choice inside) type_form test 0 type.Primitive (numbered primitive_of) (λ k. primitive_number k ∷ []) (λ k. true) type_form-Primitive primitive_tests primitive (λ bytes. refl))
+      (tagged-again (type_choice inside) type_form test 1 type.Named (list_next (part_in inside)) (list_form part_form) (all_fit (part_fits fits)) type_form-Named named_tests parts (λ bytes. refl))
+      (tagged-again (type_choice inside) type_form test 2 type.Array inside type_form fits type_form-Array array_tests r (λ bytes. refl))
+      (λ kind bound. tagged-again (type_choice inside) type_form test 3 wildcard_of_parts (checked agreeing (numbered wildcard_of >> opt_next inside)) wildcard_parts_form wildcard_parts_fit wildcard_forms wildcard_tests wildcards (λ bytes. refl) (kind, bound)))
+      (λ n. Spells-or type_form test n 0 (mapped type.Primitive (numbered primitive_of)) _
+      (Spells-variant type_form test 0 type.Primitive (numbered primitive_of) (λ k. primitive_number k ∷ []) (λ k. true) type_form-Primitive primitive_tests primitive)
+      (Spells-or type_form test n 1 (mapped type.Named (list_next (part_in inside))) _
+      (Spells-variant type_form test 1 type.Named (list_next (part_in inside)) (list_form part_form) (all_fit (part_fits fits)) type_form-Named named_tests parts)
+      (Spells-or type_form test n 2 (mapped type.Array inside) _
+      (Spells-variant type_form test 2 type.Array inside type_form fits type_form-Array array_tests r)
+      (Spells-or type_form test n 3 (mapped wildcard_of_parts (checked agreeing (numbered wildcard_of >> opt_next inside))) none_next
+      (Spells-variant type_form test 3 wildcard_of_parts (checked agreeing (numbered wildcard_of >> opt_next inside)) wildcard_parts_form wildcard_parts_fit wildcard_forms wildcard_tests wildcards)
+      (Spells-none type_form test n)))))
 
 pub Reads-inside : (room : ℕ) → Reads (inside_next room) type_form (inside_type room)
 unfolding inside_next inside_type

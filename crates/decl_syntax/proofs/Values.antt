@@ -93,15 +93,15 @@ module _ (inner : Reader ValueText) (fits : ValueText → Bool) where
   unfolding pair_in
   Reads-pair r =
       same_reads pair_form (pair_fits fits) (λ pair. sym (pair_form-is pair)) (λ pair. refl)
-        (map_reads pair_of (λ pair. (pair.name, pair.value)) (λ pair. refl) (λ x. refl) (and_reads Reads-text r))
+      (map_reads pair_of (λ pair. (pair.name, pair.value)) (λ pair. refl) (λ x. refl) (and_reads Reads-text r))
 
   pub Reads-annotation : Reads inner value_form fits → Reads (annotation_in inner) annotation_form (annotation_fits fits)
   unfolding annotation_in
   Reads-annotation r =
       same_reads annotation_form (annotation_fits fits) (λ annotation. sym (annotation_form-is annotation)) (λ annotation. refl)
-        (map_reads annotation_of (λ annotation. ((out-AnnotationText annotation).name, (out-AnnotationText annotation).values))
-          (λ annotation. roll-out-AnnotationText annotation) (λ x. ap (λ a. (a.name, a.values)) (out-roll-AnnotationText (record { name = x.0; values = x.1 })))
-          (and_reads Reads-text (list_reads (Reads-pair r))))
+      (map_reads annotation_of (λ annotation. ((out-AnnotationText annotation).name, (out-AnnotationText annotation).values))
+      (λ annotation. roll-out-AnnotationText annotation) (λ x. ap (λ a. (a.name, a.values)) (out-roll-AnnotationText (record { name = x.0; values = x.1 })))
+      (and_reads Reads-text (list_reads (Reads-pair r))))
 
 -- the items of a sum
 
@@ -119,17 +119,17 @@ Reads-plain =
     let chain = variant plain_choice value_form is_plain 4 value.Chain value_form-Chain (λ text. plain_tests (ValueText-F.Chain text) _ (value.outs-Chain text)) (λ bytes. refl) Reads-text in
     let Q : ValueText → Type 0 = λ text. (rest : List ℕ) → is_plain text ≡ true → tagged plain_choice (value_form text ++ rest) ≡ Some (text, rest) in
     Reads-tagged plain_choice value_form is_plain
-      (value_cases Q literal.again
-        (λ x rest h. absurd (no_truth (sym h ∙ plain_tests (ValueText-F.Negated x) _ (value.outs-Negated x))))
-        (λ x rest h. absurd (no_truth (sym h ∙ plain_tests (ValueText-F.Joined x) _ (value.outs-Joined x))))
-        (λ x rest h. absurd (no_truth (sym h ∙ plain_tests (ValueText-F.Class x) _ (value.outs-Class x))))
-        chain.again
-        (λ x rest h. absurd (no_truth (sym h ∙ plain_tests (ValueText-F.Array x) _ (value.outs-Array x))))
-        (λ x rest h. absurd (no_truth (sym h ∙ plain_tests (ValueText-F.Nested x) _ (value.outs-Nested x))))
-        (λ x rest h. absurd (no_truth (sym h ∙ plain_tests (ValueText-F.Other x) _ (value.outs-Other x))))
-      )
-      (λ n. Spells-or value_form is_plain n 0 (mapped value.Literal text_next) _ literal.spelled
-        (Spells-or value_form is_plain n 4 (mapped value.Chain text_next) none_next chain.spelled (Spells-none value_form is_plain n)))
+    (value_cases Q literal.again
+    (λ x rest h. absurd (no_truth (sym h ∙ plain_tests (ValueText-F.Negated x) _ (value.outs-Negated x))))
+    (λ x rest h. absurd (no_truth (sym h ∙ plain_tests (ValueText-F.Joined x) _ (value.outs-Joined x))))
+    (λ x rest h. absurd (no_truth (sym h ∙ plain_tests (ValueText-F.Class x) _ (value.outs-Class x))))
+    chain.again
+    (λ x rest h. absurd (no_truth (sym h ∙ plain_tests (ValueText-F.Array x) _ (value.outs-Array x))))
+    (λ x rest h. absurd (no_truth (sym h ∙ plain_tests (ValueText-F.Nested x) _ (value.outs-Nested x))))
+    (λ x rest h. absurd (no_truth (sym h ∙ plain_tests (ValueText-F.Other x) _ (value.outs-Other x))))
+    )
+    (λ n. Spells-or value_form is_plain n 0 (mapped value.Literal text_next) _ literal.spelled
+    (Spells-or value_form is_plain n 4 (mapped value.Chain text_next) none_next chain.spelled (Spells-none value_form is_plain n)))
 
 module _ (of : Reader TypeText) (type : TypeText → Bool) (inner : Reader ValueText) (fits : ValueText → Bool) where
   abbrev test : ValueText → Bool
@@ -153,16 +153,16 @@ module _ (of : Reader TypeText) (type : TypeText → Bool) (inner : Reader Value
       let other = variant choose value_form test 7 value.Other value_form-Other (λ x. ap (value_fits type fits) (value.outs-Other x)) (λ bytes. refl) names in
       let Q : ValueText → Type 0 = λ text. (rest : List ℕ) → test text ≡ true → tagged choose (value_form text ++ rest) ≡ Some (text, rest) in
       Reads-tagged choose value_form test
-        (value_cases Q literal.again negated.again joined.again class.again chain.again array.again nested.again other.again)
-        (λ n. Spells-or value_form test n 0 (mapped value.Literal text_next) _ literal.spelled
-          (Spells-or value_form test n 1 (mapped value.Negated text_next) _ negated.spelled
-          (Spells-or value_form test n 2 (mapped value.Joined (checked are_two (list_next plain_next))) _ joined.spelled
-          (Spells-or value_form test n 3 (mapped value.Class of) _ class.spelled
-          (Spells-or value_form test n 4 (mapped value.Chain text_next) _ chain.spelled
-          (Spells-or value_form test n 5 (mapped value.Array (list_next inner)) _ array.spelled
-          (Spells-or value_form test n 6 (mapped value.Nested (annotation_in inner)) _ nested.spelled
-          (Spells-or value_form test n 7 (mapped value.Other text_next) none_next other.spelled
-          (Spells-none value_form test n)))))))))
+      (value_cases Q literal.again negated.again joined.again class.again chain.again array.again nested.again other.again)
+      (λ n. Spells-or value_form test n 0 (mapped value.Literal text_next) _ literal.spelled
+      (Spells-or value_form test n 1 (mapped value.Negated text_next) _ negated.spelled
+      (Spells-or value_form test n 2 (mapped value.Joined (checked are_two (list_next plain_next))) _ joined.spelled
+      (Spells-or value_form test n 3 (mapped value.Class of) _ class.spelled
+      (Spells-or value_form test n 4 (mapped value.Chain text_next) _ chain.spelled
+      (Spells-or value_form test n 5 (mapped value.Array (list_next inner)) _ array.spelled
+      (Spells-or value_form test n 6 (mapped value.Nested (annotation_in inner)) _ nested.spelled
+      (Spells-or value_form test n 7 (mapped value.Other text_next) none_next other.spelled
+      (Spells-none value_form test n)))))))))
 
 pub Reads-value_next : (room : ℕ) → Reads (value_next room) value_form (is_legal_value room)
 unfolding value_next is_legal_value

@@ -89,7 +89,10 @@ fn values(writer: &mut FieldWriter, items: &[ValueText]) -> Result<(), NoMemory>
 }
 
 #[tactic(auto, unfolding(crate::specs::Forms::count_form))]
-pub(crate) fn annotations(writer: &mut FieldWriter, items: &[AnnotationText]) -> Result<(), NoMemory>
+pub(crate) fn annotations(
+    writer: &mut FieldWriter,
+    items: &[AnnotationText],
+) -> Result<(), NoMemory>
     ensures { OnOk result (writer.new ≡ writer.old ++ list_form annotation_form items.now) }
 {
     count(writer, items.len())?;

@@ -1,7 +1,9 @@
 ghost use Rattle.std.specs.Prelude.{◌≡◌, IfOk};
 
 use crate::annotation::{AnnotationText, copy_annotations};
-use crate::member::{ConstantDecl, ConstructorDecl, FieldDecl, MethodDecl, TypeParam, copy_type_params};
+use crate::member::{
+    ConstantDecl, ConstructorDecl, FieldDecl, MethodDecl, TypeParam, copy_type_params,
+};
 use crate::name::copy_text;
 use crate::type_text::{TypeText, copy_type, copy_types};
 use crate::{List, Name, NoMemory};

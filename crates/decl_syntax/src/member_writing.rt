@@ -78,7 +78,10 @@ pub(crate) fn method(writer: &mut FieldWriter, method: &MethodDecl) -> Result<()
 }
 
 #[tactic(auto, unfolding(crate::specs::Shape::constructor_form))]
-pub(crate) fn constructor(writer: &mut FieldWriter, constructor: &ConstructorDecl) -> Result<(), NoMemory>
+pub(crate) fn constructor(
+    writer: &mut FieldWriter,
+    constructor: &ConstructorDecl,
+) -> Result<(), NoMemory>
     ensures { OnOk result (writer.new ≡ writer.old ++ constructor_form constructor.now) }
 {
     modifiers(writer, constructor.modifiers)?;

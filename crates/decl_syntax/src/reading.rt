@@ -66,10 +66,7 @@ pub(crate) fn text(alloc: Global, reader: &mut FieldReader) -> Result<Name, Shap
 }
 
 #[tactic(auto, unfolding(crate::specs::Forms::opt_next))]
-pub(crate) fn opt_text(
-    alloc: Global,
-    reader: &mut FieldReader,
-) -> Result<Option<Name>, ShapeFault>
+pub(crate) fn opt_text(alloc: Global, reader: &mut FieldReader) -> Result<Option<Name>, ShapeFault>
     ensures { Gives result (opt_next text_next reader.old) reader.new }
 {
     if flag(reader)? {
@@ -81,10 +78,7 @@ pub(crate) fn opt_text(
 }
 
 #[tactic(auto, unfolding(crate::specs::Forms::list_next))]
-pub(crate) fn texts(
-    alloc: Global,
-    reader: &mut FieldReader,
-) -> Result<List<Name>, ShapeFault>
+pub(crate) fn texts(alloc: Global, reader: &mut FieldReader) -> Result<List<Name>, ShapeFault>
     ensures { Gives result (list_next text_next reader.old) reader.new }
 {
     let count = count(reader)?;

@@ -155,11 +155,7 @@ fn arguments(
 
 #[cycle(type_reading)]
 #[tactic(auto, unfolding(crate::specs::Forms::list_next))]
-fn parts(
-    alloc: Global,
-    reader: &mut FieldReader,
-    room: u32,
-) -> Result<List<NamedPart>, ShapeFault>
+fn parts(alloc: Global, reader: &mut FieldReader, room: u32) -> Result<List<NamedPart>, ShapeFault>
     ensures { Gives result (list_next (part_in (inside_next room)) reader.old) reader.new }
 {
     let count = count(reader)?;
@@ -173,11 +169,7 @@ fn parts(
 
 #[cycle(type_reading)]
 #[tactic(auto, unfolding(crate::specs::Forms::list_next))]
-fn insides(
-    alloc: Global,
-    reader: &mut FieldReader,
-    room: u32,
-) -> Result<List<TypeText>, ShapeFault>
+fn insides(alloc: Global, reader: &mut FieldReader, room: u32) -> Result<List<TypeText>, ShapeFault>
     ensures { Gives result (list_next (inside_next room) reader.old) reader.new }
 {
     let count = count(reader)?;

@@ -106,10 +106,7 @@ impl TypeText {
 }
 
 /// An equal type, where there is one.
-pub(crate) fn copy_type(
-    alloc: Global,
-    of: &Option<TypeText>,
-) -> Result<Option<TypeText>, NoMemory>
+pub(crate) fn copy_type(alloc: Global, of: &Option<TypeText>) -> Result<Option<TypeText>, NoMemory>
     ensures { IfOk result (λ copy. copy ≡ of.now) }
 {
     match of {

@@ -13,12 +13,12 @@ pub parts-returns-in_err-item : goal.parts-returns-in_err-item
 parts-returns-in_err-item t c =
     let p = err_from_is_err_and c.from_residual-in_err-item.result c.from_residual-in_err-item.ensures.1 in
     rw (p.1, p.2) (list_ends (part_in (inside_next c.args.room)) c.in_err-item.field-0.0 c.loop.items c.in_ok-count.count c.loop.counter c.loop.reader c.args.reader.now c.count.new.reader c.part.new.reader
-      c.in_ok-count.ensures c.loop-test.true c.in_err-item.ensures c.loop.invariant)
+    c.in_ok-count.ensures c.loop-test.true c.in_err-item.ensures c.loop.invariant)
 
 pub parts-loop-preserved : goal.parts-loop-preserved
 parts-loop-preserved t c =
     rw c.in_ok-push.ensures.ok (goes_on (part_in (inside_next c.args.room)) c.loop.items c.in_ok-count.count c.loop.counter c.loop.reader c.in_ok-item.item c.part.new.reader (items_next (part_in (inside_next c.args.room)) c.in_ok-count.count c.count.new.reader)
-      c.loop-test.true c.in_ok-item.ensures c.loop.invariant)
+    c.loop-test.true c.in_ok-item.ensures c.loop.invariant)
 
 pub parts-returns : goal.parts-returns
 parts-returns t c = list_is_done (part_in (inside_next c.args.room)) c.loop.items c.in_ok-count.count c.loop.counter c.loop.reader c.args.reader.now c.count.new.reader c.in_ok-count.ensures c.loop-test.false c.loop.invariant
@@ -27,12 +27,12 @@ pub insides-returns-in_err-item : goal.insides-returns-in_err-item
 insides-returns-in_err-item t c =
     let p = err_from_is_err_and c.from_residual-in_err-item.result c.from_residual-in_err-item.ensures.1 in
     rw (p.1, p.2) (list_ends (inside_next c.args.room) c.in_err-item.field-0.0 c.loop.items c.in_ok-count.count c.loop.counter c.loop.reader c.args.reader.now c.count.new.reader c.inside.new.reader
-      c.in_ok-count.ensures c.loop-test.true c.in_err-item.ensures c.loop.invariant)
+    c.in_ok-count.ensures c.loop-test.true c.in_err-item.ensures c.loop.invariant)
 
 pub insides-loop-preserved : goal.insides-loop-preserved
 insides-loop-preserved t c =
     rw c.in_ok-push.ensures.ok (goes_on (inside_next c.args.room) c.loop.items c.in_ok-count.count c.loop.counter c.loop.reader c.in_ok-item.item c.inside.new.reader (items_next (inside_next c.args.room) c.in_ok-count.count c.count.new.reader)
-      c.loop-test.true c.in_ok-item.ensures c.loop.invariant)
+    c.loop-test.true c.in_ok-item.ensures c.loop.invariant)
 
 pub insides-returns : goal.insides-returns
 insides-returns t c = list_is_done (inside_next c.args.room) c.loop.items c.in_ok-count.count c.loop.counter c.loop.reader c.args.reader.now c.count.new.reader c.in_ok-count.ensures c.loop-test.false c.loop.invariant
