@@ -25,11 +25,8 @@ pub struct Hello {
 /// Whether a processor claims the annotation names that it is offered.
 #[derive(Clone, Copy, Debug, PartialEq, Eq)]
 pub enum Claim {
-    /// It claims them in each round.
     Always,
-    /// It claims them in no round.
     Never,
-    /// It says so anew in each round.
     Varies,
 }
 
@@ -51,7 +48,6 @@ pub enum Created {
 /// The host's answer to a child's frame in a round.
 #[derive(Debug, Drop)]
 pub enum Reply {
-    /// To a creation.
     Created(Created),
 }
 
