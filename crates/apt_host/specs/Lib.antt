@@ -1,0 +1,11 @@
+pub mod Words
+pub mod Shown
+pub mod Project
+pub mod CleanBuild
+pub mod Report
+pub mod Verdicts
+pub mod Refusals
+pub mod Entering
+pub mod Making
+pub mod Listed
+pub mod Promises

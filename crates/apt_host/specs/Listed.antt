@@ -1,0 +1,45 @@
+-- What the report and the store have of a file that was made.
+use Rattle.std.specs.Prelude.{◌≡◌, ◌<◌, ◌^◌, ℕ, List, [], length, map, All}
+use Rattle.std.specs.FinMap as fin
+use Rattle.apt_outside.specs.Files.{Files}
+use Rattle.tree_store.specs.declared.record.StoredFile.{StoredFile}
+use Rattle.tree_store.specs.RecordFormat.{record_form, IsEntry}
+use Rattle.tree_store.specs.Output.{record_path}
+use Rattle.tree_store.specs.Storing.{Numbered, AreWritten, AddsToStore}
+use Rattle.round_engine.specs.Numbering.{AreLeast}
+use Rattle.apt_host.specs.Report.{report_of}
+use Rattle.round_engine.specs.declared.numbering.Made.{Made}
+
+-- a file's path and length
+abbrev pub listed : StoredFile → List ℕ × ℕ
+listed file = (file.path, file.length)
+
+-- its entry in the record
+abbrev pub entry_of : Made → StoredFile
+entry_of made = record { path = made.path; store = made.store; length = length made.bytes }
+
+-- its file in the store
+abbrev pub numbered_of : Made → ℕ × List ℕ
+numbered_of made = (made.store, made.bytes)
+
+-- its path and its bytes
+abbrev pub file_of : Made → List ℕ × List ℕ
+file_of made = (made.path, made.bytes)
+
+-- What is to be written for these files, beside the store's taken numbers: the store's new files, the record's bytes and the report.
+pub record Spells (taken : List ℕ) (files : Files) (started : ℕ) (stored : Numbered) (bytes text : List ℕ) : Type 0 where
+  pub made : List Made
+  pub are : map file_of made ≡ fin.entries files
+  pub numbers : AreLeast taken [] (map (λ file. file.store) made)
+  pub stored_is : stored ≡ map numbered_of made
+  pub bytes_are : bytes ≡ record_form (map entry_of made)
+  pub count : length made < 2 ^ 32
+  pub fit : All IsEntry (map entry_of made)
+  pub text_is : text ≡ report_of started (map listed (map entry_of made))
+
+-- the store gained the files, and then the record was put in place
+pub record Places (stored : Numbered) (bytes : List ℕ) (old new : Files) : Type 0 where
+  pub mid : Files
+  pub written : AreWritten mid stored
+  pub adds : AddsToStore old mid
+  pub committed : new ≡ fin.insert mid record_path bytes

@@ -1,0 +1,168 @@
+-- What `run` promises, by what its words ask for.
+use Rattle.std.specs.Prelude.{◌≡◌, ◌≢◌, ◌⊎◌, ℕ, ◌+◌, ◌≤◌, Bool, true, false, List, [], ◌∷◌, ◌++◌, map, length, take, Option, None, Some, Result, Ok, Err, IfOk}
+use Rattle.std.specs.FinMap as fin
+use Rattle.apt_outside.specs.Count.{Rose, Told}
+use Rattle.apt_outside.specs.Files.{Files, file_at}
+use Rattle.apt_outside.specs.Child.{Says, Try, Known}
+use Rattle.tree_store.specs.declared.record.StoredFile.{StoredFile}
+use Rattle.tree_store.specs.RecordFormat.{record_form}
+use Rattle.tree_store.specs.Output.{output_of, record_path, StoresStand}
+use Rattle.tree_store.specs.Storing.{AreTaken}
+use Rattle.round_engine.specs.Numbering.{AreLeast}
+use Rattle.child_session.specs.Round.{Act, Answered, Broken}
+use Rattle.round_engine.specs.Run.{Units, run_of, IsShown}
+use Rattle.apt_host.specs.Words.{Request, Build, Bad}
+use Rattle.apt_host.specs.Project.{units_of}
+use Rattle.apt_host.specs.CleanBuild.{Outcome, clean}
+use Rattle.apt_host.specs.CleanBuild as outcome
+use Rattle.apt_host.specs.Report.{report_of}
+use Rattle.apt_host.specs.Verdicts.{Verdict, Done, BadWords, UnbuiltForm, UnbuiltTalk, TreeFault, SinkFault, ChildFault, Memory, OrFree, verdict_of, refusal_of}
+
+-- ---- the answer
+
+-- the answer of a request over a project, if nothing fails
+abbrev pub answer_of : Request → Says → Files → Verdict
+answer_of (Build processor) says project = verdict_of (clean says processor project)
+answer_of (Bad at) says project = BadWords at
+
+-- a fault of the children came only where their count rose
+abbrev pub ChildrenRose : Verdict → ℕ → ℕ → Type 0
+ChildrenRose (ChildFault processor) before now = Rose before now
+ChildrenRose TreeFault before now = Unit {0}
+ChildrenRose SinkFault before now = Unit {0}
+ChildrenRose Memory before now = Unit {0}
+ChildrenRose Done before now = Unit {0}
+ChildrenRose (BadWords at) before now = Unit {0}
+ChildrenRose (UnbuiltForm path) before now = Unit {0}
+ChildrenRose (UnbuiltTalk processor) before now = Unit {0}
+
+-- ---- what is published
+
+-- The output is these files: the record names each, and it stands in the store. The numbers of the store files are, in the
+-- order of the record, the least that no file of the store and no earlier one has.
+pub record Publishes (files old new : Files) : Type 0 where
+  pub output : output_of new ≡ files
+  pub entries : List StoredFile
+  pub recorded : file_at new record_path ≡ Some (record_form entries)
+  pub taken : List ℕ
+  pub are_taken : AreTaken old taken
+  pub numbers : AreLeast taken [] (map (λ entry. entry.store) entries)
+
+abbrev pub PublishesOutcome : Outcome → Files → Files → Type 0
+PublishesOutcome (outcome.Built files started) old new = Publishes files old new
+PublishesOutcome (outcome.UnbuiltForm path) old new = ⊥
+PublishesOutcome (outcome.UnbuiltTalk processor) old new = ⊥
+
+-- a finished build published what the clean build gives
+abbrev pub PublishesClean : Request → Says → Files → Files → Verdict → Type 0
+PublishesClean (Build processor) says old new v = v ≡ Done → PublishesOutcome (clean says processor old) old new
+PublishesClean (Bad at) says old new v = Unit {0}
+
+-- after any other answer the former output stands
+abbrev pub KeepsOutput : Files → Files → Verdict → Type 0
+KeepsOutput old new v = v ≢ Done → StoresStand old → output_of new ≡ output_of old
+
+-- where each store file that the record names stood, each still stands
+abbrev pub KeepsStores : Files → Files → Verdict → Type 0
+KeepsStores old new v = v ≢ Done → StoresStand old → StoresStand new
+
+-- ---- what is written
+
+-- what may stand of a report before the line of a refusal: nothing, or the whole where the publishing was refused, or a
+-- front of it where the sink failed or memory was wanted
+abbrev pub IsFront : List ℕ → Verdict → List ℕ → Type 0
+IsFront report Done text = text ≡ report
+IsFront report (BadWords at) text = text ≡ []
+IsFront report (UnbuiltForm path) text = text ≡ []
+IsFront report (UnbuiltTalk processor) text = text ≡ []
+IsFront report (ChildFault processor) text = text ≡ []
+IsFront report TreeFault text = (text ≡ []) ⊎ (text ≡ report)
+IsFront report SinkFault text = (n : ℕ) × (text ≡ take n report)
+IsFront report Memory text = (n : ℕ) × (text ≡ take n report)
+
+-- the line of a refusal, or a front of it where the sink failed or memory was wanted
+abbrev pub IsLine : Verdict → Type 0 → List ℕ → Type 0
+IsLine v rose line = (line ≡ refusal_of v) ⊎ ((rose ⊎ (v ≡ Memory)) × ((m : ℕ) × (line ≡ take m (refusal_of v))))
+
+-- what a report is, where its outcome has one
+abbrev pub Reports : Outcome → List ℕ → Type 0
+Reports (outcome.Built files started) report = report ≡ report_of started (map (λ file. (file.0, length file.1)) (fin.entries files))
+Reports (outcome.UnbuiltForm path) report = Unit {0}
+Reports (outcome.UnbuiltTalk processor) report = Unit {0}
+
+-- what a request reports over a project
+abbrev pub ReportsOf : Request → Says → Files → List ℕ → Type 0
+ReportsOf (Build processor) says project report = Reports (clean says processor project) report
+ReportsOf (Bad at) says project report = Unit {0}
+
+-- what a request writes before its refusal's line; the report is the clean one, where tree and children tell
+pub record Begins (tells says_tells : Bool) (request : Request) (says : Says) (project : Files) (v : Verdict) (old new : List ℕ) : Type 0 where
+  pub report : List ℕ
+  pub is_report : Told tells (Told says_tells (ReportsOf request says project report))
+  pub text : List ℕ
+  pub is_front : IsFront report v text
+  pub added : new ≡ old ++ text
+
+-- all that a request writes
+pub record Writes (tells says_tells : Bool) (request : Request) (says : Says) (project : Files) (v : Verdict) (rose : Type 0) (old new : List ℕ) : Type 0 where
+  pub report : List ℕ
+  pub is_report : Told tells (Told says_tells (ReportsOf request says project report))
+  pub text : List ℕ
+  pub is_front : IsFront report v text
+  pub line : List ℕ
+  pub is_line : IsLine v rose line
+  pub added : new ≡ old ++ (text ++ line)
+
+-- a front of the report was added
+abbrev pub AddsFront : List ℕ → Verdict → List ℕ → List ℕ → Type 0
+AddsFront report v old new = (text : List ℕ) × IsFront report v text × (new ≡ old ++ text)
+
+-- the line of a refusal was added
+abbrev pub AddsLine : Verdict → Type 0 → List ℕ → List ℕ → Type 0
+AddsLine v rose old new = (line : List ℕ) × IsLine v rose line × (new ≡ old ++ line)
+
+-- the refusal stays, but where its line wants memory
+pub record Finishes (before after : Verdict) : Type 0 where
+  pub same : after ≢ Memory → after ≡ before
+  pub done : before ≡ Done → after ≡ Done
+
+-- ---- what children are started and shown
+
+-- how many children a finished build starts: the number of its mode line
+abbrev pub started_of : Request → ℕ
+started_of (Build None) = 0
+started_of (Build (Some processor)) = 1
+started_of (Bad at) = 0
+
+pub record Starts (request : Request) (v : Verdict) (before now : ℕ) : Type 0 where
+  pub finished : v ≡ Done → now ≡ before + started_of request
+  pub most : now ≤ before + started_of request
+
+-- no start but that of the processor that the words name was tried
+abbrev pub Tries : Request → List Try → List Try → Type 0
+Tries (Build (Some processor)) old new = (new ≡ old) ⊎ (new ≡ old ++ processor ∷ [])
+Tries (Build None) old new = new ≡ old
+Tries (Bad at) old new = new ≡ old
+
+-- the frames that a run sent
+abbrev pub frames_of : Act → List (List ℕ)
+frames_of (Answered sent files) = sent
+frames_of (Broken sent) = sent
+
+-- the answers that a run comes to
+abbrev pub is_run : Verdict → Bool
+is_run Done = true
+is_run (UnbuiltTalk processor) = true
+is_run (BadWords at) = false
+is_run (UnbuiltForm path) = false
+is_run TreeFault = false
+is_run SinkFault = false
+is_run (ChildFault processor) = false
+is_run Memory = false
+
+-- The child that was started was shown exactly the frames of the run: the first frame, round 1 where its annotation is
+-- present, then the last round, and the replies between them.
+abbrev pub ShowsRun : Request → Says → Files → Known → Verdict → Type 0
+ShowsRun (Build (Some processor)) says project known v = (units : Units) → units_of project ≡ Ok units → is_run v ≡ true → (child : ℕ) × IsShown processor (frames_of (run_of says processor units)) known child
+ShowsRun (Build None) says project known v = Unit {0}
+ShowsRun (Bad at) says project known v = Unit {0}

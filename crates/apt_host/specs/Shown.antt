@@ -1,0 +1,14 @@
+-- What the code has of the words of a call.
+use Rattle.std.specs.Prelude.{ℕ, List, map, string_bytes, Option, None, Some, option_map}
+use Rattle.apt_outside.specs.Child.{Try}
+use Rattle.apt_host.specs.declared.words.Processor.{Processor}
+use Rattle.apt_host.specs.declared.words.Request as words
+use Rattle.apt_host.specs.declared.words.Request.TheVariants as code
+use Rattle.apt_host.specs.Words.{Request, Build, Bad}
+
+abbrev pub shown_processor : Processor → Try
+shown_processor processor = (processor.name.now, map string_bytes processor.command.now)
+
+abbrev pub shown_request : words.Request → Request
+shown_request (code.Build processor) = Build (option_map {U = Try} shown_processor processor)
+shown_request (code.Bad at) = Bad at

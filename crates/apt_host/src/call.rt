@@ -1,0 +1,123 @@
+// The top call.
+ghost use Rattle.std.specs.Prelude.{◌≡◌, ◌≤◌, map, string_bytes};
+ghost use Rattle.apt_outside.specs.Count.{Rose, Told};
+ghost use Rattle.tree_store.specs.Output.{StoresStand, SameOutside};
+ghost use Rattle.apt_host.specs.Words.{request_of};
+ghost use Rattle.apt_host.specs.Verdicts.{verdict, TreeFault, SinkFault, OrFree};
+ghost use Rattle.apt_host.specs.Refusals.{ended};
+ghost use Rattle.apt_host.specs.Promises.{answer_of, ChildrenRose, PublishesClean, KeepsOutput, Begins, Writes, Finishes, AddsLine, Starts, Tries, ShowsRun};
+
+use crate::Status;
+use crate::build::build;
+use crate::refusal::Refusal;
+use crate::report::refusal;
+use crate::words::{Request, read_words};
+use apt_outside::{Children, Fault, Sink, Source, Tree};
+use std::alloc::Global;
+
+fn status_of(outcome: Result<(), Refusal>) -> Status
+    ensures { verdict result ≡ ended outcome }
+{
+    match outcome {
+        Ok(()) => Status::Done,
+        Err(refusal) => refusal.into_status(),
+    }
+}
+
+/// Does what the words say, up to the line of a refusal.
+fn work<T: Tree, C: Children, W: Sink>(
+    alloc: Global,
+    words: &[String],
+    tree: &mut T,
+    children: &mut C,
+    output: &mut W,
+) -> Status
+    ensures tree_fault { verdict result ≡ TreeFault → Rose (T.faults tree.old) (T.faults tree.new) }
+    ensures sink_fault { verdict result ≡ SinkFault → Rose (W.faults output.old) (W.faults output.new) }
+    ensures child_fault { ChildrenRose (verdict result) (C.faults children.old) (C.faults children.new) }
+    ensures later { T.faults tree.old ≤ T.faults tree.new }
+    ensures later_children { C.faults children.old ≤ C.faults children.new }
+    ensures later_sink { W.faults output.old ≤ W.faults output.new }
+    ensures live { C.live children.new ≡ C.live children.old }
+    ensures starts { Starts (request_of (map string_bytes words.now)) (verdict result) (C.starts children.old) (C.starts children.new) }
+    ensures says { Told C.tells (C.says children.new ≡ C.says children.old) }
+    ensures tried { Told C.tells (Tries (request_of (map string_bytes words.now)) (C.tried children.old) (C.tried children.new)) }
+    ensures answer { Told T.tells (Told C.tells (OrFree (answer_of (request_of (map string_bytes words.now)) (C.says children.old) (T.files tree.old)) (verdict result))) }
+    ensures published { Told T.tells (Told C.tells (PublishesClean (request_of (map string_bytes words.now)) (C.says children.old) (T.files tree.old) (T.files tree.new) (verdict result))) }
+    ensures kept { Told T.tells (KeepsOutput (T.files tree.old) (T.files tree.new) (verdict result)) }
+    ensures stand { Told T.tells (StoresStand (T.files tree.old) → StoresStand (T.files tree.new)) }
+    ensures outside { Told T.tells (SameOutside (T.files tree.old) (T.files tree.new)) }
+    ensures shown { Told T.tells (Told C.tells (ShowsRun (request_of (map string_bytes words.now)) (C.says children.old) (T.files tree.old) (C.known children.new) (verdict result))) }
+    ensures written { Told W.tells (Begins T.tells C.tells (request_of (map string_bytes words.now)) (C.says children.old) (T.files tree.old) (verdict result) (W.written output.old) (W.written output.new)) }
+{
+    match read_words(words) {
+        Request::Build { processor } => status_of(build(alloc, processor, tree, children, output)),
+        Request::Bad { at } => Status::BadWords { at },
+    }
+}
+
+/// Writes the line of a refusal.
+fn finish<W: Sink>(alloc: Global, status: Status, output: &mut W) -> Status
+    ensures status { Finishes (verdict status) (verdict result) }
+    ensures later { W.faults output.old ≤ W.faults output.new }
+    ensures line { Told W.tells (AddsLine (verdict result) (Rose (W.faults output.old) (W.faults output.new)) (W.written output.old) (W.written output.new)) }
+{
+    if let Status::Done = &status {
+        return Status::Done;
+    }
+    let Ok(line) = refusal(alloc, &status) else {
+        return Status::Memory;
+    };
+    match output.write_all(line.as_bytes()) {
+        Err(Fault::Memory) => Status::Memory,
+        _ => status,
+    }
+}
+
+/// Does what the words say over a tree of files, children, a source and a sink. It has no condition.
+///
+/// The one command so far is `build`, alone or followed by a processor's name, a chain of identifiers, and at least one
+/// word of the command that starts it. A build reads the `.java` files below `src`, runs the processor over them in
+/// two rounds, the last included (JSR 269, `Processor` and `RoundEnvironment`), and publishes what it created and a
+/// report at once, or nothing. After any status but success a line says what was refused, and the former output stands.
+pub fn run<T: Tree, C: Children, R: Source, W: Sink>(
+    alloc: Global,
+    words: &[String],
+    tree: &mut T,
+    children: &mut C,
+    input: &mut R,
+    output: &mut W,
+) -> Status
+    // A fault of an object comes only where its count rose, and no count falls.
+    ensures tree_fault { verdict result ≡ TreeFault → Rose (T.faults tree.old) (T.faults tree.new) }
+    ensures sink_fault { verdict result ≡ SinkFault → Rose (W.faults output.old) (W.faults output.new) }
+    ensures child_fault { ChildrenRose (verdict result) (C.faults children.old) (C.faults children.new) }
+    ensures later { T.faults tree.old ≤ T.faults tree.new }
+    ensures later_children { C.faults children.old ≤ C.faults children.new }
+    ensures later_source { R.faults input.old ≤ R.faults input.new }
+    ensures later_sink { W.faults output.old ≤ W.faults output.new }
+
+    // Every child that was started is stopped, and none but the processor's was tried.
+    ensures live { C.live children.new ≡ C.live children.old }
+    ensures starts { Starts (request_of (map string_bytes words.now)) (verdict result) (C.starts children.old) (C.starts children.new) }
+    ensures says { Told C.tells (C.says children.new ≡ C.says children.old) }
+    ensures tried { Told C.tells (Tries (request_of (map string_bytes words.now)) (C.tried children.old) (C.tried children.new)) }
+
+    // The answer is the clean build's, unless it is a fault or want of memory.
+    ensures answer { Told T.tells (Told C.tells (OrFree (answer_of (request_of (map string_bytes words.now)) (C.says children.old) (T.files tree.old)) (verdict result))) }
+
+    // What is published is the clean build's; after any other answer the former output stands. Nothing outside `out` changes.
+    ensures published { Told T.tells (Told C.tells (PublishesClean (request_of (map string_bytes words.now)) (C.says children.old) (T.files tree.old) (T.files tree.new) (verdict result))) }
+    ensures kept { Told T.tells (KeepsOutput (T.files tree.old) (T.files tree.new) (verdict result)) }
+    ensures stand { Told T.tells (StoresStand (T.files tree.old) → StoresStand (T.files tree.new)) }
+    ensures outside { Told T.tells (SameOutside (T.files tree.old) (T.files tree.new)) }
+
+    // The child is shown exactly the run.
+    ensures shown { Told T.tells (Told C.tells (ShowsRun (request_of (map string_bytes words.now)) (C.says children.old) (T.files tree.old) (C.known children.new) (verdict result))) }
+
+    // What is written is the clean build's report, or ends in the refusal's line.
+    ensures written { Told W.tells (Writes T.tells C.tells (request_of (map string_bytes words.now)) (C.says children.old) (T.files tree.old) (verdict result) (Rose (W.faults output.old) (W.faults output.new)) (W.written output.old) (W.written output.new)) }
+{
+    let status = work(alloc, words, tree, children, output);
+    finish(alloc, status, output)
+}

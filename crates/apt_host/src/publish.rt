@@ -1,0 +1,131 @@
+// Publishes what a run made.
+ghost use Rattle.std.specs.Prelude.{◌≡◌, ◌≤◌, ◌<◌, ◌^◌, All, IfOk, length, map, true, string_bytes};
+ghost use Rattle.std.specs.List.Sorted.{IsStrictlyIncreasing};
+ghost use Rattle.decl_syntax.specs.Fields.{is_text};
+ghost use Rattle.apt_outside.specs.Count.{Rose, Told};
+ghost use Rattle.apt_outside.specs.Held.{files_of};
+ghost use Rattle.tree_store.specs.RecordFormat.{IsEntry};
+ghost use Rattle.tree_store.specs.Output.{SameOutside};
+ghost use Rattle.tree_store.specs.Storing.{AreDistinct, AreAbsent};
+ghost use Rattle.apt_host.specs.Verdicts.{Done, TreeFault, SinkFault, OrFree};
+ghost use Rattle.apt_host.specs.Refusals.{refused, ended, sink_verdict};
+ghost use Rattle.apt_host.specs.Entering.{IsUntouched};
+ghost use Rattle.apt_host.specs.Listed.{entry_of, numbered_of, Spells, Places};
+ghost use Rattle.apt_host.specs.Promises.{KeepsOutput, KeepsStores, AddsFront};
+
+use crate::refusal::Refusal;
+use crate::report::report;
+use apt_outside::{Fault, Sink, Tree};
+use decl_syntax::{List, Name, NoMemory};
+use round_engine::{Made, number_files};
+use std::alloc::Global;
+use std::collections::BTreeMap;
+use tree_store::{StoredFile, commit, encode_record, put_files};
+
+/// What is to be written: the files of the store by their numbers, the record, and the report.
+#[derive(Drop)]
+pub struct Written {
+    stored: List<(u32, List<u8>)>,
+    record: List<u8>,
+    report: String,
+}
+
+// The entries of the record, and the files of the store.
+#[derive(Drop)]
+struct Prepared {
+    entries: List<StoredFile>,
+    stored: List<(u32, List<u8>)>,
+}
+
+// The entry of a file that was made.
+fn entry_of(path: Name, store: u32, bytes: &List<u8>) -> StoredFile
+    requires path { length path < 2 ^ 32 }
+    requires text { is_text path ≡ true }
+    requires size { length bytes.now < 2 ^ 32 }
+    ensures entry { result ≡ entry_of (record { path = path; store = store; bytes = bytes.now }) }
+    ensures fits { IsEntry result }
+{
+    StoredFile {
+        path,
+        store,
+        length: bytes.len() as u32,
+    }
+}
+
+fn prepare(alloc: Global, made: List<Made>) -> Result<Prepared, NoMemory>
+    requires sizes { All (λ file. (length file.path < 2 ^ 32) × (length file.bytes < 2 ^ 32)) made }
+    requires texts { All (λ file. is_text file.path ≡ true) made }
+    ensures entries { IfOk result (λ prepared. prepared.entries ≡ map entry_of made) }
+    ensures stored { IfOk result (λ prepared. prepared.stored ≡ map numbered_of made) }
+    ensures fit { IfOk result (λ prepared. All IsEntry prepared.entries) }
+{
+    let mut entries = List::new(alloc);
+    let mut stored = List::new(alloc);
+    for file in made.into_vec() {
+        let Made { path, store, bytes } = file;
+        entries.push(entry_of(path, store, &bytes))?;
+        stored.push((store, bytes))?;
+    }
+    Ok(Prepared { entries, stored })
+}
+
+/// Spells all that a build writes: the files that it made, the record that names them, and the report.
+pub fn spell(
+    alloc: Global,
+    taken: &List<u32>,
+    made: BTreeMap<String, Vec<u8>>,
+    started: u32,
+) -> Result<Written, NoMemory>
+    requires { IsStrictlyIncreasing taken.now }
+    ensures { IfOk result (λ written. Spells taken.now (files_of made) started written.stored written.record (string_bytes written.report)) }
+{
+    let files = number_files(alloc, taken.as_slice(), made)?;
+    let prepared = prepare(alloc, files)?;
+    let report = report(alloc, started, prepared.entries.as_slice())?;
+    let record = encode_record(alloc, &prepared.entries)?;
+    Ok(Written {
+        stored: prepared.stored,
+        record,
+        report,
+    })
+}
+
+fn of_sink(fault: Fault) -> Refusal
+    ensures { refused result ≡ sink_verdict fault }
+{
+    match fault {
+        Fault::Failed => Refusal::SinkFault,
+        Fault::Memory => Refusal::Memory,
+    }
+}
+
+/// Writes the new files of the store, then the report, and last the record, which publishes them.
+pub fn publish<T: Tree, W: Sink>(
+    alloc: Global,
+    tree: &mut T,
+    written: &Written,
+    output: &mut W,
+) -> Result<(), Refusal>
+    requires distinct { AreDistinct written.now.stored }
+    requires absent { Told T.tells (AreAbsent (T.files tree.old) written.now.stored) }
+    ensures tree_fault { ended result ≡ TreeFault → Rose (T.faults tree.old) (T.faults tree.new) }
+    ensures sink_fault { ended result ≡ SinkFault → Rose (W.faults output.old) (W.faults output.new) }
+    ensures no_child { IsUntouched (ended result) }
+    ensures later { T.faults tree.old ≤ T.faults tree.new }
+    ensures later_sink { W.faults output.old ≤ W.faults output.new }
+    ensures free { OrFree Done (ended result) }
+    ensures placed { Told T.tells (ended result ≡ Done → Places written.now.stored written.now.record (T.files tree.old) (T.files tree.new)) }
+    ensures kept { Told T.tells (KeepsOutput (T.files tree.old) (T.files tree.new) (ended result)) }
+    ensures stand { Told T.tells (KeepsStores (T.files tree.old) (T.files tree.new) (ended result)) }
+    ensures outside { Told T.tells (SameOutside (T.files tree.old) (T.files tree.new)) }
+    ensures written { Told W.tells (AddsFront (string_bytes written.now.report) (ended result) (W.written output.old) (W.written output.new)) }
+{
+    put_files(alloc, tree, &written.stored)?;
+    if let Err(fault) = output.write_all(written.report.as_bytes()) {
+        return Err(of_sink(fault));
+    }
+    match commit(tree, &written.record) {
+        Ok(()) => Ok(()),
+        Err(fault) => Err(Refusal::from(fault)),
+    }
+}
