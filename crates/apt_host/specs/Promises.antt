@@ -125,6 +125,7 @@ AddsLine v rose old new = (line : List ℕ) × IsLine v rose line × (new ≡ ol
 pub record Finishes (before after : Verdict) : Type 0 where
   pub same : after ≢ Memory → after ≡ before
   pub done : before ≡ Done → after ≡ Done
+  pub refused : before ≢ Done → after ≢ Done
 
 -- ---- what children are started and shown
 

@@ -1,5 +1,5 @@
 -- What the words of a call ask for.
-use Rattle.std.specs.Prelude.{ℕ, List, [], ◌∷◌, Option, None, Some, codes, bytes_eq, if◌then◌else◌}
+use Rattle.std.specs.Prelude.{ℕ, List, [], ◌∷◌, Option, None, Some, codes, bytes_eq, length, min, if◌then◌else◌}
 use Rattle.source_form.specs.Form.{is_chain}
 use Rattle.apt_outside.specs.Child.{Try}
 
@@ -21,3 +21,11 @@ build_of (name ∷ words) = if is_chain name then build_with name words else Bad
 abbrev pub request_of : List (List ℕ) → Request
 request_of [] = Bad 0
 request_of (word ∷ words) = if bytes_eq word (codes "build") then build_of words else Bad 0
+
+-- the place of a refusal, where the word after so many is no text
+abbrev pub cut_place : Request → ℕ → ℕ
+cut_place (Build processor) count = count
+cut_place (Bad at) count = min at count
+
+abbrev pub cut_at : List (List ℕ) → ℕ
+cut_at words = cut_place (request_of words) (length words)

@@ -1,9 +1,9 @@
 // The top call.
-ghost use Rattle.std.specs.Prelude.{◌≡◌, ◌≤◌, map, string_bytes};
+ghost use Rattle.std.specs.Prelude.{◌≡◌, ◌≢◌, ◌≤◌, map, string_bytes};
 ghost use Rattle.apt_outside.specs.Count.{Rose, Told};
 ghost use Rattle.tree_store.specs.Output.{StoresStand, SameOutside};
-ghost use Rattle.apt_host.specs.Words.{request_of};
-ghost use Rattle.apt_host.specs.Verdicts.{verdict, TreeFault, SinkFault, OrFree};
+ghost use Rattle.apt_host.specs.Words.{request_of, cut_at};
+ghost use Rattle.apt_host.specs.Verdicts.{verdict, Done, BadWords, TreeFault, SinkFault, Memory, OrFree};
 ghost use Rattle.apt_host.specs.Refusals.{ended};
 ghost use Rattle.apt_host.specs.Promises.{answer_of, ChildrenRose, PublishesClean, KeepsOutput, Begins, Writes, Finishes, AddsLine, Starts, Tries, ShowsRun};
 
@@ -120,4 +120,20 @@ pub fn run<T: Tree, C: Children, R: Source, W: Sink>(
 {
     let status = work(alloc, words, tree, children, output);
     finish(alloc, status, output)
+}
+
+/// The refusal of words after which another word stands that is no text: the place is that of the first word that no
+/// command has there, counted from 0, which is the word after these at the latest.
+pub fn refuse_cut_words<W: Sink>(alloc: Global, words: &[String], output: &mut W) -> Status
+    ensures answer { verdict result ≢ Memory → verdict result ≡ BadWords (cut_at (map string_bytes words.now)) }
+    ensures refused { verdict result ≢ Done }
+    ensures later { W.faults output.old ≤ W.faults output.new }
+    ensures line { Told W.tells (AddsLine (verdict result) (Rose (W.faults output.old) (W.faults output.new)) (W.written output.old) (W.written output.new)) }
+{
+    let count = words.len() as u64;
+    let at = match read_words(words) {
+        Request::Bad { at } => at.min(count),
+        Request::Build { .. } => count,
+    };
+    finish(alloc, Status::BadWords { at }, output)
 }

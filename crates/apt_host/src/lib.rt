@@ -12,7 +12,9 @@ mod publish;
 mod refusal;
 mod report;
 mod status;
+#[cfg(test)]
+mod tests;
 mod words;
 
-pub use call::run;
+pub use call::{refuse_cut_words, run};
 pub use status::Status;
