@@ -1,0 +1,57 @@
+//! The program: it gives `run` the files of the current folder, child programs over pipes, and the standard input and output.
+//!
+//! Here stands all of the host that touches the system. The objects keep the counts of their failures and the lists of
+//! their children, which is proved; what a file, a pipe or a stream gives or takes is not told by any contract, and is
+//! tested by the program in `tests/`.
+#![tactic(auto)]
+
+mod disk_tree;
+mod faults;
+mod files;
+mod folders;
+mod pipe_children;
+mod standard;
+#[cfg(test)]
+mod tests;
+mod words;
+
+use apt_host::{Status, refuse_cut_words, run};
+use apt_outside::Sink;
+use disk_tree::DiskTree;
+use pipe_children::PipeChildren;
+use standard::{StdinSource, StdoutSink, fill_closed_streams};
+use std::alloc::Global;
+use std::process::{ExitCode, Processes};
+use std::rt::Files;
+use words::{Words, read_words};
+
+/// Does what the words say in the current folder.
+fn call<R: Files + AllocGlobal + Clone + Drop + Input + Processes, W: Sink>(
+    alloc: Global,
+    rt: &R,
+    words: &[String],
+    output: &mut W,
+) -> Status {
+    let mut tree = DiskTree::new(rt);
+    let mut children = PipeChildren::new(alloc, rt);
+    let mut input = StdinSource::new(rt.reader());
+    run(alloc, words, &mut tree, &mut children, &mut input, output)
+}
+
+/// The refusal where there is no memory for the words.
+fn refuse_memory<W: Sink>(output: &mut W) -> Status {
+    let _ = output.write_all(b"refused: Memory\n");
+    Status::Memory
+}
+
+fn main(rt: HostRuntime) -> ExitCode {
+    let alloc = rt.alloc();
+    let _closed = fill_closed_streams(&rt);
+    let mut output = StdoutSink::new(rt.stdout());
+    let status = match read_words(alloc, &rt) {
+        Ok(Words::Whole(words)) => call(alloc, &rt, &words, &mut output),
+        Ok(Words::Cut(words)) => refuse_cut_words(alloc, &words, &mut output),
+        Err(_) => refuse_memory(&mut output),
+    };
+    ExitCode::from(status.code())
+}

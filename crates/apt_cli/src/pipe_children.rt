@@ -1,0 +1,177 @@
+// Child programs over pipes.
+ghost use Rattle.std.specs.Prelude.{◌≡◌, ◌<◌, ◌≤◌, ◌^◌, ◌-◌, ◌==◌, All, Contains, [], false, length, map, IfOk, Some, None};
+ghost use Rattle.std.specs.List.{position};
+
+use crate::faults::Faults;
+use crate::standard::{read_some, write_out};
+use apt_outside::{Children, Fault};
+use std::alloc::Global;
+use std::io;
+use std::io::{Error, ErrorKind};
+use std::process::{Child, Command, OpenProcess, Processes, Stdio};
+
+/// A program that runs, with this end of its pipes. Where it is let go, its pipes are closed and its end is waited for.
+pub struct Running<P: OpenProcess + Drop> {
+    /// The child's number.
+    pub number: u32,
+    /// What the program reads.
+    pub input: P::Stdin,
+    /// What the program writes.
+    pub output: P::Stdout,
+    pub program: Child<P>,
+}
+
+impl<P: OpenProcess + Drop> Drop for Running<P> {
+    fn drop(self) {
+        let Running {
+            number: _,
+            input,
+            output,
+            mut program,
+        } = self;
+        drop(input);
+        drop(output);
+        let _ = program.wait();
+    }
+}
+
+impl<P: OpenProcess + Drop> Running<P> {
+    fn send(&mut self, frame: &[u8]) -> io::Result<()>
+        ensures { self.new.number ≡ self.old.number }
+    {
+        write_out(&mut self.input, frame)
+    }
+
+    fn receive(&mut self, room: &mut [u8]) -> io::Result<usize>
+        ensures number { self.new.number ≡ self.old.number }
+        ensures fits { IfOk result (λ n. n ≤ length room.new) }
+    {
+        read_some(&mut self.output, room)
+    }
+}
+
+/// Starts a program with pipes for its standard input and output. A name without a slash is looked for in `PATH`.
+fn start_program<R: Processes>(
+    alloc: Global,
+    processes: &R,
+    number: u32,
+    command: &[String],
+) -> io::Result<Running<R::Started>>
+    ensures number { IfOk result (λ running. running.number ≡ number) }
+    ensures left { IfOk result (λ _. number < 2 ^ 32 - 1) }
+{
+    if number == u32::MAX {
+        return Err(Error::new(ErrorKind::QuotaExceeded, "no number is left"));
+    }
+    let Some((program, arguments)) = command.split_first() else {
+        return Err(Error::new(ErrorKind::InvalidInput, "a command without words"));
+    };
+    let mut call = Command::new(alloc, program.as_str())?;
+    for argument in arguments {
+        call.arg(argument.as_str())?;
+    }
+    let mut program = call
+        .stdin(Stdio::piped())
+        .stdout(Stdio::piped())
+        .spawn(processes)?;
+    match (program.stdin.take(), program.stdout.take()) {
+        (Some(input), Some(output)) => Ok(Running {
+            number,
+            input,
+            output,
+            program,
+        }),
+        _ => {
+            program.wait()?;
+            Err(Error::new(ErrorKind::BrokenPipe, "a program without pipes"))
+        }
+    }
+}
+
+/// The child programs that were started, numbered from 0 in the order of their starts. It tells how often it failed, how
+/// many were started and which run, and not what they say.
+///
+/// A send to a program that has ended, or closed its input, is a failure and no signal. A program that neither answers
+/// nor ends keeps the host waiting: nothing here has a limit of time.
+#[derive(Drop)]
+pub struct PipeChildren<R: Processes> {
+    pub alloc: Global,
+    pub processes: R,
+    /// Those that were started and not stopped, in the order of their starts.
+    pub running: Vec<Running<R::Started>>,
+    /// How many were started.
+    pub starts: u32,
+    pub faults: Faults,
+    ghost numbered: { All (λ running. running.number < starts) running.items },
+}
+
+impl<R: Processes + Drop> PipeChildren<R> {
+    /// None was started yet.
+    pub fn new(alloc: Global, processes: R) -> Self
+        ensures starts { result.starts ≡ 0 }
+        ensures live { result.running.items ≡ [] }
+        ensures faults { result.faults.count ≡ 0 }
+    {
+        PipeChildren {
+            alloc,
+            processes,
+            running: Vec::new(alloc),
+            starts: 0,
+            faults: Faults::new(),
+        }
+    }
+
+    /// Where a child that runs stands.
+    fn place_of(&self, child: u32) -> usize
+        requires { Contains (map (λ r. r.number) self.now.running.items) child }
+        ensures { position (λ r. r.number == child) self.now.running.items ≡ Some result }
+    {
+        self.running
+            .iter()
+            .position(|running| running.number == child)
+            .unwrap()
+    }
+}
+
+impl<R: Processes + Drop> Children for PipeChildren<R> {
+    ghost tells = { false };
+
+    ghost faults = { λ c. c.faults.count };
+
+    ghost starts = { λ c. c.starts };
+
+    ghost live = { λ c. map (λ running. running.number) c.running.items };
+
+    ghost says = { λ _ _ _ _. [] };
+
+    ghost tried = { λ _. [] };
+
+    ghost known = { λ _ _. None };
+
+    ghost sound = { λ _ _ _. tt };
+
+    fn start(&mut self, _name: &str, command: &[String]) -> Result<u32, Fault> {
+        let number = self.starts;
+        let started = start_program(self.alloc, &self.processes, number, command);
+        let running = self.faults.count_failure(started)?;
+        self.running.push(running)?;
+        self.starts = number + 1;
+        Ok(number)
+    }
+
+    fn send(&mut self, child: u32, frame: &[u8]) -> Result<(), Fault> {
+        let place = self.place_of(child);
+        let sent = self.running[place].send(frame);
+        self.faults.count_failure(sent)
+    }
+
+    fn receive(&mut self, child: u32, room: &mut [u8]) -> Result<usize, Fault> {
+        let place = self.place_of(child);
+        let received = self.running[place].receive(room);
+        self.faults.count_failure(received)
+    }
+
+    fn stop(&mut self, child: u32) {
+        self.running.retain(|running| running.number != child);
+    }
+}

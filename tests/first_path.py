@@ -1,0 +1,671 @@
+#!/usr/bin/env python3
+"""Runs the built program in fresh folders, over real files, pipes and child programs.
+
+    tests/first_path.py [PROGRAM]
+
+PROGRAM is crates/apt_cli/out/apt_cli where it is left out. Each case prints a line. The first that fails ends the run
+with status 1. The last line is 'first path: N passed, M failed'.
+"""
+import os
+import shutil
+import signal
+import subprocess
+import sys
+import tempfile
+import time
+
+HERE = os.path.dirname(os.path.abspath(__file__))
+PROGRAM = os.path.join(HERE, "..", "crates", "apt_cli", "out", "apt_cli")
+CHILD = os.path.join(HERE, "scripted_child.py")
+SECONDS = 60
+
+SOURCE = b"package p; @q.A class C {}"
+
+# What the host sends.
+INIT = "00000010" "0100000005" "6d616b6572" "000b" "00000000"
+FIRST_ROUND = "0000001d" "02000000010000" "0000000100000003" "712e41" "0000000100000003" "702e43"
+LAST_ROUND = "0000000f" "02000000020100" "0000000000000000"
+ACCEPTED = "00000002" "1700"
+
+# What a child says.
+HELLO = "00000011" "4000000001" "00000003712e41" "0000000000"
+CREATE = "00000015" "4300" "00000000" "0000000178" "000000026869" "00000000"
+DONE = "00000002" "4101"
+
+# The steps of a child that creates one file, and of one that creates nothing.
+CREATES = ["read", "say:" + HELLO, "read", "say:" + CREATE, "read", "say:" + DONE, "read", "say:" + DONE, "rest"]
+CREATES_NOTHING = ["read", "say:" + HELLO, "read", "say:" + DONE, "read", "say:" + DONE, "rest"]
+
+REPORT_OF_ONE_FILE = (
+    b"mode: clean (Full), started 1\n"
+    b"file CLASS_OUTPUT/x 2\n"
+    b"done: 2 rounds, 1 files, 0 errors, 0 warnings\n"
+)
+REPORT_OF_NO_FILE = b"mode: clean (Full), started 1\ndone: 2 rounds, 0 files, 0 errors, 0 warnings\n"
+REPORT_WITHOUT_PROCESSOR = b"mode: clean (Full), started 0\ndone: 2 rounds, 0 files, 0 errors, 0 warnings\n"
+
+DONE_STATUS, BAD_WORDS, TREE_FAULT, SINK_FAULT, CHILD_FAULT, UNBUILT_FORM, UNBUILT_TALK = 0, 2, 4, 5, 7, 25, 26
+
+
+class Failure(Exception):
+    """What a case has shown to be wrong."""
+
+
+def expect(what, seen, wanted):
+    if seen != wanted:
+        raise Failure(f"{what}: {seen!r}, and not {wanted!r}")
+
+
+def record_of(files):
+    """The record of published files, by the number of each path's store file."""
+    text = bytes.fromhex("41505452" "0000") + len(files).to_bytes(4, "big")
+    for path, (number, content) in sorted(files.items()):
+        text += len(path).to_bytes(4, "big") + path.encode()
+        text += number.to_bytes(4, "big") + len(content).to_bytes(4, "big")
+    return text
+
+
+def text_of(text):
+    return len(text).to_bytes(4, "big").hex() + text.encode().hex()
+
+
+def frame_of(body):
+    return (len(body) // 2).to_bytes(4, "big").hex() + body
+
+
+FORMER = {"CLASS_OUTPUT/former": (0, b"what stood before")}
+
+
+class Run:
+    """How one run of the program ended."""
+
+    def __init__(self, status, output, messages):
+        self.status = status
+        self.output = output
+        self.messages = messages
+
+
+class Project:
+    """A fresh folder with one source, and what the program is called with there."""
+
+    def __init__(self):
+        self.folder = tempfile.mkdtemp(prefix="apt-first-path-")
+        self.record = os.path.join(self.folder, "child-record")
+        self.write("src/p/C.java", SOURCE)
+
+    def path(self, name):
+        return os.path.join(self.folder, name)
+
+    def write(self, name, content):
+        os.makedirs(os.path.dirname(self.path(name)), exist_ok=True)
+        with open(self.path(name), "wb") as file:
+            file.write(content)
+
+    def read(self, name):
+        with open(self.path(name), "rb") as file:
+            return file.read()
+
+    def publish_former(self):
+        self.write("out/store/0", FORMER["CLASS_OUTPUT/former"][1])
+        self.write("out/record", record_of(FORMER))
+
+    def published(self):
+        """The bytes of each published file, by its path."""
+        record = self.read("out/record")
+        expect("the first bytes of the record", record[:6].hex(), "415054520000")
+        count, at, files = int.from_bytes(record[6:10], "big"), 10, {}
+        for _ in range(count):
+            length = int.from_bytes(record[at:at + 4], "big")
+            path = record[at + 4:at + 4 + length].decode()
+            at += 4 + length
+            store, size = (int.from_bytes(record[at + k:at + k + 4], "big") for k in (0, 4))
+            at += 8
+            content = self.read(f"out/store/{store}")
+            expect(f"the length of {path}", len(content), size)
+            files[path] = content
+        expect("the length of the record", len(record), at)
+        return files
+
+    def scripted(self, steps):
+        """The words of a build with a child that follows these steps."""
+        return ["build", "maker", sys.executable, CHILD, self.record, *steps]
+
+    def sent(self):
+        """All bytes that the scripted child read."""
+        return self.read("child-record").hex()
+
+    def run(self, words, stdout=subprocess.PIPE, before=(), environment=None):
+        """Runs the program, and sees that no child outlives it."""
+        command = [*before, os.path.abspath(PROGRAM), *words]
+        host = subprocess.Popen(command, cwd=self.folder, stdin=subprocess.DEVNULL, stdout=stdout,
+                                stderr=subprocess.PIPE, start_new_session=True, env=environment)
+        try:
+            output, messages = host.communicate(timeout=SECONDS)
+        except subprocess.TimeoutExpired:
+            end_session(host.pid)
+            host.communicate()
+            raise Failure(f"no end after {SECONDS} seconds") from None
+        left = processes_of(host.pid)
+        end_session(host.pid)
+        expect("processes that are left", left, [])
+        return Run(host.returncode, output, messages)
+
+    def remove(self):
+        shutil.rmtree(self.folder, ignore_errors=True)
+
+
+def processes_of(session):
+    """The numbers of the processes of a session, those that were not waited for included."""
+    found = []
+    for name in os.listdir("/proc"):
+        if name.isdigit():
+            try:
+                with open(f"/proc/{name}/stat", "rb") as file:
+                    fields = file.read().rpartition(b")")[2].split()
+            except OSError:
+                continue
+            if int(fields[3]) == session:
+                found.append(int(name))
+    return found
+
+
+def end_session(session):
+    for number in processes_of(session):
+        try:
+            os.kill(number, signal.SIGKILL)
+        except OSError:
+            pass
+
+
+CASES = []
+
+
+def case(function):
+    CASES.append(function)
+    return function
+
+
+def refused(project, words, status, line, **how):
+    """A build that is refused prints this line alone, and the former output stands."""
+    project.publish_former()
+    run = project.run(words, **how)
+    expect("the output", run.output, f"refused: {line}\n".encode())
+    expect("the status", run.status, status)
+    former_stands(project)
+
+
+def former_stands(project):
+    expect("the published files", project.published(), {"CLASS_OUTPUT/former": b"what stood before"})
+
+
+# One round, from bytes to a published record.
+
+
+@case
+def one_round_publishes_a_file(project):
+    run = project.run(project.scripted(CREATES))
+    expect("the output", run.output, REPORT_OF_ONE_FILE)
+    expect("the status", run.status, DONE_STATUS)
+    expect("what the child was sent", project.sent(), INIT + FIRST_ROUND + ACCEPTED + LAST_ROUND)
+    expect("the store file", project.read("out/store/0"), b"hi")
+    expect("the record", project.read("out/record"), record_of({"CLASS_OUTPUT/x": (0, b"hi")}))
+    expect("the files below out", sorted(os.listdir(project.path("out"))), ["record", "store"])
+
+
+@case
+def hello_is_answered_by_done(project):
+    refused(project, project.scripted(["read", "say:" + DONE, "rest"]), UNBUILT_TALK, "UnbuiltTalk(maker)")
+
+
+@case
+def a_source_without_an_annotation(project):
+    project.write("src/p/C.java", b"package p; class C {}")
+    refused(project, project.scripted(CREATES), UNBUILT_FORM, "UnbuiltForm(src/p/C.java)")
+    expect("whether the child was started", os.path.exists(project.record), False)
+
+
+@case
+def a_processor_without_a_command(project):
+    refused(project, ["build", "maker"], BAD_WORDS, "BadWords(2)")
+
+
+@case
+def no_words(project):
+    refused(project, [], BAD_WORDS, "BadWords(0)")
+
+
+@case
+def an_unknown_command(project):
+    refused(project, ["biuld"], BAD_WORDS, "BadWords(0)")
+
+
+@case
+def a_build_without_a_processor(project):
+    run = project.run(["build"])
+    expect("the output", run.output, REPORT_WITHOUT_PROCESSOR)
+    expect("the status", run.status, DONE_STATUS)
+    expect("the record", project.read("out/record"), record_of({}))
+
+
+@case
+def an_empty_folder(project):
+    shutil.rmtree(project.path("src"))
+    run = project.run(["build"])
+    expect("the output", run.output, REPORT_WITHOUT_PROCESSOR)
+    expect("the status", run.status, DONE_STATUS)
+
+
+@case
+def a_child_that_creates_nothing(project):
+    project.publish_former()
+    run = project.run(project.scripted(CREATES_NOTHING))
+    expect("the output", run.output, REPORT_OF_NO_FILE)
+    expect("the status", run.status, DONE_STATUS)
+    expect("what the child was sent", project.sent(), INIT + FIRST_ROUND + LAST_ROUND)
+    expect("the published files", project.published(), {})
+
+
+@case
+def a_build_replaces_the_former_output(project):
+    project.publish_former()
+    run = project.run(project.scripted(CREATES))
+    expect("the output", run.output, REPORT_OF_ONE_FILE)
+    expect("the published files", project.published(), {"CLASS_OUTPUT/x": b"hi"})
+    expect("the record", project.read("out/record"), record_of({"CLASS_OUTPUT/x": (1, b"hi")}))
+
+
+# Words that are no text.
+
+
+@case
+def a_first_word_that_is_no_text(project):
+    refused(project, [b"b\xff"], BAD_WORDS, "BadWords(0)")
+
+
+@case
+def a_name_that_is_no_text(project):
+    refused(project, ["build", b"maker\xff", "m"], BAD_WORDS, "BadWords(1)")
+
+
+@case
+def an_argument_that_is_no_text(project):
+    refused(project, ["build", "maker", "m", b"\xc3"], BAD_WORDS, "BadWords(3)")
+
+
+@case
+def a_wrong_word_before_one_that_is_no_text(project):
+    refused(project, ["biuld", b"\xff"], BAD_WORDS, "BadWords(0)")
+
+
+# Children that do not do what they should.
+
+
+@case
+def a_program_that_is_not_there(project):
+    refused(project, ["build", "maker", "no-such-program"], CHILD_FAULT, "ChildFault(maker)")
+
+
+@case
+def a_path_that_is_not_there(project):
+    refused(project, ["build", "maker", "./no-such-program"], CHILD_FAULT, "ChildFault(maker)")
+
+
+@case
+def a_file_that_is_no_program(project):
+    refused(project, ["build", "maker", "./src/p/C.java"], CHILD_FAULT, "ChildFault(maker)")
+
+
+@case
+def a_folder_as_a_program(project):
+    refused(project, ["build", "maker", "./src"], CHILD_FAULT, "ChildFault(maker)")
+
+
+@case
+def what_a_child_complains(project):
+    run = project.run(project.scripted(["complain:no", *CREATES]))
+    expect("the output", run.output, REPORT_OF_ONE_FILE)
+    expect("what the child wrote to its standard error", run.messages, b"no\n")
+
+
+@case
+def a_program_without_a_name(project):
+    refused(project, ["build", "maker", ""], CHILD_FAULT, "ChildFault(maker)")
+
+
+@case
+def a_program_of_the_search_path(project):
+    project.write("tools/maker-tool", b"#!/bin/sh\nexec " + program_line(project.scripted(CREATES)[2:]) + b"\n")
+    os.chmod(project.path("tools/maker-tool"), 0o755)
+    environment = dict(os.environ, PATH="/no-such-folder:" + project.path("tools") + ":" + os.environ["PATH"])
+    run = project.run(["build", "maker", "maker-tool"], environment=environment)
+    expect("the output", run.output, REPORT_OF_ONE_FILE)
+    expect("the status", run.status, DONE_STATUS)
+
+
+def program_line(words):
+    return " ".join("'" + word + "'" for word in words).encode()
+
+
+@case
+def a_program_of_the_project(project):
+    project.write("tools/maker-tool", b"#!/bin/sh\nexec " + program_line(project.scripted(CREATES)[2:]) + b"\n")
+    os.chmod(project.path("tools/maker-tool"), 0o755)
+    run = project.run(["build", "maker", "tools/maker-tool"])
+    expect("the output", run.output, REPORT_OF_ONE_FILE)
+    expect("the status", run.status, DONE_STATUS)
+
+
+@case
+def a_child_that_ends_at_once(project):
+    # The host may see that nobody reads what it sends, or that nothing comes.
+    project.publish_former()
+    run = project.run(["build", "maker", "true"])
+    ends = {CHILD_FAULT: b"refused: ChildFault(maker)\n", UNBUILT_TALK: b"refused: UnbuiltTalk(maker)\n"}
+    expect("the output", run.output, ends.get(run.status))
+    former_stands(project)
+
+
+@case
+def a_child_that_ends_after_init(project):
+    refused(project, project.scripted(["read"]), UNBUILT_TALK, "UnbuiltTalk(maker)")
+
+
+@case
+def a_child_that_ends_inside_a_frame(project):
+    refused(project, project.scripted(["read", "say:" + HELLO[:-2]]), UNBUILT_TALK, "UnbuiltTalk(maker)")
+
+
+@case
+def a_child_that_closes_its_input_before_the_last_round(project):
+    steps = CREATES[:5] + ["deaf", "say:" + DONE]
+    refused(project, project.scripted(steps), CHILD_FAULT, "ChildFault(maker)")
+
+
+@case
+def a_child_that_closes_its_input(project):
+    steps = ["read", "deaf", "say:" + HELLO, "wait:0.1"]
+    refused(project, project.scripted(steps), CHILD_FAULT, "ChildFault(maker)")
+
+
+@case
+def a_child_that_writes_a_byte_at_a_time(project):
+    steps = [step.replace("say:", "spell:") for step in CREATES]
+    run = project.run(project.scripted(steps))
+    expect("the output", run.output, REPORT_OF_ONE_FILE)
+    expect("what the child was sent", project.sent(), INIT + FIRST_ROUND + ACCEPTED + LAST_ROUND)
+    expect("the published files", project.published(), {"CLASS_OUTPUT/x": b"hi"})
+
+
+@case
+def a_child_that_writes_a_megabyte_at_once(project):
+    refused(project, project.scripted(["flood:1048576", "rest"]), UNBUILT_TALK, "UnbuiltTalk(maker)")
+
+
+@case
+def a_child_that_writes_a_megabyte_in_a_round(project):
+    steps = ["read", "say:" + HELLO, "read", "flood:1048576", "rest"]
+    refused(project, project.scripted(steps), UNBUILT_TALK, "UnbuiltTalk(maker)")
+
+
+@case
+def a_child_that_writes_a_megabyte_at_the_end(project):
+    steps = CREATES[:-1] + ["flood:1048576", "rest"]
+    run = project.run(project.scripted(steps))
+    expect("the output", run.output, REPORT_OF_ONE_FILE)
+    expect("the status", run.status, DONE_STATUS)
+
+
+@case
+def a_child_that_never_reads(project):
+    steps = ["say:" + HELLO + CREATE + DONE + DONE, "wait:1"]
+    start = time.monotonic()
+    run = project.run(project.scripted(steps))
+    expect("the output", run.output, REPORT_OF_ONE_FILE)
+    expect("whether the host waited for it", time.monotonic() - start >= 1, True)
+
+
+@case
+def frames_longer_than_a_pipe_holds(project):
+    names = [f"p.C{number:03}{'x' * 100}" for number in range(1000)]
+    shutil.rmtree(project.path("src"))
+    for name in names:
+        project.write(f"src/p/{name[2:]}.java", f"package p; @q.A class {name[2:]} {{}}\n".encode())
+    shown = "02000000010000" "0000000100000003712e41" "000003e8" + "".join(text_of(name) for name in names)
+    content = bytes(range(256)) * 256
+    create = "4300" "00000000" + text_of("big") + "00010000" + content.hex() + "00000000"
+    steps = ["read", "say:" + HELLO, "read", f"make:{os.path.join(project.folder, 'frame')}", *CREATES[4:]]
+    project.write("frame", bytes.fromhex(frame_of(create)))
+    run = project.run(project.scripted(steps))
+    expect("the output", run.output, REPORT_OF_ONE_FILE.replace(b"/x 2", b"/big 65536"))
+    expect("what the child was sent", project.sent(), INIT + frame_of(shown) + ACCEPTED + LAST_ROUND)
+    expect("the published files", project.published(), {"CLASS_OUTPUT/big": content})
+
+
+@case
+def a_child_that_creates_a_file_twice(project):
+    steps = CREATES[:5] + ["say:" + CREATE, "rest"]
+    refused(project, project.scripted(steps), UNBUILT_TALK, "UnbuiltTalk(maker)")
+
+
+@case
+def a_done_with_one_byte_more(project):
+    steps = ["read", "say:" + HELLO, "read", "say:" "00000003" "410100", "rest"]
+    refused(project, project.scripted(steps), UNBUILT_TALK, "UnbuiltTalk(maker)")
+
+
+# Files and streams that fail.
+
+
+@case
+def out_is_a_file(project):
+    project.write("out", b"")
+    refused_by_the_tree(project.run(project.scripted(CREATES)))
+    expect("the file", project.read("out"), b"")
+
+
+@case
+def the_store_is_a_file(project):
+    project.write("out/store", b"")
+    refused_by_the_tree(project.run(project.scripted(CREATES)))
+    expect("the file", project.read("out/store"), b"")
+
+
+@case
+def out_cannot_be_written(project):
+    os.symlink("/proc/self", project.path("out"))
+    refused_by_the_tree(project.run(project.scripted(CREATES)))
+
+
+def refused_by_the_tree(run):
+    expect("the output", run.output, b"refused: TreeFault\n")
+    expect("the status", run.status, TREE_FAULT)
+
+
+@case
+def a_link_where_a_store_file_goes(project):
+    os.makedirs(project.path("out/store"))
+    os.symlink(project.path("elsewhere"), project.path("out/store/0"))
+    refused_by_the_tree(project.run(project.scripted(CREATES)))
+    expect("whether the link was followed", os.path.exists(project.path("elsewhere")), False)
+
+
+@case
+def the_record_is_a_folder(project):
+    os.makedirs(project.path("out/record/below"))
+    run = project.run(project.scripted(CREATES))
+    # The report stands before the line where the record is what could not be replaced.
+    if run.output.startswith(b"mode"):
+        expect("the output", run.output, REPORT_OF_ONE_FILE + b"refused: TreeFault\n")
+        expect("the status", run.status, TREE_FAULT)
+    else:
+        refused_by_the_tree(run)
+    expect("the folder", os.listdir(project.path("out/record")), ["below"])
+    expect("leftovers", set(os.listdir(project.path("out"))) - {"record", "store"}, set())
+
+
+@case
+def a_name_of_a_source_that_is_no_text(project):
+    with open(os.path.join(os.fsencode(project.folder), b"src/p/\xff.java"), "wb") as file:
+        file.write(SOURCE)
+    refused(project, project.scripted(CREATES), TREE_FAULT, "TreeFault")
+
+
+@case
+def a_folder_with_the_name_of_a_source(project):
+    os.makedirs(project.path("src/p/D.java"))
+    run = project.run(project.scripted(CREATES))
+    expect("the output", run.output, REPORT_OF_ONE_FILE)
+    project.write("src/p/D.java/E.java", b"package p; class E {}")
+    refused(project, project.scripted(CREATES), UNBUILT_FORM, "UnbuiltForm(src/p/D.java/E.java)")
+
+
+@case
+def a_source_of_a_gigabyte(project):
+    with open(project.path("src/p/Big.java"), "wb") as file:
+        file.truncate(1 << 30)
+    small_memory = ["/bin/sh", "-c", 'ulimit -v 100000; exec "$@"', "sh"]
+    refused(project, project.scripted(CREATES), UNBUILT_FORM, "UnbuiltForm(src/p/Big.java)", before=small_memory)
+
+
+@case
+def links_below_the_sources(project):
+    project.write("elsewhere/D.java", b"package p; @q.A class D {}")
+    project.write("elsewhere/more/E.java", b"not a source")
+    os.symlink("../../elsewhere/D.java", project.path("src/p/D.java"))
+    os.symlink("../../elsewhere/more", project.path("src/p/more"))
+    os.symlink("..", project.path("src/p/up"))
+    os.symlink("nowhere", project.path("src/p/Gone.java"))
+    run = project.run(project.scripted(CREATES))
+    expect("the output", run.output, REPORT_OF_ONE_FILE)
+    names = "00000002" "00000003702e43" "00000003702e44"
+    shown = "00000024" "02000000010000" "0000000100000003712e41" + names
+    expect("what the child was sent", project.sent(), INIT + shown + ACCEPTED + LAST_ROUND)
+
+
+@case
+def sources_in_the_order_of_their_bytes(project):
+    shutil.rmtree(project.path("src"))
+    for name in ["a/X.java", "a-b/X.java", "a.java", "b/X.java"]:
+        project.write("src/" + name, b"not a source")
+    refused(project, project.scripted(CREATES), UNBUILT_FORM, "UnbuiltForm(src/a-b/X.java)")
+    shutil.rmtree(project.path("src/a-b"))
+    refused(project, project.scripted(CREATES), UNBUILT_FORM, "UnbuiltForm(src/a.java)")
+
+
+@case
+def a_closed_output(project):
+    project.publish_former()
+    run = project.run(project.scripted(CREATES), before=["/bin/sh", "-c", 'exec "$@" >&-', "sh"])
+    expect("the status", run.status, SINK_FAULT)
+    former_stands(project)
+
+
+@case
+def all_streams_closed(project):
+    # No file or pipe of the host takes the number of a standard stream.
+    project.publish_former()
+    closed = ["/bin/sh", "-c", 'exec "$@" <&- >&- 2>&-', "sh"]
+    run = project.run(project.scripted(["streams", *CREATES]), before=closed)
+    expect("the status", run.status, SINK_FAULT)
+    expect("the host's streams", project.read("child-record.streams"), b"/dev/null\n" * 3)
+    expect("what the child was sent", project.sent(), INIT + FIRST_ROUND + ACCEPTED + LAST_ROUND)
+    former_stands(project)
+
+
+@case
+def input_and_messages_closed(project):
+    # The child sees the end of its input, and the host that it has ended.
+    run = project.run(project.scripted(CREATES), before=["/bin/sh", "-c", 'exec "$@" <&- 2>&-', "sh"])
+    expect("the output", run.output, REPORT_OF_ONE_FILE)
+    expect("the status", run.status, DONE_STATUS)
+
+
+@case
+def a_full_output(project):
+    project.publish_former()
+    with open("/dev/full", "wb") as full:
+        run = project.run(project.scripted(CREATES), stdout=full)
+    expect("the status", run.status, SINK_FAULT)
+    former_stands(project)
+
+
+@case
+def an_output_that_nobody_reads(project):
+    project.publish_former()
+    reader, writer = os.pipe()
+    os.close(reader)
+    run = project.run(project.scripted(CREATES), stdout=writer)
+    os.close(writer)
+    expect("the status", run.status, SINK_FAULT)
+    former_stands(project)
+
+
+# A stop of the machine, as far as a killed host shows it.
+
+
+@case
+def a_host_that_is_killed(project):
+    project.publish_former()
+    command = [os.path.abspath(PROGRAM), *project.scripted(["read", "say:" + HELLO, "read", "rest"])]
+    host = subprocess.Popen(command, cwd=project.folder, stdin=subprocess.DEVNULL, stdout=subprocess.DEVNULL,
+                            stderr=subprocess.DEVNULL, start_new_session=True)
+    wanted = len(INIT + FIRST_ROUND) // 2
+    soon(lambda: os.path.exists(project.record) and os.path.getsize(project.record) >= wanted)
+    host.kill()
+    host.wait()
+    former_stands(project)
+    # The child sees the end of its input.
+    soon(lambda: all(is_ended(number) for number in processes_of(host.pid)))
+    run = project.run(project.scripted(CREATES))
+    expect("the output", run.output, REPORT_OF_ONE_FILE)
+
+
+def soon(holds):
+    for _ in range(SECONDS * 100):
+        if holds():
+            return
+        time.sleep(0.01)
+    raise Failure(f"not so after {SECONDS} seconds")
+
+
+def is_ended(number):
+    """The process is gone, or only waits for its parent to notice its end."""
+    try:
+        with open(f"/proc/{number}/stat", "rb") as file:
+            return file.read().rpartition(b")")[2].split()[0] == b"Z"
+    except OSError:
+        return True
+
+
+@case
+def a_leftover_of_an_earlier_stop(project):
+    project.write("out/\\unfinished", b"half a rec")
+    run = project.run(project.scripted(CREATES))
+    expect("the output", run.output, REPORT_OF_ONE_FILE)
+    expect("the files below out", sorted(os.listdir(project.path("out"))), ["record", "store"])
+
+
+def main():
+    global PROGRAM
+    if len(sys.argv) > 1:
+        PROGRAM = sys.argv[1]
+    if not os.path.exists(PROGRAM):
+        sys.exit(f"there is no program {PROGRAM}: build it by 'rt run' in crates/apt_cli")
+    passed = 0
+    for function in CASES:
+        project = Project()
+        try:
+            function(project)
+        except (Failure, OSError) as failure:
+            print(f"{function.__name__}: FAILED: {failure}")
+            print(f"first path: {passed} passed, 1 failed")
+            sys.exit(1)
+        finally:
+            project.remove()
+        passed += 1
+        print(f"{function.__name__}: ok", flush=True)
+    print(f"first path: {passed} passed, 0 failed")
+
+
+if __name__ == "__main__":
+    main()
