@@ -6,7 +6,7 @@ use Rattle.java_tokens.specs.Characters.{Placed, Spells, Spelled, HasNoChar, sla
 use Rattle.java_tokens.proofs.CharLemmas.{one_char, has_long}
 
 -- an empty text has no character
-no_char : (s : ℕ) → HasNoChar s []
+pub no_char : (s : ℕ) → HasNoChar s []
 no_char s width code has =
     omega (arith, has.3, ap length has.2, length-append has.0 has.1, has_long s [] width code has, len_utf8_bounds code)
 

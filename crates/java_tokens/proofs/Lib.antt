@@ -3,3 +3,4 @@ pub mod CharLemmas
 pub mod ReadLemmas
 pub mod LawLemmas
 pub mod OffsetLemmas
+pub mod TotalLemmas

@@ -1,7 +1,7 @@
 -- The characters of a file: UTF-8, with Unicode escapes (JLS 3.3).
 -- A `\` begins an escape only if an even number of `\` stand directly before it in the raw text. The character that an escape gives takes
 -- no part in further escapes. A high and a low surrogate, both escapes, one directly after the other, give one character.
-use Rattle.std.specs.Prelude.{◌≡◌, ℕ, ◌+◌, ◌-◌, ◌*◌, ◌%◌, ◌<◌, ◌≤◌, List, [], ◌∷◌, ◌++◌, length, if◌then◌else◌, encode_utf8, bytes_eq}
+use Rattle.std.specs.Prelude.{◌≡◌, ◌⊎◌, ℕ, ◌+◌, ◌-◌, ◌*◌, ◌%◌, ◌<◌, ◌≤◌, List, [], ◌∷◌, ◌++◌, length, if◌then◌else◌, encode_utf8, bytes_eq}
 use Rattle.std.specs.Char.{IsScalar}
 use Rattle.java_tokens.specs.Escapes.{IsEscape}
 
@@ -58,3 +58,7 @@ AreChars file chars = (slashes : ℕ) × Spelled 0 0 file chars [] slashes
 -- the place of the first escape or sequence at which no characters go on
 abbrev pub IsCharFault : List ℕ → ℕ → Type 0
 IsCharFault file place = (chars : List Placed) × (rest : List ℕ) × (slashes : ℕ) × Spelled 0 0 file chars rest slashes × (place + length rest ≡ length file) × (0 < length rest) × HasNoChar slashes rest
+
+-- a file has a list of characters or a place
+abbrev pub IsDecided : List ℕ → Type 0
+IsDecided file = ((chars : List Placed) × AreChars file chars) ⊎ ((place : ℕ) × IsCharFault file place)

@@ -1,3 +1,4 @@
 pub mod Escapes
 pub mod Characters
 pub mod CharsShown
+pub mod Words

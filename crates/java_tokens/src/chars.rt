@@ -1,7 +1,7 @@
 // The characters of a file with their offsets.
 ghost use Rattle.std.specs.Prelude.{ℕ, List, ◌≡◌, ◌≤◌, ◌<◌, length, string_bytes, slice_get, MatchResult};
 ghost use Rattle.std.specs.Str.{chars};
-ghost use Rattle.java_tokens.specs.Characters.{Placed, AreChars, IsCharFault, slashes_after};
+ghost use Rattle.java_tokens.specs.Characters.{Placed, IsDecided, AreChars, IsCharFault, slashes_after};
 ghost use Rattle.java_tokens.specs.CharsShown.{placed_chars, offsets_of, plain_offsets, CoversChars, FaultAt, kept};
 
 use crate::TextFault;
@@ -62,6 +62,7 @@ pub fn read_chars(alloc: Global, bytes: &[u8]) -> Result<Chars, TextFault>
     requires { length bytes.now ≤ 8_388_608 }
     ensures chars { MatchResult result (λ chars. AreChars bytes.now (placed_chars (string_bytes chars.text) chars.offsets)) (FaultAt (IsCharFault bytes.now)) }
     ensures list { (all : List Placed) → AreChars bytes.now all → MatchResult result (λ chars. placed_chars (string_bytes chars.text) chars.offsets ≡ all) (λ e. e ≡ TextFault.Memory) }
+    ensures decided { IsDecided bytes.now }
     ensures place { (place : ℕ) → IsCharFault bytes.now place → MatchResult result (λ _. ⊥) (FaultAt (λ at. at ≡ place)) }
 {
     let mut text = String::new(alloc);

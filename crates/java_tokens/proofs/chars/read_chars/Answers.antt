@@ -6,6 +6,7 @@ use Rattle.std.proofs.lemmas.Str.{IsUtf8-string_bytes}
 use Rattle.std.specs.Prelude.{encode_utf8}
 use Rattle.java_tokens.specs.Characters.{HasChar, HasNoChar, slashes_after, AreChars}
 use Rattle.java_tokens.specs.CharsShown.{placed_chars}
+use Rattle.java_tokens.proofs.TotalLemmas.{list_or_place}
 use Rattle.java_tokens.proofs.LawLemmas.{one_list, never_both, one_place}
 use Rattle.java_tokens.proofs.ReadLemmas.{IsReading, reading_none, reading_more, reading_done, reading_stuck}
 use Rattle.java_tokens.proofs.chars.read_chars.Goals as goal
@@ -65,3 +66,12 @@ loop-at-preserved c =
     subst (λ t. IsReading bytes t c.push.new.self.items c.if-plain.plain c.count_slashes-slashes.result (at + width)) (sym text_is)
     (subst (λ o. IsReading bytes (text ++ encode_utf8 code) o c.if-plain.plain c.count_slashes-slashes.result (at + width)) (sym offsets_are)
     (subst (λ s. IsReading bytes (text ++ encode_utf8 code) (offsets ++ at ∷ []) c.if-plain.plain s (at + width)) (sym slashes_are) more))
+
+pub returns-in_default-clause-decided : goal.returns-in_default-clause-decided
+returns-in_default-clause-decided c = list_or_place c.args.bytes.now
+
+pub returns-in_err-push-clause-decided : goal.returns-in_err-push-clause-decided
+returns-in_err-push-clause-decided c = list_or_place c.args.bytes.now
+
+pub returns-in_err-push-2-clause-decided : goal.returns-in_err-push-2-clause-decided
+returns-in_err-push-2-clause-decided c = list_or_place c.args.bytes.now
