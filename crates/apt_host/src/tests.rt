@@ -6,15 +6,19 @@ use std::test::Fail;
 
 const HELLO: &[u8] = b"\x00\x00\x00\x11\x40\x00\x00\x00\x01\x00\x00\x00\x03q.A\x00\x00\x00\x00\x00";
 
-const CREATE: &[u8] = b"\x00\x00\x00\x15\x43\x00\x00\x00\x00\x00\x00\x00\x00\x01x\x00\x00\x00\x02hi\x00\x00\x00\x00";
+const CREATE: &[u8] =
+    b"\x00\x00\x00\x15\x43\x00\x00\x00\x00\x00\x00\x00\x00\x01x\x00\x00\x00\x02hi\x00\x00\x00\x00";
 
 const DONE: &[u8] = b"\x00\x00\x00\x02\x41\x01";
 
-const SENT: &[u8] = b"\x00\x00\x00\x10\x01\x00\x00\x00\x05maker\x00\x0b\x00\x00\x00\x00\x00\x00\x00\x1d\x02\x00\x00\x00\x01\x00\x00\x00\x00\x00\x01\x00\x00\x00\x03q.A\x00\x00\x00\x01\x00\x00\x00\x03p.C\x00\x00\x00\x02\x17\x00\x00\x00\x00\x0f\x02\x00\x00\x00\x02\x01\x00\x00\x00\x00\x00\x00\x00\x00\x00";
+const SENT: &[u8] =
+    b"\x00\x00\x00\x10\x01\x00\x00\x00\x05maker\x00\x0b\x00\x00\x00\x00\x00\x00\x00\x1d\x02\x00\x00\x00\x01\x00\x00\x00\x00\x00\x01\x00\x00\x00\x03q.A\x00\x00\x00\x01\x00\x00\x00\x03p.C\x00\x00\x00\x02\x17\x00\x00\x00\x00\x0f\x02\x00\x00\x00\x02\x01\x00\x00\x00\x00\x00\x00\x00\x00\x00";
 
-const RECORD: &[u8] = b"APTR\x00\x00\x00\x00\x00\x01\x00\x00\x00\x0eCLASS_OUTPUT/x\x00\x00\x00\x00\x00\x00\x00\x02";
+const RECORD: &[u8] =
+    b"APTR\x00\x00\x00\x00\x00\x01\x00\x00\x00\x0eCLASS_OUTPUT/x\x00\x00\x00\x00\x00\x00\x00\x02";
 
-const REPORT: &[u8] = b"mode: clean (Full), started 1\nfile CLASS_OUTPUT/x 2\ndone: 2 rounds, 1 files, 0 errors, 0 warnings\n";
+const REPORT: &[u8] =
+    b"mode: clean (Full), started 1\nfile CLASS_OUTPUT/x 2\ndone: 2 rounds, 1 files, 0 errors, 0 warnings\n";
 
 const SOURCE: &[u8] = b"package p; @q.A class C {}";
 
@@ -97,21 +101,48 @@ fn what_is_refused(rt: HostRuntime) -> Result<(), Fail> {
     let alloc = rt.alloc();
     let mut tree = MemoryTree::new(alloc, Vec::new(alloc));
     tree.put("src/p/C.java", SOURCE)?;
-    let talk = call(alloc, &["build", "maker", "m"], &mut tree, &[DONE], Vec::new(alloc))?;
+    let talk = call(
+        alloc,
+        &["build", "maker", "m"],
+        &mut tree,
+        &[DONE],
+        Vec::new(alloc),
+    )?;
     assert_eq!(rt; talk.code, 26);
-    assert_eq!(rt; talk.written.as_slice(), b"refused: UnbuiltTalk(maker)\n".as_slice());
+    assert_eq!(rt;
+        talk.written.as_slice(),
+        b"refused: UnbuiltTalk(maker)\n".as_slice()
+    );
     let missing = call(alloc, &["build", "maker"], &mut tree, &[], Vec::new(alloc))?;
     assert_eq!(rt; missing.code, 2);
-    assert_eq!(rt; missing.written.as_slice(), b"refused: BadWords(2)\n".as_slice());
+    assert_eq!(rt;
+        missing.written.as_slice(),
+        b"refused: BadWords(2)\n".as_slice()
+    );
     let none = call(alloc, &[], &mut tree, &[], Vec::new(alloc))?;
-    assert_eq!(rt; none.written.as_slice(), b"refused: BadWords(0)\n".as_slice());
-    let start = call(alloc, &["build", "other", "m"], &mut tree, &[], Vec::new(alloc))?;
+    assert_eq!(rt;
+        none.written.as_slice(),
+        b"refused: BadWords(0)\n".as_slice()
+    );
+    let start = call(
+        alloc,
+        &["build", "other", "m"],
+        &mut tree,
+        &[],
+        Vec::new(alloc),
+    )?;
     assert_eq!(rt; start.code, 7);
-    assert_eq!(rt; start.written.as_slice(), b"refused: ChildFault(other)\n".as_slice());
+    assert_eq!(rt;
+        start.written.as_slice(),
+        b"refused: ChildFault(other)\n".as_slice()
+    );
     tree.put("src/p/C.java", b"package p; class C {}")?;
     let form = call(alloc, &["build"], &mut tree, &[], Vec::new(alloc))?;
     assert_eq!(rt; form.code, 25);
-    assert_eq!(rt; form.written.as_slice(), b"refused: UnbuiltForm(src/p/C.java)\n".as_slice());
+    assert_eq!(rt;
+        form.written.as_slice(),
+        b"refused: UnbuiltForm(src/p/C.java)\n".as_slice()
+    );
     Ok(())
 }
 
@@ -137,7 +168,10 @@ fn the_record_and_the_report_are_refused(rt: HostRuntime) -> Result<(), Fail> {
     assert!(rt; record.written.as_slice().ends_with(b"refused: TreeFault\n"));
     let report = call(alloc, &["build"], &mut tree, &[], vec![in alloc; 1]?)?;
     assert_eq!(rt; report.code, 5);
-    assert_eq!(rt; report.written.as_slice(), b"refused: SinkFault\n".as_slice());
+    assert_eq!(rt;
+        report.written.as_slice(),
+        b"refused: SinkFault\n".as_slice()
+    );
     Ok(())
 }
 
