@@ -5,6 +5,9 @@ ghost use Rattle.apt_outside.specs.Scripted.{script_of, answer_of, said_of, show
 use crate::script::{Call, Script, Started};
 use std::alloc::{AllocError, Global};
 
+/// A record of a start: the child's name and the words of its command.
+///
+/// Want of memory is the only error.
 pub fn copy_call(alloc: Global, name: &str, command: &[String]) -> Result<Call, AllocError>
     ensures { IfOk result (λ call. shown_call call ≡ (name.now, map string_bytes command.now)) }
 {
@@ -18,6 +21,9 @@ pub fn copy_call(alloc: Global, name: &str, command: &[String]) -> Result<Call, 
     })
 }
 
+/// The script of the child of this name: the first of that name, or none.
+///
+/// It reads the scripts in order, so it costs as many comparisons as there are scripts.
 pub fn find_script<'a>(scripts: &'a [Script], name: &str) -> Option<&'a Script>
     ensures { option_copied result ≡ script_of scripts.now name.now }
 {
