@@ -30,8 +30,11 @@ is_resource_name name = not (length name == 0) && nat_le (length name) 64 && lis
 abbrev pub is_resource : ℕ → List ℕ → List ℕ → List ℕ → Bool
 is_resource location «package» relative content = (location == 0) && (length «package» == 0) && is_resource_name relative && nat_le (length content) 65536
 
+-- No file of another kind may be created so far, and none that originates in elements.
 abbrev pub resource_of : Creation → Option Resource
-resource_of (creation.Resource location «package» relative content) = if is_resource location «package» relative content then Some (codes "CLASS_OUTPUT/" ++ relative, content) else None
+resource_of (creation.Resource location «package» relative content origins) = if is_resource location «package» relative content && (length origins == 0) then Some (codes "CLASS_OUTPUT/" ++ relative, content) else None
+resource_of (creation.Source name content origins) = None
+resource_of (creation.Class name content origins) = None
 
 -- what a frame means in a round
 pub data Turn : Type 0 where
@@ -53,6 +56,7 @@ turn_of (frame.Init i) = Leaves
 turn_of (frame.Round number over error offered roots) = Leaves
 turn_of (frame.Reply r) = Leaves
 turn_of (frame.Hello h) = Leaves
+turn_of (frame.Message m) = Leaves
 
 -- a child that sent no frame has left the form
 abbrev pub turn_at : Option Frame → Turn

@@ -64,6 +64,7 @@ fn turn_of(alloc: Global, answer: Option<Frame>) -> Result<Turn, NoMemory>
                     package,
                     relative,
                     content,
+                    origins,
                 },
             ),
         ) => {
@@ -72,7 +73,8 @@ fn turn_of(alloc: Global, answer: Option<Frame>) -> Result<Turn, NoMemory>
                 package.as_str(),
                 relative.as_str(),
                 content.as_slice(),
-            ) {
+            ) || !origins.is_empty()
+            {
                 return Ok(Turn::Leaves);
             }
             let mut path = String::from_str(alloc, "CLASS_OUTPUT/")?;

@@ -16,8 +16,8 @@ use Rattle.source_form.specs.Form.{is_chain}
 use Rattle.wire_frames.specs.declared.frame.Frame.{Frame}
 use Rattle.wire_frames.specs.declared.frame.Frame.TheVariants as frame
 use Rattle.wire_frames.specs.declared.frame.Hello.{Hello}
-use Rattle.wire_frames.specs.declared.frame.Claim.{Claim}
-use Rattle.wire_frames.specs.declared.frame.Claim.TheVariants.{Always, Never, Varies}
+use Rattle.decl_syntax.specs.declared.kinds.Claim.{Claim}
+use Rattle.decl_syntax.specs.declared.kinds.Claim.TheVariants.{Always, Never, Varies}
 use Rattle.wire_frames.specs.Frames.{spelling}
 use Rattle.child_session.specs.declared.fault.SessionFault.{SessionFault}
 use Rattle.child_session.specs.declared.fault.SessionFault.TheVariants.{Failed, Unbuilt, Memory}

@@ -6,11 +6,11 @@ ghost use Rattle.wire_frames.specs.Frames.{spelling};
 ghost use Rattle.round_engine.specs.Run.{init_frame, first_round, last_round, one_pattern, pattern_of};
 
 use crate::units::roots_of;
-use decl_syntax::{List, Name, NoMemory};
+use decl_syntax::{Claim, List, Name, NoMemory};
 use source_form::is_chain;
 use std::alloc::Global;
 use std::collections::BTreeMap;
-use wire_frames::{Claim, Frame, Hello, Init, encode};
+use wire_frames::{Frame, Hello, Init, encode};
 
 const LEVEL: u16 = 11;
 

@@ -8,12 +8,12 @@ use Rattle.std.proofs.lemmas.Nat.{be_bytes_4, from_be_bytes-to_be_bytes_4}
 use Rattle.decl_syntax.specs.Fields.{◌>>=◌, bool_form, front_next, u8_next}
 use Rattle.decl_syntax.specs.declared.memory.NoMemory.{NoMemory}
 use Rattle.decl_syntax.proofs.Fields.{IsBytes, IsBytes-front, IsBytes-rest, bind_some, some_is, front_next-again, front_next-takes, u8_next-again, u8_next-spelled}
-use Rattle.wire_frames.specs.declared.frame.Creation.TheVariants.{Resource}
+use Rattle.wire_frames.specs.declared.frame.Creation.TheVariants.{Source, Resource, Class}
 use Rattle.wire_frames.specs.declared.frame.Reply.TheVariants as replies
 use Rattle.wire_frames.specs.declared.frame.Frame.{Frame}
 use Rattle.wire_frames.specs.declared.frame.Frame.TheVariants as frames
-use Rattle.wire_frames.specs.Frames.{fields_of, spelling, IsFromChild, MaySend, hello_next, done_next, resource_next, fields_next, child_frame, length_of, length_at, frame_at}
-use Rattle.wire_frames.proofs.FieldLaws.{hello_fields, hello_next-again, hello_next-spelled, done_next-again, done_next-spelled, resource_fields, resource_next-again, resource_next-spelled}
+use Rattle.wire_frames.specs.Frames.{fields_of, spelling, IsFromChild, MaySend, hello_next, done_next, file_next, resource_next, message_next, creation_next, fields_next, child_frame, length_of, length_at, frame_at}
+use Rattle.wire_frames.proofs.FieldLaws.{hello_fields, hello_next-again, hello_next-spelled, done_next-again, done_next-spelled, file_fields, file_next-again, file_next-spelled, resource_fields, resource_next-again, resource_next-spelled, message_fields, message_next-again, message_next-spelled}
 
 kept_some : {A : Type 0} (b : Bool) (x y : A) → cond b (Some x) None ≡ Some y → (b ≡ true) × (x ≡ y)
 kept_some true x y e = (refl, cc)
@@ -40,10 +40,16 @@ unfolding fields_of
 child_frame-again (frames.Init init) is short = absurd is
 child_frame-again (frames.Round number over error offered roots) is short = absurd is
 child_frame-again (frames.Reply (replies.Created created)) is short = absurd is
+child_frame-again (frames.Reply replies.Noted) is short = absurd is
 child_frame-again (frames.Hello hello) is short = child_frame-whole 64 (hello_fields hello) (frames.Hello hello) (hello_next-again hello [] is.0 is.1 (omega arith))
 child_frame-again (frames.Done claimed) is short = child_frame-whole 65 (bool_form claimed) (frames.Done claimed) (done_next-again claimed [])
-child_frame-again (frames.Create (Resource location folder relative content)) is short =
-    child_frame-whole 67 (resource_fields location folder relative content) (frames.Create (Resource location folder relative content)) (resource_next-again location folder relative content [] is.0 is.1 is.2 (omega arith))
+child_frame-again (frames.Create (Source name content origins)) is short =
+    child_frame-whole 66 (file_fields name content origins) (frames.Create (Source name content origins)) (file_next-again Source name content origins [] is.0 is.1 (omega arith))
+child_frame-again (frames.Create (Resource location folder relative content origins)) is short =
+    child_frame-whole 67 (resource_fields location folder relative content origins) (frames.Create (Resource location folder relative content origins)) (resource_next-again location folder relative content origins [] is.0 is.1 is.2 is.3 (omega arith))
+child_frame-again (frames.Create (Class name content origins)) is short =
+    child_frame-whole 68 (file_fields name content origins) (frames.Create (Class name content origins)) (file_next-again Class name content origins [] is.0 is.1 (omega arith))
+child_frame-again (frames.Message message) is short = child_frame-whole 69 (message_fields message) (frames.Message message) (message_next-again message [] is (omega arith))
 
 -- what a child's tag and fields gave
 abbrev IsRead : ℕ → List ℕ → Frame × List ℕ → Type 0
@@ -65,14 +71,39 @@ resource_is_read : (bytes : List ℕ) (x : Frame × List ℕ) → IsBytes bytes 
 unfolding fields_of
 resource_is_read bytes x fits e =
     let r = resource_next-spelled bytes x fits e in
-    subst (λ (f : Frame). IsFromChild f × (67 ∷ bytes ≡ fields_of f ++ x.1)) (sym r.4) ((r.6, r.7, r.8), ap (λ (t : List ℕ). 67 ∷ t) r.5)
+    subst (λ (f : Frame). IsFromChild f × (67 ∷ bytes ≡ fields_of f ++ x.1)) (sym r.made) ((r.in_range, r.is_folder, r.is_relative, r.none), ap (λ (t : List ℕ). 67 ∷ t) r.parts)
 
-tag_cases : (tag : ℕ) (bytes : List ℕ) (x : Frame × List ℕ) (hello done resource : Bool) → IsBytes bytes → eqb tag 64 ≡ hello → eqb tag 65 ≡ done → eqb tag 67 ≡ resource
-    → cond hello (hello_next bytes) (cond done (done_next bytes) (cond resource (resource_next bytes) None)) ≡ Some x → IsRead tag bytes x
-tag_cases tag bytes x true done resource fits p q r e = rw (eqb-true tag 64 p) (hello_is_read bytes x fits e)
-tag_cases tag bytes x false true resource fits p q r e = rw (eqb-true tag 65 q) (done_is_read bytes x e)
-tag_cases tag bytes x false false true fits p q r e = rw (eqb-true tag 67 r) (resource_is_read bytes x fits e)
-tag_cases tag bytes x false false false fits p q r e = absurd cc
+source_is_read : (bytes : List ℕ) (x : Frame × List ℕ) → IsBytes bytes → file_next Source bytes ≡ Some x → IsRead 66 bytes x
+unfolding fields_of
+source_is_read bytes x fits e =
+    let r = file_next-spelled Source bytes x fits e in
+    subst (λ (f : Frame). IsFromChild f × (66 ∷ bytes ≡ fields_of f ++ x.1)) (sym r.made) ((r.is_name, r.none), ap (λ (t : List ℕ). 66 ∷ t) r.parts)
+
+class_is_read : (bytes : List ℕ) (x : Frame × List ℕ) → IsBytes bytes → file_next Class bytes ≡ Some x → IsRead 68 bytes x
+unfolding fields_of
+class_is_read bytes x fits e =
+    let r = file_next-spelled Class bytes x fits e in
+    subst (λ (f : Frame). IsFromChild f × (68 ∷ bytes ≡ fields_of f ++ x.1)) (sym r.made) ((r.is_name, r.none), ap (λ (t : List ℕ). 68 ∷ t) r.parts)
+
+message_is_read : (bytes : List ℕ) (x : Frame × List ℕ) → IsBytes bytes → message_next bytes ≡ Some x → IsRead 69 bytes x
+unfolding fields_of
+message_is_read bytes x fits e =
+    let m = message_next-spelled bytes x fits e in
+    subst (λ (f : Frame). IsFromChild f × (69 ∷ bytes ≡ fields_of f ++ x.1)) (sym m.1) (m.3, ap (λ (t : List ℕ). 69 ∷ t) m.2)
+
+creation_cases : (tag : ℕ) (bytes : List ℕ) (x : Frame × List ℕ) (source resource class : Bool) → IsBytes bytes → eqb tag 66 ≡ source → eqb tag 67 ≡ resource → eqb tag 68 ≡ class
+    → cond source (file_next Source bytes) (cond resource (resource_next bytes) (cond class (file_next Class bytes) None)) ≡ Some x → IsRead tag bytes x
+creation_cases tag bytes x true resource class fits p q r e = rw (eqb-true tag 66 p) (source_is_read bytes x fits e)
+creation_cases tag bytes x false true class fits p q r e = rw (eqb-true tag 67 q) (resource_is_read bytes x fits e)
+creation_cases tag bytes x false false true fits p q r e = rw (eqb-true tag 68 r) (class_is_read bytes x fits e)
+creation_cases tag bytes x false false false fits p q r e = absurd cc
+
+tag_cases : (tag : ℕ) (bytes : List ℕ) (x : Frame × List ℕ) (hello done message : Bool) → IsBytes bytes → eqb tag 64 ≡ hello → eqb tag 65 ≡ done → eqb tag 69 ≡ message
+    → cond hello (hello_next bytes) (cond done (done_next bytes) (cond message (message_next bytes) (creation_next tag bytes))) ≡ Some x → IsRead tag bytes x
+tag_cases tag bytes x true done message fits p q r e = rw (eqb-true tag 64 p) (hello_is_read bytes x fits e)
+tag_cases tag bytes x false true message fits p q r e = rw (eqb-true tag 65 q) (done_is_read bytes x e)
+tag_cases tag bytes x false false true fits p q r e = rw (eqb-true tag 69 r) (message_is_read bytes x fits e)
+tag_cases tag bytes x false false false fits p q r e = creation_cases tag bytes x (eqb tag 66) (eqb tag 67) (eqb tag 68) fits refl refl refl e
 
 pub child_frame-spelled : (bytes : List ℕ) (frame : Frame) → IsBytes bytes → child_frame bytes ≡ Some frame → IsFromChild frame × (bytes ≡ fields_of frame)
 unfolding child_frame
@@ -83,7 +114,7 @@ child_frame-spelled bytes frame fits e =
     let nothing : b.0.1 ≡ [] = nil_from_length b.0.1 (eqb-true _ _ kept.0) in
     let tag : bytes ≡ a.0.0 ∷ a.0.1 = u8_next-spelled bytes a.0.0 a.0.1 a.1 in
     let rest_fits = IsBytes-rest bytes (a.0.0 ∷ []) a.0.1 tag fits in
-    let read = tag_cases a.0.0 a.0.1 b.0 (eqb a.0.0 64) (eqb a.0.0 65) (eqb a.0.0 67) rest_fits refl refl refl b.1 in
+    let read = tag_cases a.0.0 a.0.1 b.0 (eqb a.0.0 64) (eqb a.0.0 65) (eqb a.0.0 69) rest_fits refl refl refl b.1 in
     subst (λ (f : Frame). IsFromChild f × (bytes ≡ fields_of f)) kept.1
     (read.0, tag ∙ read.1 ∙ ap (λ (t : List ℕ). fields_of b.0.0 ++ t) nothing ∙ append-nil (fields_of b.0.0))
 
@@ -124,9 +155,13 @@ unfolding fields_of
 some_fields (frames.Init init) = omega arith
 some_fields (frames.Round number over error offered roots) = omega arith
 some_fields (frames.Reply (replies.Created created)) = omega arith
+some_fields (frames.Reply replies.Noted) = omega arith
 some_fields (frames.Hello hello) = omega arith
 some_fields (frames.Done claimed) = omega arith
-some_fields (frames.Create (Resource location folder relative content)) = omega arith
+some_fields (frames.Create (Source name content origins)) = omega arith
+some_fields (frames.Create (Resource location folder relative content origins)) = omega arith
+some_fields (frames.Create (Class name content origins)) = omega arith
+some_fields (frames.Message message) = omega arith
 
 -- a length, so many bytes, and what follows
 pub frame_at-pieces : (head body rest : List ℕ) (count : ℕ) → length head ≡ 4 → length_of head ≡ Some count → length body ≡ count → frame_at (head ++ (body ++ rest)) ≡ (child_frame body >>= λ frame. Some (frame, rest))

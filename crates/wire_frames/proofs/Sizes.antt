@@ -5,12 +5,14 @@ use Rattle.std.specs.Int.{w16, w32, to_be_bytes}
 use Rattle.std.proofs.lemmas.List.{length-append}
 use Rattle.std.proofs.lemmas.List.Folds.{length-flat_map-take}
 use Rattle.decl_syntax.specs.Fields.{text_form, bool_form}
+use Rattle.decl_syntax.specs.Forms.{u16_form, count_form, list_form}
+use Rattle.decl_syntax.specs.declared.element.ElementRef.{ElementRef}
 use Rattle.wire_frames.specs.declared.frame.Init.{Init}
 use Rattle.wire_frames.specs.declared.frame.Created.{Created}
 use Rattle.wire_frames.specs.declared.frame.Reply.TheVariants as replies
 use Rattle.wire_frames.specs.declared.frame.Frame.{Frame}
 use Rattle.wire_frames.specs.declared.frame.Frame.TheVariants as frames
-use Rattle.wire_frames.specs.Frames.{option_form, texts_form, options_form, fields_of, spelling}
+use Rattle.wire_frames.specs.Frames.{option_form, texts_form, options_form, ref_form, origins_form, fields_of, spelling}
 
 pub length-text_form : (text : List ℕ) → length (text_form text) ≡ 4 + length text
 length-text_form text = length-append (to_be_bytes w32 (length text)) text
@@ -41,6 +43,35 @@ pub option-le-options_form : (options : List (List ℕ × List ℕ)) (i : ℕ) (
 option-le-options_form options i d lt =
     let option = get_or options i d in
     omega (arith, length-flat_map-take option_form options i d lt, length-append (text_form option.0) (text_form option.1), length-text_form option.0, length-text_form option.1, length-append (to_be_bytes w32 (length options)) (flat_map option_form options))
+
+-- ---- elements
+
+length-steps : (path : List ℕ) → length (flat_map u16_form path) ≡ length path + length path
+unfolding u16_form
+length-steps [] = refl
+length-steps (step ∷ path) = omega (arith, length-steps path, length-append (to_be_bytes w16 step) (flat_map u16_form path))
+
+pub length-path_form : (path : List ℕ) → length (list_form u16_form path) ≡ 4 + (length path + length path)
+unfolding count_form
+length-path_form path = omega (arith, length-steps path, length-append (to_be_bytes w32 (length path)) (flat_map u16_form path))
+
+pub length-ref_form : (element : ElementRef) → length (ref_form element) ≡ 8 + length element.unit + (length element.path + length element.path)
+length-ref_form element = omega (arith, length-append (text_form element.unit) (list_form u16_form element.path), length-text_form element.unit, length-path_form element.path)
+
+count-le-refs : (elements : List ElementRef) → length elements ≤ length (flat_map ref_form elements)
+count-le-refs [] = omega arith
+count-le-refs (element ∷ elements) =
+    omega (arith, count-le-refs elements, length-append (ref_form element) (flat_map ref_form elements), length-ref_form element)
+
+pub length-origins_form : (origins : List ElementRef) → length (origins_form origins) ≡ 4 + length (flat_map ref_form origins)
+unfolding count_form
+length-origins_form origins = length-append (to_be_bytes w32 (length origins)) (flat_map ref_form origins)
+
+pub count-le-origins_form : (origins : List ElementRef) → length origins ≤ length (origins_form origins)
+count-le-origins_form origins = omega (arith, count-le-refs origins, length-origins_form origins)
+
+pub ref-le-origins_form : (origins : List ElementRef) (i : ℕ) (d : ElementRef) → i < length origins → length (ref_form (get_or origins i d)) ≤ length (origins_form origins)
+ref-le-origins_form origins i d lt = omega (arith, length-flat_map-take ref_form origins i d lt, length-origins_form origins)
 
 -- ---- how long frames can be
 
@@ -93,7 +124,11 @@ length-init init none =
     let options : length (options_form init.options) ≡ 4 = ap (λ (o : List (List ℕ × List ℕ)). length (options_form o)) none in
     omega (arith, length-spelling (frames.Init init), length-four 1 (text_form init.name) (to_be_bytes w16 init.level) (options_form init.options), length-text_form init.name, options)
 
--- the answer to a creation
+-- the answer to a creation, and to a message
 pub length-created : (created : Created) → length (spelling (frames.Reply (replies.Created created))) ≡ 6
 unfolding fields_of
 length-created created = length-spelling (frames.Reply (replies.Created created))
+
+pub length-noted : length (spelling (frames.Reply replies.Noted)) ≡ 5
+unfolding fields_of
+length-noted = length-spelling (frames.Reply replies.Noted)

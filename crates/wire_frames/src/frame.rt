@@ -1,4 +1,4 @@
-use decl_syntax::{List, Name};
+use decl_syntax::{Claim, ElementRef, List, Name};
 
 /// What the host says of itself to a child, first.
 #[derive(Debug, Drop)]
@@ -22,14 +22,6 @@ pub struct Hello {
     pub claim: Claim,
 }
 
-/// Whether a processor claims the annotation names that it is offered.
-#[derive(Clone, Copy, Debug, PartialEq, Eq)]
-pub enum Claim {
-    Always,
-    Never,
-    Varies,
-}
-
 /// What became of a creation.
 #[derive(Clone, Copy, Debug, PartialEq, Eq)]
 pub enum Created {
@@ -48,13 +40,25 @@ pub enum Created {
 /// The host's answer to a child's frame in a round.
 #[derive(Debug, Drop)]
 pub enum Reply {
+    /// To a creation.
     Created(Created),
+    /// To a message.
+    Noted,
 }
 
-/// A file that a child creates.
+/// A file that a child creates (JSR 269, `Filer`).
 #[derive(Debug, Drop)]
 pub enum Creation {
-    /// A resource, which originates in no element.
+    /// A source file.
+    Source {
+        /// The canonical name of its type, or its package's name and `.package-info`.
+        name: Name,
+        /// The file's bytes.
+        content: List<u8>,
+        /// The originating elements.
+        origins: List<ElementRef>,
+    },
+    /// A resource.
     Resource {
         /// 0 for the class output, 1 for the source output, 2 for the output of native headers.
         location: u8,
@@ -64,7 +68,29 @@ pub enum Creation {
         relative: Name,
         /// The file's bytes.
         content: List<u8>,
+        /// The originating elements.
+        origins: List<ElementRef>,
     },
+    /// A class file.
+    Class {
+        /// The canonical name of its type.
+        name: Name,
+        /// The file's bytes.
+        content: List<u8>,
+        /// The originating elements.
+        origins: List<ElementRef>,
+    },
+}
+
+/// What a child prints (JSR 269, `Messager`).
+#[derive(Debug, Drop)]
+pub struct Message {
+    /// 0 for an error, 1 for a warning, 2 for a mandatory warning, 3 for a note, 4 for any other kind.
+    pub kind: u8,
+    /// The element at which it is printed.
+    pub element: Option<ElementRef>,
+    /// The message.
+    pub text: Name,
 }
 
 /// What the host and a child send each other, one at a time.
@@ -94,6 +120,8 @@ pub enum Frame {
         /// Whether it claims what it was offered.
         claimed: bool,
     },
-    /// The child's, which the host answers.
+    /// The child's, which the host answers by `Reply::Created`.
     Create(Creation),
+    /// The child's, which the host answers by `Reply::Noted`.
+    Message(Message),
 }

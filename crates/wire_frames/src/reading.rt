@@ -1,19 +1,22 @@
 ghost use Rattle.std.specs.Prelude.{◌≡◌, ℕ, true, map, length, IfOk, IfSome, Some};
-ghost use Rattle.wire_frames.specs.Frames.{are_distinct, texts_next, distinct_next, claim_of, hello_next, done_next, resource_next, fields_next, child_frame, length_of, fields_of, IsFromChild, MaySend};
+ghost use Rattle.wire_frames.specs.Frames.{are_distinct, texts_next, distinct_next, claim_of, hello_next, done_next, below_next, origins_next, file_next, resource_next, element_next, message_next, creation_next, fields_next, child_frame, length_of, fields_of, IsFromChild, MaySend};
+ghost use Rattle.wire_frames.specs.declared.frame.Creation.TheVariants as creations;
 ghost use Rattle.decl_syntax.specs.Fields.{text_next, bytes_next};
 ghost use Rattle.wire_frames.specs.Reading.{Gives, GivesAll};
 
-use crate::frame::{Claim, Creation, Frame, Hello};
-use crate::tags::{DONE, HELLO, RESOURCE};
+use crate::frame::{Creation, Frame, Hello, Message};
+use crate::tags::{CLASS, DONE, HELLO, MESSAGE, RESOURCE, SOURCE};
 use crate::writing::MAX_FRAME;
-use decl_syntax::{FieldReader, List, Name, NoMemory};
+use decl_syntax::{Claim, ElementRef, FieldReader, List, Name, NoMemory};
 use std::alloc::Global;
 use std::collections::BTreeSet;
 
-// Why no frame was read.
+/// Why no frame was read.
 #[derive(Clone, Copy, Debug, PartialEq, Eq)]
 pub enum Flaw {
+    /// The bytes are not of the form that is read.
     Bad,
+    /// Want of memory.
     Memory,
 }
 
@@ -127,28 +130,111 @@ fn content(alloc: Global, reader: &mut FieldReader<'_>) -> Result<List<u8>, Flaw
     }
 }
 
+#[tactic(auto, unfolding(crate::specs::Frames::below_next))]
+fn below(bound: u8, reader: &mut FieldReader<'_>) -> Result<u8, Flaw>
+    ensures { Gives (below_next bound) reader.old reader.new result }
+{
+    match reader.u8() {
+        Some(number) => {
+            if number < bound {
+                Ok(number)
+            } else {
+                Err(Flaw::Bad)
+            }
+        }
+        None => Err(Flaw::Bad),
+    }
+}
+
+#[tactic(auto, unfolding(crate::specs::Frames::origins_next))]
+fn origins(alloc: Global, reader: &mut FieldReader<'_>) -> Result<List<ElementRef>, Flaw>
+    ensures { Gives origins_next reader.old reader.new result }
+{
+    match reader.u32() {
+        Some(0) => Ok(List::new(alloc)),
+        _ => Err(Flaw::Bad),
+    }
+}
+
+#[tactic(auto, unfolding(crate::specs::Frames::file_next))]
+fn source(alloc: Global, reader: &mut FieldReader<'_>) -> Result<Frame, Flaw>
+    ensures { Gives (file_next creations.Source) reader.old reader.new result }
+{
+    let name = name(alloc, reader)?;
+    let content = content(alloc, reader)?;
+    let origins = origins(alloc, reader)?;
+    Ok(Frame::Create(Creation::Source {
+        name,
+        content,
+        origins,
+    }))
+}
+
 #[tactic(auto, unfolding(crate::specs::Frames::resource_next))]
 fn resource(alloc: Global, reader: &mut FieldReader<'_>) -> Result<Frame, Flaw>
     ensures { Gives resource_next reader.old reader.new result }
 {
-    let Some(location) = reader.u8() else {
-        return Err(Flaw::Bad);
-    };
+    let location = below(3, reader)?;
     let package = name(alloc, reader)?;
     let relative = name(alloc, reader)?;
     let content = content(alloc, reader)?;
-    let Some(origins) = reader.u32() else {
-        return Err(Flaw::Bad);
-    };
-    if location > 2 || origins > 0 {
-        return Err(Flaw::Bad);
-    }
+    let origins = origins(alloc, reader)?;
     Ok(Frame::Create(Creation::Resource {
         location,
         package,
         relative,
         content,
+        origins,
     }))
+}
+
+#[tactic(auto, unfolding(crate::specs::Frames::file_next))]
+fn class(alloc: Global, reader: &mut FieldReader<'_>) -> Result<Frame, Flaw>
+    ensures { Gives (file_next creations.Class) reader.old reader.new result }
+{
+    let name = name(alloc, reader)?;
+    let content = content(alloc, reader)?;
+    let origins = origins(alloc, reader)?;
+    Ok(Frame::Create(Creation::Class {
+        name,
+        content,
+        origins,
+    }))
+}
+
+#[tactic(auto, unfolding(crate::specs::Frames::element_next))]
+fn element(reader: &mut FieldReader<'_>) -> Result<Option<ElementRef>, Flaw>
+    ensures { Gives element_next reader.old reader.new result }
+{
+    match reader.bool() {
+        Some(false) => Ok(None),
+        _ => Err(Flaw::Bad),
+    }
+}
+
+#[tactic(auto, unfolding(crate::specs::Frames::message_next))]
+fn message(alloc: Global, reader: &mut FieldReader<'_>) -> Result<Frame, Flaw>
+    ensures { Gives message_next reader.old reader.new result }
+{
+    let kind = below(5, reader)?;
+    let element = element(reader)?;
+    let text = name(alloc, reader)?;
+    Ok(Frame::Message(Message {
+        kind,
+        element,
+        text,
+    }))
+}
+
+fn creation(alloc: Global, tag: u8, reader: &mut FieldReader<'_>) -> Result<Frame, Flaw>
+    ensures { Gives (creation_next tag) reader.old reader.new result }
+{
+    match tag {
+        SOURCE => source(alloc, reader),
+        RESOURCE => resource(alloc, reader),
+        CLASS => class(alloc, reader),
+        _ => Err(Flaw::Bad),
+    }
 }
 
 fn fields(alloc: Global, tag: u8, reader: &mut FieldReader<'_>) -> Result<Frame, Flaw>
@@ -157,8 +243,8 @@ fn fields(alloc: Global, tag: u8, reader: &mut FieldReader<'_>) -> Result<Frame,
     match tag {
         HELLO => hello(alloc, reader),
         DONE => done(reader),
-        RESOURCE => resource(alloc, reader),
-        _ => Err(Flaw::Bad),
+        MESSAGE => message(alloc, reader),
+        _ => creation(alloc, tag, reader),
     }
 }
 
@@ -204,10 +290,12 @@ fn child_frame(alloc: Global, bytes: &[u8]) -> Result<Option<Frame>, NoMemory>
     }
 }
 
-/// The child's frame whose tag and fields are these bytes, all of them: `Hello`, `Done` or `Create`.
+/// The child's frame whose tag and fields are these bytes, all of them: `Hello`, `Done`, `Create` or
+/// `Message`.
 ///
 /// None comes where they are no such frame's: texts are in UTF-8, in `Hello` no text stands twice in
-/// a list, and each number is in its range. The only error is `NoMemory`.
+/// a list, each number is in its range, a creation has no originating element, and a message no
+/// element. The only error is `NoMemory`.
 pub fn read_child_frame(alloc: Global, bytes: &[u8]) -> Result<Option<Frame>, NoMemory>
     ensures exact { IfOk result (λ found. found ≡ child_frame bytes.now) }
     // What is read is spelled so, and a child may send it.

@@ -1,12 +1,13 @@
 ghost use Rattle.std.specs.Prelude.{◌≡◌, ℕ, Bool, ◌+◌, ◌≤◌, ◌<◌, ◌++◌, length, IfOk, OnOk, IsErrOf};
 ghost use Rattle.decl_syntax.specs.Fields.{text_form, bytes_form};
-ghost use Rattle.wire_frames.specs.Frames.{option_form, texts_form, options_form, claim_number, created_number, init_form, round_form, created_form, hello_form, done_form, resource_form, creation_form, fields_of, spelling};
+ghost use Rattle.decl_syntax.specs.Forms.{u16_form, list_form, opt_form};
+ghost use Rattle.wire_frames.specs.Frames.{option_form, texts_form, options_form, claim_number, created_number, init_form, round_form, created_form, noted_form, hello_form, done_form, ref_form, origins_form, file_form, resource_form, creation_form, message_form, fields_of, spelling};
 ghost use Rattle.wire_frames.specs.Sizes.{capped};
 ghost use Rattle.wire_frames.specs.declared.writing.FrameFault.TheVariants as faults;
 
-use crate::frame::{Claim, Created, Creation, Frame, Hello, Init, Reply};
-use crate::tags::{CREATED, DONE, HELLO, INIT, RESOURCE, ROUND};
-use decl_syntax::{FieldWriter, List, Name, NoMemory};
+use crate::frame::{Created, Creation, Frame, Hello, Init, Message, Reply};
+use crate::tags::{CLASS, CREATED, DONE, HELLO, INIT, MESSAGE, NOTED, RESOURCE, ROUND, SOURCE};
+use decl_syntax::{ElementRef, FieldWriter, List, Name, NoMemory};
 use std::alloc::Global;
 
 /// How many bytes a frame has at most, its length among them.
@@ -87,20 +88,93 @@ fn hello_size(hello: &Hello) -> usize
         .saturating_add(2)
 }
 
+fn path_size(path: &[u16]) -> usize
+    ensures { result ≡ capped (length (list_form u16_form path.now)) }
+{
+    path.len().saturating_mul(2).saturating_add(4)
+}
+
+fn ref_size(element: &ElementRef) -> usize
+    ensures { result ≡ capped (length (ref_form element.now)) }
+{
+    text_size(&element.unit).saturating_add(path_size(element.path.as_slice()))
+}
+
+fn opt_ref_size(element: &Option<ElementRef>) -> usize
+    ensures { result ≡ capped (length (opt_form ref_form element.now)) }
+{
+    match element {
+        None => 1,
+        Some(element) => ref_size(element).saturating_add(1),
+    }
+}
+
+#[tactic(auto, unfolding(decl_syntax::specs::Forms::count_form))]
+fn origins_size(origins: &[ElementRef]) -> usize
+    ensures { result ≡ capped (length (origins_form origins.now)) }
+{
+    let mut size: usize = 4;
+    for origin in origins {
+        size = size.saturating_add(ref_size(origin));
+    }
+    size
+}
+
+fn file_size(name: &Name, content: &List<u8>, origins: &List<ElementRef>) -> usize
+    ensures { (tag : ℕ) → result ≡ capped (length (file_form tag name.now content.now origins.now)) }
+{
+    text_size(name)
+        .saturating_add(content.len())
+        .saturating_add(origins_size(origins.as_slice()))
+        .saturating_add(5)
+}
+
+fn resource_size(
+    folder: &Name,
+    relative: &Name,
+    content: &List<u8>,
+    origins: &List<ElementRef>,
+) -> usize
+    ensures { (location : ℕ)
+        → result ≡ capped (length (resource_form location folder.now relative.now content.now origins.now)) }
+{
+    text_size(folder)
+        .saturating_add(text_size(relative))
+        .saturating_add(content.len())
+        .saturating_add(origins_size(origins.as_slice()))
+        .saturating_add(6)
+}
+
 fn creation_size(creation: &Creation) -> usize
     ensures { result ≡ capped (length (creation_form creation.now)) }
 {
     match creation {
+        Creation::Source {
+            name,
+            content,
+            origins,
+        } => file_size(name, content, origins),
         Creation::Resource {
             package,
             relative,
             content,
+            origins,
             ..
-        } => text_size(package)
-            .saturating_add(text_size(relative))
-            .saturating_add(content.len())
-            .saturating_add(10),
+        } => resource_size(package, relative, content, origins),
+        Creation::Class {
+            name,
+            content,
+            origins,
+        } => file_size(name, content, origins),
     }
+}
+
+fn message_size(message: &Message) -> usize
+    ensures { result ≡ capped (length (message_form message.now)) }
+{
+    opt_ref_size(&message.element)
+        .saturating_add(text_size(&message.text))
+        .saturating_add(2)
 }
 
 // The number of bytes in a frame's tag and fields.
@@ -112,9 +186,11 @@ fn size_of(frame: &Frame) -> usize
         Frame::Init(init) => init_size(init),
         Frame::Round { offered, roots, .. } => round_size(offered, roots),
         Frame::Reply(Reply::Created(_)) => 2,
+        Frame::Reply(Reply::Noted) => 1,
         Frame::Hello(hello) => hello_size(hello),
         Frame::Done { .. } => 2,
         Frame::Create(creation) => creation_size(creation),
+        Frame::Message(message) => message_size(message),
     }
 }
 
@@ -163,22 +239,84 @@ fn put_hello(writer: &mut FieldWriter, hello: &Hello) -> Result<(), NoMemory>
     writer.u8(hello.claim as u8)
 }
 
+#[tactic(auto, unfolding(decl_syntax::specs::Forms::count_form, decl_syntax::specs::Forms::u16_form))]
+fn put_path(writer: &mut FieldWriter, path: &[u16]) -> Result<(), NoMemory>
+    requires { length (list_form u16_form path.now) ≤ 134217724 }
+    ensures { OnOk result (writer.new ≡ writer.old ++ list_form u16_form path.now) }
+{
+    writer.u32(path.len() as u32)?;
+    for step in path {
+        writer.u16(*step)?;
+    }
+    Ok(())
+}
+
+fn put_ref(writer: &mut FieldWriter, element: &ElementRef) -> Result<(), NoMemory>
+    requires { length (ref_form element.now) ≤ 134217724 }
+    ensures { OnOk result (writer.new ≡ writer.old ++ ref_form element.now) }
+{
+    writer.text(element.unit.as_str())?;
+    put_path(writer, element.path.as_slice())
+}
+
+fn put_opt_ref(writer: &mut FieldWriter, element: &Option<ElementRef>) -> Result<(), NoMemory>
+    requires { length (opt_form ref_form element.now) ≤ 134217724 }
+    ensures { OnOk result (writer.new ≡ writer.old ++ opt_form ref_form element.now) }
+{
+    match element {
+        None => writer.u8(0),
+        Some(element) => {
+            writer.u8(1)?;
+            put_ref(writer, element)
+        }
+    }
+}
+
+#[tactic(auto, unfolding(decl_syntax::specs::Forms::count_form))]
+fn put_origins(writer: &mut FieldWriter, origins: &[ElementRef]) -> Result<(), NoMemory>
+    requires { length (origins_form origins.now) ≤ 134217724 }
+    ensures { OnOk result (writer.new ≡ writer.old ++ origins_form origins.now) }
+{
+    writer.u32(origins.len() as u32)?;
+    for origin in origins {
+        put_ref(writer, origin)?;
+    }
+    Ok(())
+}
+
+fn put_file(
+    writer: &mut FieldWriter,
+    tag: u8,
+    name: &Name,
+    content: &List<u8>,
+    origins: &List<ElementRef>,
+) -> Result<(), NoMemory>
+    requires { length (file_form tag name.now content.now origins.now) ≤ 134217724 }
+    ensures { OnOk result (writer.new ≡ writer.old ++ file_form tag name.now content.now origins.now) }
+{
+    writer.u8(tag)?;
+    writer.text(name.as_str())?;
+    writer.bytes(content.as_slice())?;
+    put_origins(writer, origins.as_slice())
+}
+
 fn put_resource(
     writer: &mut FieldWriter,
     location: u8,
     folder: &Name,
     relative: &Name,
     content: &List<u8>,
+    origins: &List<ElementRef>,
 ) -> Result<(), NoMemory>
-    requires { length (resource_form location folder.now relative.now content.now) ≤ 134217724 }
-    ensures { OnOk result (writer.new ≡ writer.old ++ resource_form location folder.now relative.now content.now) }
+    requires { length (resource_form location folder.now relative.now content.now origins.now) ≤ 134217724 }
+    ensures { OnOk result (writer.new ≡ writer.old ++ resource_form location folder.now relative.now content.now origins.now) }
 {
     writer.u8(RESOURCE)?;
     writer.u8(location)?;
     writer.text(folder.as_str())?;
     writer.text(relative.as_str())?;
     writer.bytes(content.as_slice())?;
-    writer.u32(0)
+    put_origins(writer, origins.as_slice())
 }
 
 fn put_creation(writer: &mut FieldWriter, creation: &Creation) -> Result<(), NoMemory>
@@ -186,13 +324,34 @@ fn put_creation(writer: &mut FieldWriter, creation: &Creation) -> Result<(), NoM
     ensures { OnOk result (writer.new ≡ writer.old ++ creation_form creation.now) }
 {
     match creation {
+        Creation::Source {
+            name,
+            content,
+            origins,
+        } => put_file(writer, SOURCE, name, content, origins),
         Creation::Resource {
             location,
             package,
             relative,
             content,
-        } => put_resource(writer, *location, package, relative, content),
+            origins,
+        } => put_resource(writer, *location, package, relative, content, origins),
+        Creation::Class {
+            name,
+            content,
+            origins,
+        } => put_file(writer, CLASS, name, content, origins),
     }
+}
+
+fn put_message(writer: &mut FieldWriter, message: &Message) -> Result<(), NoMemory>
+    requires { length (message_form message.now) ≤ 134217724 }
+    ensures { OnOk result (writer.new ≡ writer.old ++ message_form message.now) }
+{
+    writer.u8(MESSAGE)?;
+    writer.u8(message.kind)?;
+    put_opt_ref(writer, &message.element)?;
+    writer.text(message.text.as_str())
 }
 
 fn put_round(
@@ -229,9 +388,11 @@ fn put_fields(writer: &mut FieldWriter, frame: &Frame) -> Result<(), NoMemory>
             roots,
         } => put_round(writer, *number, *over, *error, offered, roots),
         Frame::Reply(Reply::Created(created)) => put_created(writer, *created),
+        Frame::Reply(Reply::Noted) => put_noted(writer),
         Frame::Hello(hello) => put_hello(writer, hello),
         Frame::Done { claimed } => put_done(writer, *claimed),
         Frame::Create(creation) => put_creation(writer, creation),
+        Frame::Message(message) => put_message(writer, message),
     }
 }
 
@@ -240,6 +401,12 @@ fn put_created(writer: &mut FieldWriter, created: Created) -> Result<(), NoMemor
 {
     writer.u8(CREATED)?;
     writer.u8(created as u8)
+}
+
+fn put_noted(writer: &mut FieldWriter) -> Result<(), NoMemory>
+    ensures { OnOk result (writer.new ≡ writer.old ++ noted_form) }
+{
+    writer.u8(NOTED)
 }
 
 fn put_done(writer: &mut FieldWriter, claimed: bool) -> Result<(), NoMemory>
