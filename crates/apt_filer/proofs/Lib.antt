@@ -1,0 +1,4 @@
+pub mod Folders
+pub mod NameLemmas
+pub mod TextSets
+pub mod FilingLemmas

@@ -1,0 +1,95 @@
+// The paths of creations.
+ghost use Rattle.std.specs.Prelude.{◌≡◌, ◌∷◌, ◌++◌, codes, string_bytes, IfOk, OnOk, MatchOption};
+ghost use Rattle.decl_syntax.specs.Identifiers.{HasNoDot};
+ghost use Rattle.apt_filer.specs.Filing.{folders_of, package_folders, location_folder, path_of};
+
+use decl_syntax::{Name, NoMemory};
+use std::alloc::Global;
+use wire_frames::Creation;
+
+// What stands before the first dot and behind it.
+fn split_dot(text: &str) -> Option<(&str, &str)>
+    ensures { MatchOption result
+        (HasNoDot text.now) (λ x. (text.now ≡ x.0.now ++ (46 ∷ x.1.now)) × HasNoDot x.0.now) }
+{
+    text.split_once('.')
+}
+
+fn push_folders(path: &mut String, name: &str) -> Result<(), NoMemory>
+    ensures { OnOk result (string_bytes path.new ≡ string_bytes path.old ++ folders_of name.now) }
+{
+    let mut rest = name;
+    while let Some((first, after)) = split_dot(rest) {
+        path.push_str(first)?;
+        path.push('/')?;
+        rest = after;
+    }
+    path.push_str(rest)?;
+    Ok(())
+}
+
+fn push_package(path: &mut String, package: &str) -> Result<(), NoMemory>
+    ensures { OnOk result
+        (string_bytes path.new ≡ string_bytes path.old ++ package_folders «package».now) }
+{
+    if package == "" {
+        return Ok(());
+    }
+    push_folders(path, package)?;
+    path.push('/')?;
+    Ok(())
+}
+
+fn location_folder(location: u8) -> &'static str
+    ensures { result.now ≡ location_folder location }
+{
+    match location {
+        0 => "CLASS_OUTPUT/",
+        1 => "SOURCE_OUTPUT/",
+        _ => "NATIVE_HEADER_OUTPUT/",
+    }
+}
+
+fn source_path(alloc: Global, name: &str) -> Result<Name, NoMemory>
+    ensures { IfOk result
+        (λ path. path ≡ codes "SOURCE_OUTPUT/" ++ folders_of name.now ++ codes ".java") }
+{
+    let mut path = String::from_str(alloc, "SOURCE_OUTPUT/")?;
+    push_folders(&mut path, name)?;
+    path.push_str(".java")?;
+    Ok(Name::from_string(alloc, path))
+}
+
+fn resource_path(
+    alloc: Global,
+    location: u8,
+    package: &str,
+    relative: &str,
+) -> Result<Name, NoMemory>
+    ensures { IfOk result
+        (λ path. path ≡ location_folder location ++ package_folders «package».now ++ relative.now) }
+{
+    let mut path = String::from_str(alloc, location_folder(location))?;
+    push_package(&mut path, package)?;
+    path.push_str(relative)?;
+    Ok(Name::from_string(alloc, path))
+}
+
+/// The path of a creation below the output: `SOURCE_OUTPUT/a/b/C.java` of the source `a.b.C`; the
+/// location, the package as folders and the relative name of a resource, joined by `/`. A class file
+/// has none: its path is empty. It fails only for want of memory.
+#[tactic(auto, unfolding(crate::specs::Filing::path_of))]
+pub fn path_of(alloc: Global, creation: &Creation) -> Result<Name, NoMemory>
+    ensures { IfOk result (λ path. path ≡ path_of creation.now) }
+{
+    match creation {
+        Creation::Source { name, .. } => source_path(alloc, name.as_str()),
+        Creation::Resource {
+            location,
+            package,
+            relative,
+            ..
+        } => resource_path(alloc, *location, package.as_str(), relative.as_str()),
+        Creation::Class { .. } => Name::new(alloc, ""),
+    }
+}
