@@ -4,3 +4,15 @@ pub mod ReadLemmas
 pub mod LawLemmas
 pub mod OffsetLemmas
 pub mod TotalLemmas
+pub mod Derive
+pub mod TableLemmas
+pub mod KindLemmas
+pub mod NextLemmas
+pub mod ListLemmas
+pub mod SortLemmas
+pub mod ScanLemmas
+pub mod AsciiLemmas
+pub mod FrontLemmas
+pub mod PlaceLemmas
+pub mod LexLemmas
+pub mod IdentLemmas

@@ -2,3 +2,9 @@ pub mod Escapes
 pub mod Characters
 pub mod CharsShown
 pub mod Words
+pub mod Forms
+pub mod Sorts
+pub mod Literals
+pub mod Tokens
+pub mod Table
+pub mod TokensShown

@@ -1,15 +1,32 @@
-//! Java's lexical structure: the characters of a file, and the tables of reserved words and operators.
+//! Java's lexical structure: the characters of a file, its tokens, and the tables of reserved words and operators.
 //!
-//! `read_chars` gives the characters that a file spells in UTF-8 and Unicode escapes, each with its offset (`AreChars`), or the place of
-//! the first escape or sequence at which no characters go on (`IsCharFault`). Each file has exactly one of them. Want of memory alone is
-//! answered in the place of it.
+//! `read_chars` gives the characters that a file spells in UTF-8 and Unicode escapes, each with its offset
+//! (`AreChars`), or the place of the first escape or sequence at which no characters go on (`IsCharFault`).
+//!
+//! `tokens` gives the tokens of such characters (`AreTokens`): the characters are tokens and separators, one after
+//! another, and none could be longer; or the place of the first at which no such list goes on (`IsTokenFault`). What a
+//! token or separator is stands in `specs/Literals.antt` and `specs/Tokens.antt`, in the forms of the JLS.
+//!
+//! Each file has exactly one list or one place. Want of memory alone is answered in the place of it. Nothing is
+//! promised of values of literals: a literal, a text block too, is its characters.
 #![tactic(auto)]
 
+mod automaton;
+#[cfg(test)]
+mod cases;
 mod chars;
 mod escapes;
 mod fault;
+mod fronts;
+mod identifiers;
+mod lexing;
+mod place;
 mod reading;
+mod token;
 mod words;
 
 pub use chars::{Chars, read_chars};
 pub use fault::TextFault;
+pub use identifiers::{begins_identifier, continues_identifier};
+pub use lexing::tokens;
+pub use token::{Token, TokenKind};

@@ -120,6 +120,9 @@ macro_rules! operators {
     };
 }
 
+pub(crate) use operators;
+pub(crate) use reserved_words;
+
 /// The table of the reserved words, numbered from 0 in the order of the alphabet, with `_` last (JLS 3.9).
 pub fn reserved_table<'a>(rows: &'a [(&'static str, u8)]) -> Cases<'a>
     requires { shown rows.now ≡ reserved_rows }

@@ -1,0 +1,84 @@
+// The tokens of the characters of a file.
+ghost use Rattle.std.specs.Prelude.{ℕ, List, ◌≡◌, option_map, if◌then◌else◌, Some, MatchBool, MatchResult};
+ghost use Rattle.std.specs.Str.{chars as codes_of};
+ghost use Rattle.java_tokens.specs.CharsShown.{FaultAt};
+ghost use Rattle.java_tokens.specs.Tokens.{IsEnd, Lexeme, AreTokens, IsTokenFault, HasTokens};
+ghost use Rattle.java_tokens.specs.Tokens as spec;
+ghost use Rattle.java_tokens.specs.TokensShown.{codes_in, offsets_in, shown_tokens};
+
+use crate::fronts::{begins, next_front};
+use crate::place::{Place, offset_at, place_after};
+use crate::words::{operator_table, operators, reserved_table, reserved_words};
+use crate::{Chars, TextFault, Token};
+use std::alloc::Global;
+
+/// The tokens of these characters, or `Bad` with the offset in the file of the first token or separator at which no
+/// list of them goes on. `Memory` comes for want of memory alone. The time is linear in the text, which no clause
+/// says. Memory is taken for the list alone.
+pub fn tokens<'a>(alloc: Global, chars: &'a Chars) -> Result<Vec<Token<'a>>, TextFault>
+    ensures tokens { MatchResult result (λ tokens. AreTokens (codes_in chars.now) (offsets_in chars.now) (shown_tokens tokens.items)) (FaultAt (IsTokenFault (codes_in chars.now) (offsets_in chars.now))) }
+    ensures list { (all : List Lexeme) → AreTokens (codes_in chars.now) (offsets_in chars.now) all → MatchResult result (λ tokens. shown_tokens tokens.items ≡ all) (λ e. e ≡ TextFault.Memory) }
+    ensures decided { HasTokens (codes_in chars.now) (offsets_in chars.now) }
+    ensures place { (place : ℕ) → IsTokenFault (codes_in chars.now) (offsets_in chars.now) place → MatchResult result (λ _. ⊥) (FaultAt (λ at. at ≡ place)) }
+{
+    let word_rows = reserved_words!();
+    let words = reserved_table(&word_rows);
+    let operator_rows = operators!();
+    let operators = operator_table(&operator_rows);
+    let mut tokens = Vec::new(alloc);
+    let mut rest = chars.as_str();
+    let mut place = Place {
+        before: 0,
+        width: 0,
+        line: 1,
+        after_return: false,
+    };
+    let mut doc = None;
+    'elements: while !is_end(rest) {
+        let start = offset_at(chars, place.before, place.width);
+        let Some(front) = next_front(&words, &operators, rest) else {
+            return Err(TextFault::Bad { place: start });
+        };
+        let (text, after) = rest.split_at(front.width);
+        match front.kind {
+            Some(kind) => {
+                tokens.push(Token {
+                    kind,
+                    start,
+                    line: place.line,
+                    text,
+                    doc,
+                })?;
+                doc = None;
+            }
+            None => doc = doc_after(doc, text),
+        }
+        place = place_after(place, text);
+        rest = after;
+    }
+    Ok(tokens)
+}
+
+// Nothing is left but a SUB character.
+fn is_end(rest: &str) -> bool
+    ensures { MatchBool result (IsEnd (codes_of rest.now)) (¬ IsEnd (codes_of rest.now)) }
+{
+    rest.is_empty() || rest == "\u{1A}"
+}
+
+// The last doc comment behind a separator.
+fn doc_after<'a>(doc: Option<&'a str>, text: &'a str) -> Option<&'a str>
+    ensures { option_map (λ d. d.now) result ≡ (if spec.is_doc (codes_of text.now) then Some text.now else option_map (λ d. d.now) doc.entry) }
+{
+    if is_doc(text) { Some(text) } else { doc }
+}
+
+// A separator is a doc comment.
+fn is_doc(text: &str) -> bool
+    ensures { result ≡ spec.is_doc (codes_of text.now) }
+{
+    if text == "/**/" {
+        return false;
+    }
+    begins(text.as_bytes(), b"/**")
+}
