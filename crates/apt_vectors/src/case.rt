@@ -1,0 +1,125 @@
+// A case: a file, and what its characters and tokens are to be.
+use java_tokens::{Chars, TextFault, Token, TokenKind, read_chars, tokens};
+use std::alloc::{AllocError, Global};
+
+// The most bytes of a file.
+const MOST: usize = 8_388_608;
+
+/// What a file is to give.
+#[derive(Clone, Copy)]
+pub enum Expected {
+    /// These characters.
+    Characters(&'static str),
+    /// No characters: the first fault has this offset.
+    NoCharacters(u32),
+    /// Tokens of these kinds, with these texts.
+    Tokens(&'static [(TokenKind, &'static str)]),
+    /// Characters and no tokens: the first fault has this offset.
+    NoTokens(u32),
+}
+
+/// A file, and what it is to give.
+#[derive(Clone, Copy)]
+pub struct Case {
+    /// The bytes of the file.
+    pub file: &'static [u8],
+    /// What they are to give.
+    pub expected: Expected,
+}
+
+/// A file gives what it is to give. The one error is want of memory.
+pub fn passes(alloc: Global, case: &Case) -> Result<bool, AllocError> {
+    if case.file.len() > MOST {
+        return Ok(false);
+    }
+    match read_chars(alloc, case.file) {
+        Ok(chars) => gives(alloc, &chars, case.expected),
+        Err(TextFault::Bad { place }) => Ok(
+            matches!(case.expected, Expected::NoCharacters(at) if at == place),
+        ),
+        Err(TextFault::Memory) => Err(AllocError),
+    }
+}
+
+// The characters are the expected ones, or give what is expected.
+fn gives(alloc: Global, chars: &Chars, expected: Expected) -> Result<bool, AllocError> {
+    match expected {
+        Expected::Characters(text) => Ok(chars.as_str() == text),
+        Expected::NoCharacters(_) => Ok(false),
+        Expected::Tokens(list) => has_tokens(alloc, chars, list),
+        Expected::NoTokens(place) => has_fault(alloc, chars, place),
+    }
+}
+
+// The characters have tokens of these kinds with these texts.
+fn has_tokens(
+    alloc: Global,
+    chars: &Chars,
+    list: &[(TokenKind, &str)],
+) -> Result<bool, AllocError> {
+    match tokens(alloc, chars) {
+        Ok(found) => Ok(are_equal(found.as_slice(), list)),
+        Err(TextFault::Bad { .. }) => Ok(false),
+        Err(TextFault::Memory) => Err(AllocError),
+    }
+}
+
+// The characters have no tokens, and the first fault is at this place.
+fn has_fault(alloc: Global, chars: &Chars, place: u32) -> Result<bool, AllocError> {
+    match tokens(alloc, chars) {
+        Ok(_) => Ok(false),
+        Err(TextFault::Bad { place: at }) => Ok(at == place),
+        Err(TextFault::Memory) => Err(AllocError),
+    }
+}
+
+fn are_equal(found: &[Token<'_>], list: &[(TokenKind, &str)]) -> bool {
+    if found.len() != list.len() {
+        return false;
+    }
+    let mut pairs = found.iter().zip(list);
+    pairs.all(|(token, &(kind, text))| token.kind == kind && token.text == text)
+}
+
+#[cfg(test)]
+mod tests {
+    use super::*;
+    use std::test::Fail;
+
+    const INT: [(TokenKind, &str); 1] = [(TokenKind::Reserved(26), "int")];
+
+    const OTHER_KIND: [(TokenKind, &str); 1] = [(TokenKind::Identifier, "int")];
+
+    const OTHER_TEXT: [(TokenKind, &str); 1] = [(TokenKind::Reserved(26), "long")];
+
+    const TWICE: [(TokenKind, &str); 2] = [
+        (TokenKind::Reserved(26), "int"),
+        (TokenKind::Reserved(26), "int"),
+    ];
+
+    #[test]
+    fn wrong_expectations_fail(rt: HostRuntime) -> Result<(), Fail> {
+        let alloc = rt.alloc();
+        for (file, expected, want) in [
+            (b"int".as_slice(), Expected::Tokens(&INT), true),
+            (b"int", Expected::Tokens(&OTHER_KIND), false),
+            (b"int", Expected::Tokens(&OTHER_TEXT), false),
+            (b"int", Expected::Tokens(&TWICE), false),
+            (b"int", Expected::Tokens(&[]), false),
+            (b"int", Expected::Characters("int"), true),
+            (b"int", Expected::Characters("in"), false),
+            (b"int", Expected::NoCharacters(0), false),
+            (b"int", Expected::NoTokens(0), false),
+            (b"a \"b", Expected::NoTokens(2), true),
+            (b"a \"b", Expected::NoTokens(0), false),
+            (b"a \"b", Expected::NoCharacters(2), false),
+            (b"a \"b", Expected::Tokens(&INT), false),
+            (b"a\\ud800", Expected::NoCharacters(1), true),
+            (b"a\\ud800", Expected::NoCharacters(0), false),
+            (b"a\\ud800", Expected::NoTokens(1), false),
+        ] {
+            assert_eq!(rt; passes(alloc, &Case { file, expected })?, want);
+        }
+        Ok(())
+    }
+}
