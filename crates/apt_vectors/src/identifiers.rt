@@ -89,7 +89,7 @@ const EDGES: [(&str, bool); 26] = [
     ("\u{1f600}", false),
 ];
 
-// The tokens of the text are one identifier, which is all of it.
+// The tokens of the text are one identifier, which is as long as the text and so all of it.
 fn is_token(alloc: Global, text: &str) -> Result<bool, AllocError> {
     if text.len() > 8_388_608 {
         return Ok(false);
@@ -99,7 +99,7 @@ fn is_token(alloc: Global, text: &str) -> Result<bool, AllocError> {
     };
     match tokens(alloc, &chars) {
         Ok(list) => match list.as_slice() {
-            [token] => Ok(token.kind == TokenKind::Identifier && token.text == text),
+            [token] => Ok(token.kind == TokenKind::Identifier && token.text.len() == text.len()),
             _ => Ok(false),
         },
         Err(TextFault::Bad { .. }) => Ok(false),
