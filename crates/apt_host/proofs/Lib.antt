@@ -1,3 +1,4 @@
 pub mod Units
 pub mod Writing
+pub mod Making
 pub mod Building

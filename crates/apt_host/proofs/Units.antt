@@ -6,7 +6,7 @@ use Rattle.std.proofs.lemmas.Bool.{lt-ltb, le-ltb}
 use Rattle.source_form.specs.declared.form.SourceForm.{SourceForm}
 use Rattle.source_form.specs.Form.{form_of, canonical}
 use Rattle.tree_store.specs.declared.sources.RawSource.{RawSource}
-use Rattle.round_engine.specs.Run.{Units}
+use Rattle.round_engine.specs.Units.{Units}
 use Rattle.apt_host.specs.Project.{enter_form, enter_next, enter_all}
 
 pub full : (units : Units) (count : ℕ) (form : SourceForm) → 1000 ≤ count → enter_form units count (Some form) ≡ None

@@ -1,5 +1,5 @@
 -- What is written, by the verdict.
-use Rattle.std.proofs.Common.{◌≡◌, ◌≢◌, ◌⊎◌, ℕ, Bool, List, [], ◌++◌, length, take, refl, sym, ap, ◌∙◌, subst, inl, inr, append-nil, append_assoc, codes}
+use Rattle.std.proofs.Common.{◌≡◌, ◌≢◌, ◌⊎◌, ℕ, Bool, true, false, List, [], ◌++◌, length, take, refl, sym, ap, ◌∙◌, subst, inl, inr, append-nil, append_assoc, codes}
 use Rattle.std.proofs.Math.Seq.{take-length}
 use Rattle.apt_outside.specs.Count.{Told}
 use Rattle.apt_outside.specs.Files.{Files}
@@ -11,13 +11,17 @@ use Rattle.std.proofs.Common.{map}
 use Rattle.apt_host.specs.Words.{Request, Build, Bad}
 use Rattle.apt_host.specs.CleanBuild.{Outcome, clean}
 use Rattle.apt_host.specs.CleanBuild as outcome
-use Rattle.apt_host.specs.Report.{report_of}
-use Rattle.apt_host.specs.Verdicts.{Verdict, verdict, Done, BadWords, UnbuiltForm, UnbuiltTalk, TreeFault, SinkFault, ChildFault, Memory, OrFree}
+use Rattle.apt_host.specs.Report.{report_of, errors_report}
+use Rattle.apt_host.specs.Verdicts.{Verdict, verdict, Done, Errors, BadWords, UnbuiltForm, UnbuiltTalk, TooManyQuestions, GeneratedDuplicate, TooManyRounds, TreeFault, SinkFault, ChildFault, Memory, OrFree, is_finished}
 use Rattle.apt_host.specs.Promises.{IsFront, IsLine, Reports, ReportsOf, Begins, Writes, Finishes, AddsLine}
 
 -- before the report nothing stands
-pub nothing_yet : (report : List ℕ) (v : Verdict) → v ≢ Done → IsFront report v []
-nothing_yet report Done ne = absurd (ne refl)
+pub nothing_yet : (report : List ℕ) (v : Verdict) → is_finished v ≡ false → IsFront report v []
+nothing_yet report Done ne = absurd cc
+nothing_yet report (Errors count) ne = absurd cc
+nothing_yet report (TooManyQuestions processor most) ne = refl
+nothing_yet report (GeneratedDuplicate name) ne = refl
+nothing_yet report TooManyRounds ne = refl
 nothing_yet report (BadWords at) ne = refl
 nothing_yet report (UnbuiltForm path) ne = refl
 nothing_yet report (UnbuiltTalk processor) ne = refl
@@ -29,6 +33,7 @@ nothing_yet report Memory ne = (0, refl)
 -- what a status may be once the report stands
 abbrev pub IsPublishing : Verdict → Type 0
 IsPublishing Done = Unit {0}
+IsPublishing (Errors count) = Unit {0}
 IsPublishing TreeFault = Unit {0}
 IsPublishing Memory = Unit {0}
 IsPublishing SinkFault = Unit {0}
@@ -36,10 +41,14 @@ IsPublishing (BadWords at) = ⊥
 IsPublishing (UnbuiltForm path) = ⊥
 IsPublishing (UnbuiltTalk processor) = ⊥
 IsPublishing (ChildFault processor) = ⊥
+IsPublishing (TooManyQuestions processor most) = ⊥
+IsPublishing (GeneratedDuplicate name) = ⊥
+IsPublishing TooManyRounds = ⊥
 
 -- the whole report stands
 pub whole : (report : List ℕ) (v : Verdict) → IsPublishing v → IsFront report v report
 whole report Done h = refl
+whole report (Errors count) h = refl
 whole report TreeFault h = inr refl
 whole report SinkFault h = (length report, sym (take-length report))
 whole report Memory h = (length report, sym (take-length report))
@@ -47,9 +56,16 @@ whole report (BadWords at) h = absurd h
 whole report (UnbuiltForm path) h = absurd h
 whole report (UnbuiltTalk processor) h = absurd h
 whole report (ChildFault processor) h = absurd h
+whole report (TooManyQuestions processor most) h = absurd h
+whole report (GeneratedDuplicate name) h = absurd h
+whole report TooManyRounds h = absurd h
 
 front_memory : (report : List ℕ) (v : Verdict) (text : List ℕ) → IsFront report v text → IsFront report Memory text
 front_memory report Done text f = (length report, f ∙ sym (take-length report))
+front_memory report (Errors count) text f = (length report, f ∙ sym (take-length report))
+front_memory report (TooManyQuestions processor most) text f = (0, f)
+front_memory report (GeneratedDuplicate name) text f = (0, f)
+front_memory report TooManyRounds text f = (0, f)
 front_memory report (BadWords at) text f = (0, f)
 front_memory report (UnbuiltForm path) text f = (0, f)
 front_memory report (UnbuiltTalk processor) text f = (0, f)
@@ -67,6 +83,10 @@ front_after report v (BadWords at) text same f = subst (λ u. IsFront report u t
 front_after report v (UnbuiltForm path) text same f = subst (λ u. IsFront report u text) (sym (same (λ e. cc))) f
 front_after report v (UnbuiltTalk processor) text same f = subst (λ u. IsFront report u text) (sym (same (λ e. cc))) f
 front_after report v (ChildFault processor) text same f = subst (λ u. IsFront report u text) (sym (same (λ e. cc))) f
+front_after report v (Errors count) text same f = subst (λ u. IsFront report u text) (sym (same (λ e. cc))) f
+front_after report v (TooManyQuestions processor most) text same f = subst (λ u. IsFront report u text) (sym (same (λ e. cc))) f
+front_after report v (GeneratedDuplicate name) text same f = subst (λ u. IsFront report u text) (sym (same (λ e. cc))) f
+front_after report v TooManyRounds text same f = subst (λ u. IsFront report u text) (sym (same (λ e. cc))) f
 front_after report v TreeFault text same f = subst (λ u. IsFront report u text) (sym (same (λ e. cc))) f
 front_after report v SinkFault text same f = subst (λ u. IsFront report u text) (sym (same (λ e. cc))) f
 
@@ -86,28 +106,43 @@ written_all tells says_tells request says project v w r s old mid new fin more b
   added = added ∙ ap (λ t. t ++ line) begins.added ∙ append_assoc old begins.text line;
 }
 
--- no other status is Done
-pub done_status : (s : Status) → verdict s ≡ Done → s ≡ code.Done
-done_status code.Done e = refl
-done_status (code.BadWords at) e = absurd (let f : BadWords at ≡ Done = e in cc)
-done_status (code.UnbuiltForm path) e = absurd (let f : UnbuiltForm path ≡ Done = e in cc)
-done_status (code.UnbuiltTalk processor) e = absurd (let f : UnbuiltTalk processor ≡ Done = e in cc)
-done_status (code.ChildFault processor) e = absurd (let f : ChildFault processor ≡ Done = e in cc)
-done_status code.TreeFault e = absurd cc
-done_status code.SinkFault e = absurd cc
-done_status code.Memory e = absurd cc
+-- the status of a build that ended with a report
+abbrev pub IsReported : Status → Type 0
+IsReported status = (status ≡ code.Done) ⊎ ((count : ℕ) × (status ≡ code.Errors count))
+
+pub reported_status : (s : Status) → is_finished (verdict s) ≡ true → IsReported s
+reported_status code.Done e = inl refl
+reported_status (code.Errors count) e = inr (count, refl)
+reported_status (code.BadWords at) e = absurd cc
+reported_status (code.UnbuiltForm path) e = absurd cc
+reported_status (code.UnbuiltTalk processor) e = absurd cc
+reported_status (code.TooManyQuestions processor most) e = absurd cc
+reported_status (code.GeneratedDuplicate name) e = absurd cc
+reported_status code.TooManyRounds e = absurd cc
+reported_status (code.ChildFault processor) e = absurd cc
+reported_status code.TreeFault e = absurd cc
+reported_status code.SinkFault e = absurd cc
+reported_status code.Memory e = absurd cc
 
 -- an outcome's own report
 report_text : Outcome → List ℕ
-report_text (outcome.Built files started) = report_of started (map (λ file. (file.0, length file.1)) (fin.entries files))
+report_text (outcome.Built files summary) = report_of summary (map (λ file. (file.0, length file.1)) (fin.entries files))
+report_text (outcome.Errors summary) = errors_report summary
 report_text (outcome.UnbuiltForm path) = []
 report_text (outcome.UnbuiltTalk processor) = []
+report_text (outcome.TooManyQuestions processor most) = []
+report_text (outcome.GeneratedDuplicate name) = []
+report_text outcome.TooManyRounds = []
 
 own_report : (o : Outcome) → Reports o (report_text o)
 unfolding report_text
-own_report (outcome.Built files started) = refl
+own_report (outcome.Built files summary) = refl
+own_report (outcome.Errors summary) = refl
 own_report (outcome.UnbuiltForm path) = tt
 own_report (outcome.UnbuiltTalk processor) = tt
+own_report (outcome.TooManyQuestions processor most) = tt
+own_report (outcome.GeneratedDuplicate name) = tt
+own_report outcome.TooManyRounds = tt
 
 text_of : Request → Says → Files → List ℕ
 text_of (Build processor) says project = report_text (clean says processor project)
@@ -119,7 +154,7 @@ own_text (Build processor) says project = own_report (clean says processor proje
 own_text (Bad at) says project = tt
 
 -- nothing was written yet
-pub begins_with_nothing : (tells says_tells : Bool) (request : Request) (says : Says) (project : Files) (v : Verdict) (old : List ℕ) → v ≢ Done → Begins tells says_tells request says project v old old
+pub begins_with_nothing : (tells says_tells : Bool) (request : Request) (says : Says) (project : Files) (v : Verdict) (old : List ℕ) → is_finished v ≡ false → Begins tells says_tells request says project v old old
 begins_with_nothing tells says_tells request says project v old ne = record {
   report = text_of request says project;
   is_report = λ _ _. own_text request says project;

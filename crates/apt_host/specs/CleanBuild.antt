@@ -1,28 +1,76 @@
 -- What a build over a project gives, from nothing: the rounds run anew, whatever an earlier build left.
-use Rattle.std.specs.Prelude.{ℕ, List, Option, None, Some, Result, Ok, Err}
+use Rattle.std.specs.Prelude.{ℕ, ◌+◌, List, [], ◌∷◌, length, Bool, true, false, Option, None, Some, Result, Ok, Err, if◌then◌else◌, ◌==◌}
 use Rattle.std.specs.FinMap as fin
 use Rattle.apt_outside.specs.Files.{Files}
 use Rattle.apt_outside.specs.Child.{Says, Try}
-use Rattle.child_session.specs.Round.{Act, Answered, Broken}
-use Rattle.round_engine.specs.Run.{Units, run_of}
+use Rattle.round_engine.specs.declared.messages.Placed.{Placed}
+use Rattle.round_engine.specs.Units.{Units}
+use Rattle.round_engine.specs.Run.{Run, Finished, Refused, Fault, files_among, run_of}
+use Rattle.round_engine.specs.Run as run
+use Rattle.round_engine.specs.Clean.{is_error, is_warning, count_of}
 use Rattle.apt_host.specs.Project.{units_of}
+
+-- what a report says of a run, beside its files
+pub record Summary : Type 0 where
+  -- how many children were started
+  pub started : ℕ
+  -- how many rounds there were, the last included
+  pub rounds : ℕ
+  -- the name of the processor, and what it printed
+  pub processor : List ℕ
+  pub messages : List Placed
+  -- the names of the sources that were created in the last round
+  pub unread : List (List ℕ)
+  -- how many errors and warnings there were
+  pub errors : ℕ
+  pub warnings : ℕ
 
 pub data Outcome : Type 0 where
   -- a source is none that can be read so far
   UnbuiltForm : (path : List ℕ) → Outcome
   -- a child's bytes are none that can be read so far
   UnbuiltTalk : (processor : List ℕ) → Outcome
-  -- the files to publish, and how many children were started
-  Built : (files : Files) (started : ℕ) → Outcome
+  -- a child asked once more than so often in a round
+  TooManyQuestions : (processor : List ℕ) (most : ℕ) → Outcome
+  -- a created source gives a type that is there
+  GeneratedDuplicate : (name : List ℕ) → Outcome
+  TooManyRounds : Outcome
+  -- an ERROR was printed, and nothing is published
+  Errors : (summary : Summary) → Outcome
+  -- the files to publish
+  Built : (files : Files) (summary : Summary) → Outcome
 
-abbrev pub outcome_of_act : List ℕ → Act → Outcome
-outcome_of_act processor (Answered sent files) = Built files 1
-outcome_of_act processor (Broken sent) = UnbuiltTalk processor
+-- a source that is not read gives a warning too
+abbrev pub summary : ℕ → ℕ → List ℕ → List Placed → List (List ℕ) → Summary
+summary started rounds processor messages unread = record {
+  started = started;
+  rounds = rounds;
+  processor = processor;
+  messages = messages;
+  unread = unread;
+  errors = count_of is_error messages;
+  warnings = count_of is_warning messages + length unread;
+}
+
+-- a run without an ERROR is published
+abbrev pub finished : Summary → Files → Outcome
+finished s files = if s.errors == 0 then Built files s else Errors s
+
+abbrev pub outcome_of_fault : List ℕ → Fault → Outcome
+outcome_of_fault processor run.UnbuiltTalk = UnbuiltTalk processor
+outcome_of_fault processor (run.TooManyQuestions most) = TooManyQuestions processor most
+outcome_of_fault processor (run.UnbuiltForm path) = UnbuiltForm path
+outcome_of_fault processor (run.GeneratedDuplicate name) = GeneratedDuplicate name
+outcome_of_fault processor run.TooManyRounds = TooManyRounds
+
+abbrev pub outcome_of_run : ℕ → List ℕ → Run → Outcome
+outcome_of_run started processor (Finished sent rounds made messages unread) = finished (summary started rounds processor messages unread) (files_among made)
+outcome_of_run started processor (Refused sent fault) = outcome_of_fault processor fault
 
 abbrev pub outcome_of : Says → Option Try → Result Units (List ℕ) → Outcome
 outcome_of says processor (Err path) = UnbuiltForm path
-outcome_of says None (Ok units) = Built fin.empty 0
-outcome_of says (Some processor) (Ok units) = outcome_of_act processor.0 (run_of says processor units)
+outcome_of says None (Ok units) = outcome_of_run 0 [] (Finished [] 2 [] [] [])
+outcome_of says (Some processor) (Ok units) = outcome_of_run 1 processor.0 (run_of says processor units)
 
 abbrev pub clean : Says → Option Try → Files → Outcome
 clean says processor project = outcome_of says processor (units_of project)

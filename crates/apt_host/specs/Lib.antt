@@ -6,6 +6,6 @@ pub mod Report
 pub mod Verdicts
 pub mod Refusals
 pub mod Entering
-pub mod Making
 pub mod Listed
+pub mod Making
 pub mod Promises

@@ -1,12 +1,13 @@
 -- What the report and the store have of a file that was made.
-use Rattle.std.specs.Prelude.{◌≡◌, ◌<◌, ◌^◌, ℕ, List, [], length, map, All}
+use Rattle.std.specs.Prelude.{◌≡◌, ℕ, List, length, map, All}
 use Rattle.std.specs.FinMap as fin
 use Rattle.apt_outside.specs.Files.{Files}
 use Rattle.tree_store.specs.declared.record.StoredFile.{StoredFile}
 use Rattle.tree_store.specs.RecordFormat.{record_form, IsEntry}
 use Rattle.tree_store.specs.Output.{record_path}
 use Rattle.tree_store.specs.Storing.{Numbered, AreWritten, AddsToStore}
-use Rattle.round_engine.specs.Numbering.{AreLeast}
+use Rattle.apt_host.specs.declared.report.Summary as code
+use Rattle.apt_host.specs.CleanBuild.{Summary}
 use Rattle.apt_host.specs.Report.{report_of}
 use Rattle.round_engine.specs.declared.numbering.Made.{Made}
 
@@ -26,16 +27,24 @@ numbered_of made = (made.store, made.bytes)
 abbrev pub file_of : Made → List ℕ × List ℕ
 file_of made = (made.path, made.bytes)
 
--- What is to be written for these files, beside the store's taken numbers: the store's new files, the record's bytes and the report.
-pub record Spells (taken : List ℕ) (files : Files) (started : ℕ) (stored : Numbered) (bytes text : List ℕ) : Type 0 where
-  pub made : List Made
-  pub are : map file_of made ≡ fin.entries files
-  pub numbers : AreLeast taken [] (map (λ file. file.store) made)
+-- what a report says of a finished run
+abbrev pub summary_of : List ℕ → code.Summary → Summary
+summary_of processor summary = record {
+  started = summary.started;
+  rounds = summary.rounds;
+  processor = processor;
+  messages = summary.messages;
+  unread = summary.unread;
+  errors = summary.errors;
+  warnings = summary.warnings;
+}
+
+-- what is to be written for these files: the store's new files, the record's bytes and the report
+pub record Spells (summary : Summary) (made : List Made) (stored : Numbered) (bytes text : List ℕ) : Type 0 where
   pub stored_is : stored ≡ map numbered_of made
   pub bytes_are : bytes ≡ record_form (map entry_of made)
-  pub count : length made < 2 ^ 32
   pub fit : All IsEntry (map entry_of made)
-  pub text_is : text ≡ report_of started (map listed (map entry_of made))
+  pub text_is : text ≡ report_of summary (map listed (map entry_of made))
 
 -- the store gained the files, and then the record was put in place
 pub record Places (stored : Numbered) (bytes : List ℕ) (old new : Files) : Type 0 where

@@ -6,7 +6,7 @@ use Rattle.source_form.specs.declared.form.SourceForm.{SourceForm}
 use Rattle.source_form.specs.Form.{form_of, canonical}
 use Rattle.tree_store.specs.declared.sources.RawSource.{RawSource}
 use Rattle.tree_store.specs.Sources.{sources_of}
-use Rattle.round_engine.specs.Run.{Units}
+use Rattle.round_engine.specs.Units.{Units}
 
 -- a source has at most so many bytes, and a project so many sources
 abbrev pub max_source : ℕ

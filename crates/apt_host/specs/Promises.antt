@@ -9,14 +9,16 @@ use Rattle.tree_store.specs.RecordFormat.{record_form}
 use Rattle.tree_store.specs.Output.{output_of, record_path, StoresStand}
 use Rattle.tree_store.specs.Storing.{AreTaken}
 use Rattle.round_engine.specs.Numbering.{AreLeast}
-use Rattle.child_session.specs.Round.{Act, Answered, Broken}
-use Rattle.round_engine.specs.Run.{Units, run_of, IsShown}
+use Rattle.round_engine.specs.Units.{Units}
+use Rattle.round_engine.specs.Run.{run_of}
+use Rattle.round_engine.specs.Shown.{IsShown}
+use Rattle.round_engine.specs.Clean.{frames_of}
 use Rattle.apt_host.specs.Words.{Request, Build, Bad}
 use Rattle.apt_host.specs.Project.{units_of}
 use Rattle.apt_host.specs.CleanBuild.{Outcome, clean}
 use Rattle.apt_host.specs.CleanBuild as outcome
-use Rattle.apt_host.specs.Report.{report_of}
-use Rattle.apt_host.specs.Verdicts.{Verdict, Done, BadWords, UnbuiltForm, UnbuiltTalk, TreeFault, SinkFault, ChildFault, Memory, OrFree, verdict_of, refusal_of}
+use Rattle.apt_host.specs.Report.{report_of, errors_report}
+use Rattle.apt_host.specs.Verdicts.{Verdict, Done, Errors, BadWords, UnbuiltForm, UnbuiltTalk, TooManyQuestions, GeneratedDuplicate, TooManyRounds, TreeFault, SinkFault, ChildFault, Memory, OrFree, is_finished, verdict_of, refusal_of}
 
 -- ---- the answer
 
@@ -32,9 +34,13 @@ ChildrenRose TreeFault before now = Unit {0}
 ChildrenRose SinkFault before now = Unit {0}
 ChildrenRose Memory before now = Unit {0}
 ChildrenRose Done before now = Unit {0}
+ChildrenRose (Errors count) before now = Unit {0}
 ChildrenRose (BadWords at) before now = Unit {0}
 ChildrenRose (UnbuiltForm path) before now = Unit {0}
 ChildrenRose (UnbuiltTalk processor) before now = Unit {0}
+ChildrenRose (TooManyQuestions processor most) before now = Unit {0}
+ChildrenRose (GeneratedDuplicate name) before now = Unit {0}
+ChildrenRose TooManyRounds before now = Unit {0}
 
 -- ---- what is published
 
@@ -49,9 +55,13 @@ pub record Publishes (files old new : Files) : Type 0 where
   pub numbers : AreLeast taken [] (map (λ entry. entry.store) entries)
 
 abbrev pub PublishesOutcome : Outcome → Files → Files → Type 0
-PublishesOutcome (outcome.Built files started) old new = Publishes files old new
+PublishesOutcome (outcome.Built files summary) old new = Publishes files old new
+PublishesOutcome (outcome.Errors summary) old new = ⊥
 PublishesOutcome (outcome.UnbuiltForm path) old new = ⊥
 PublishesOutcome (outcome.UnbuiltTalk processor) old new = ⊥
+PublishesOutcome (outcome.TooManyQuestions processor most) old new = ⊥
+PublishesOutcome (outcome.GeneratedDuplicate name) old new = ⊥
+PublishesOutcome outcome.TooManyRounds old new = ⊥
 
 -- a finished build published what the clean build gives
 abbrev pub PublishesClean : Request → Says → Files → Files → Verdict → Type 0
@@ -72,9 +82,13 @@ KeepsStores old new v = v ≢ Done → StoresStand old → StoresStand new
 -- front of it where the sink failed or memory was wanted
 abbrev pub IsFront : List ℕ → Verdict → List ℕ → Type 0
 IsFront report Done text = text ≡ report
+IsFront report (Errors count) text = text ≡ report
 IsFront report (BadWords at) text = text ≡ []
 IsFront report (UnbuiltForm path) text = text ≡ []
 IsFront report (UnbuiltTalk processor) text = text ≡ []
+IsFront report (TooManyQuestions processor most) text = text ≡ []
+IsFront report (GeneratedDuplicate name) text = text ≡ []
+IsFront report TooManyRounds text = text ≡ []
 IsFront report (ChildFault processor) text = text ≡ []
 IsFront report TreeFault text = (text ≡ []) ⊎ (text ≡ report)
 IsFront report SinkFault text = (n : ℕ) × (text ≡ take n report)
@@ -86,9 +100,13 @@ IsLine v rose line = (line ≡ refusal_of v) ⊎ ((rose ⊎ (v ≡ Memory)) × (
 
 -- what a report is, where its outcome has one
 abbrev pub Reports : Outcome → List ℕ → Type 0
-Reports (outcome.Built files started) report = report ≡ report_of started (map (λ file. (file.0, length file.1)) (fin.entries files))
+Reports (outcome.Built files summary) report = report ≡ report_of summary (map (λ file. (file.0, length file.1)) (fin.entries files))
+Reports (outcome.Errors summary) report = report ≡ errors_report summary
 Reports (outcome.UnbuiltForm path) report = Unit {0}
 Reports (outcome.UnbuiltTalk processor) report = Unit {0}
+Reports (outcome.TooManyQuestions processor most) report = Unit {0}
+Reports (outcome.GeneratedDuplicate name) report = Unit {0}
+Reports outcome.TooManyRounds report = Unit {0}
 
 -- what a request reports over a project
 abbrev pub ReportsOf : Request → Says → Files → List ℕ → Type 0
@@ -124,7 +142,7 @@ AddsLine v rose old new = (line : List ℕ) × IsLine v rose line × (new ≡ ol
 -- the refusal stays, but where its line wants memory
 pub record Finishes (before after : Verdict) : Type 0 where
   pub same : after ≢ Memory → after ≡ before
-  pub done : before ≡ Done → after ≡ Done
+  pub done : is_finished before ≡ true → after ≡ before
   pub refused : before ≢ Done → after ≢ Done
 
 -- ---- what children are started and shown
@@ -136,7 +154,7 @@ started_of (Build (Some processor)) = 1
 started_of (Bad at) = 0
 
 pub record Starts (request : Request) (v : Verdict) (before now : ℕ) : Type 0 where
-  pub finished : v ≡ Done → now ≡ before + started_of request
+  pub finished : is_finished v ≡ true → now ≡ before + started_of request
   pub most : now ≤ before + started_of request
 
 -- no start but that of the processor that the words name was tried
@@ -145,17 +163,16 @@ Tries (Build (Some processor)) old new = (new ≡ old) ⊎ (new ≡ old ++ proce
 Tries (Build None) old new = new ≡ old
 Tries (Bad at) old new = new ≡ old
 
--- the frames that a run sent
-abbrev pub frames_of : Act → List (List ℕ)
-frames_of (Answered sent files) = sent
-frames_of (Broken sent) = sent
-
 -- the answers that a run comes to
 abbrev pub is_run : Verdict → Bool
 is_run Done = true
+is_run (Errors count) = true
 is_run (UnbuiltTalk processor) = true
+is_run (TooManyQuestions processor most) = true
+is_run (GeneratedDuplicate name) = true
+is_run TooManyRounds = true
+is_run (UnbuiltForm path) = true
 is_run (BadWords at) = false
-is_run (UnbuiltForm path) = false
 is_run TreeFault = false
 is_run SinkFault = false
 is_run (ChildFault processor) = false

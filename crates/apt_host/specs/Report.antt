@@ -1,22 +1,56 @@
--- What a build writes.
-use Rattle.std.specs.Prelude.{ℕ, List, [], ◌∷◌, ◌++◌, length, codes, decimal}
+-- What a build writes: the mode line, the messages, the closing lines, the files and the end line.
+use Rattle.std.specs.Prelude.{ℕ, ◌==◌, List, [], ◌∷◌, ◌++◌, length, codes, decimal, if◌then◌else◌}
 use Rattle.std.specs.List.{flat_map}
+use Rattle.round_engine.specs.declared.messages.Placed.{Placed}
+use Rattle.apt_host.specs.CleanBuild.{Summary}
 
 -- every build is clean so far, as if it had been asked to be
 abbrev pub mode_line : ℕ → List ℕ
 mode_line started = codes "mode: clean (Full), started " ++ (decimal started ++ codes "\n")
 
+-- ---- messages
+
+abbrev pub kind_text : ℕ → List ℕ
+kind_text kind =
+    if kind == 0 then codes "error" else (if kind == 1 then codes "warning" else (if kind == 2 then codes "mandatory_warning" else (if kind == 3 then codes "note" else codes "other")))
+
+-- a backslash (92), a line feed (10) and a carriage return (13) are printed as two characters
+abbrev pub escaped_byte : ℕ → List ℕ
+escaped_byte b = if b == 92 then 92 ∷ 92 ∷ [] else (if b == 10 then 92 ∷ 110 ∷ [] else (if b == 13 then 92 ∷ 114 ∷ [] else b ∷ []))
+
+abbrev pub escaped : List ℕ → List ℕ
+escaped text = flat_map escaped_byte text
+
+-- so far no message has an element
+abbrev pub message_line : List ℕ → Placed → List ℕ
+message_line processor placed = kind_text placed.message.kind ++ (codes ": [" ++ (processor ++ (codes "] " ++ (escaped placed.message.text ++ codes "\n"))))
+
+-- ---- closing lines, files and the end
+
+unfoldable pub unread_line : List ℕ → List ℕ
+unread_line name = codes "warning: [host] type " ++ (name ++ codes " was created in the last round and is not processed\n")
+
 -- a file by its path, with its length in bytes
 abbrev pub file_line : List ℕ × ℕ → List ℕ
 file_line file = codes "file " ++ (file.0 ++ (codes " " ++ (decimal file.1 ++ codes "\n")))
 
--- there are two rounds so far, the last included, and no messages
-abbrev pub done_line : ℕ → List ℕ
-done_line count = codes "done: 2 rounds, " ++ (decimal count ++ codes " files, 0 errors, 0 warnings\n")
+abbrev pub counts : Summary → List ℕ
+counts summary = decimal summary.errors ++ (codes " errors, " ++ (decimal summary.warnings ++ codes " warnings\n"))
 
--- the lines after the first, for the paths and lengths of the files, ascending by path
-abbrev pub body_of : List (List ℕ × ℕ) → List ℕ
-body_of files = flat_map file_line files ++ done_line (length files)
+abbrev pub done_line : Summary → ℕ → List ℕ
+done_line summary files = codes "done: " ++ (decimal summary.rounds ++ (codes " rounds, " ++ (decimal files ++ (codes " files, " ++ counts summary))))
 
-abbrev pub report_of : ℕ → List (List ℕ × ℕ) → List ℕ
-report_of started files = mode_line started ++ body_of files
+abbrev pub errors_line : Summary → List ℕ
+errors_line summary = codes "errors: " ++ (decimal summary.rounds ++ (codes " rounds, " ++ counts summary))
+
+-- what stands in each report after the first line, before the files
+abbrev pub told_lines : Summary → List ℕ
+told_lines summary = flat_map (message_line summary.processor) summary.messages ++ flat_map unread_line summary.unread
+
+-- the report of a build that is published, for the paths and lengths of its files, ascending by path
+abbrev pub report_of : Summary → List (List ℕ × ℕ) → List ℕ
+report_of summary files = mode_line summary.started ++ (told_lines summary ++ (flat_map file_line files ++ done_line summary (length files)))
+
+-- the report of a build in which an ERROR was printed
+abbrev pub errors_report : Summary → List ℕ
+errors_report summary = mode_line summary.started ++ (told_lines summary ++ errors_line summary)

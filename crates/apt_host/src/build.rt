@@ -1,113 +1,197 @@
 // One build.
-ghost use Rattle.std.specs.Prelude.{◌≡◌, ◌≢◌, ◌≤◌, Option, option_map};
-ghost use Rattle.std.specs.FinMap as fin;
+ghost use Rattle.std.specs.Prelude.{◌≡◌, ◌≢◌, ◌≤◌, ◌<◌, ◌^◌, All, IfOk, length, map, option_map, true};
+ghost use Rattle.std.specs.List.Sorted.{IsStrictlyIncreasing};
 ghost use Rattle.apt_outside.specs.Count.{Rose, Told};
 ghost use Rattle.apt_outside.specs.Held.{files_of};
-ghost use Rattle.apt_outside.specs.Child.{Try};
+ghost use Rattle.round_engine.specs.Clean.{try_of, AreNumbered};
 ghost use Rattle.tree_store.specs.Output.{StoresStand, SameOutside};
+ghost use Rattle.decl_syntax.specs.Fields.{is_text};
+ghost use Rattle.tree_store.specs.RecordFormat.{record_form};
+ghost use Rattle.tree_store.specs.Storing.{AreDistinct, AreAbsent};
 ghost use Rattle.apt_host.specs.Words.{Build};
-ghost use Rattle.apt_host.specs.Shown.{shown_processor, shown_request};
-ghost use Rattle.apt_host.specs.Verdicts.{Done, TreeFault, SinkFault, Memory, OrFree};
-ghost use Rattle.apt_host.specs.Refusals.{ended, refused, session_verdict};
-ghost use Rattle.apt_host.specs.Making.{Makes, IsRunVerdict};
-ghost use Rattle.apt_host.specs.Promises.{answer_of, started_of, ChildrenRose, PublishesClean, KeepsOutput, Begins, Starts, Tries, ShowsRun};
+ghost use Rattle.apt_host.specs.Shown.{shown_processor};
+ghost use Rattle.apt_host.specs.Verdicts.{Done, TreeFault, SinkFault, OrFree};
+ghost use Rattle.apt_host.specs.Refusals.{ended, closed};
+ghost use Rattle.apt_host.specs.Making.{Makes, tries_of, name_of, concluded, concluding_report};
+ghost use Rattle.apt_host.specs.Entering.{IsConcluded};
+ghost use Rattle.apt_host.specs.Listed.{entry_of, numbered_of, Places};
+ghost use Rattle.apt_host.specs.Promises.{answer_of, ChildrenRose, PublishesClean, KeepsOutput, KeepsStores, AddsFront, Begins, Starts, Tries, ShowsRun};
 
 use crate::project::read_units;
-use crate::publish::{publish, spell};
+use crate::publish::{publish, spell, tell_errors};
 use crate::refusal::Refusal;
+use crate::report::Summary;
 use crate::words::Processor;
 use apt_outside::{Children, Sink, Tree};
-use child_session::SessionFault;
-use decl_syntax::Name;
-use round_engine::run_processor;
+use decl_syntax::{Kind, List, Name, NoMemory};
+use round_engine::{Finished, Key, KeyProcessor, Project, clean};
 use std::alloc::Global;
 use std::collections::BTreeMap;
 use tree_store::taken_numbers;
 
-// The refusal of a session of a processor.
-fn of_session(alloc: Global, name: &str, fault: SessionFault) -> Refusal
-    ensures { IsRunVerdict name.now fault (refused result) }
+const LEVEL: u16 = 11;
+
+/// How a build ends that was not refused.
+#[derive(Clone, Copy, Debug, PartialEq, Eq)]
+pub enum Ending {
+    /// It is published.
+    Published,
+    /// So many errors were printed, and nothing is published.
+    Errors {
+        /// How many.
+        count: u64,
+    },
+}
+
+// A processor of the words: nothing is known of its version and of what it promises.
+fn key_processor(alloc: Global, processor: &Processor<'_>) -> Result<KeyProcessor, NoMemory>
+    ensures { IfOk result (λ key. try_of key ≡ shown_processor processor.now) }
 {
-    let Ok(processor) = Name::new(alloc, name) else {
-        return Refusal::Memory;
-    };
-    match fault {
-        SessionFault::Failed => Refusal::ChildFault { processor },
-        SessionFault::Unbuilt => Refusal::UnbuiltTalk { processor },
-        SessionFault::Memory => Refusal::Memory,
+    let mut command = List::new(alloc);
+    for word in processor.command {
+        command.push(Name::new(alloc, word.as_str())?)?;
+    }
+    Ok(KeyProcessor {
+        name: Name::new(alloc, processor.name)?,
+        command,
+        version: Name::new(alloc, "")?,
+        kind: Kind::Undeclared,
+    })
+}
+
+fn key_of(alloc: Global, processor: &Option<Processor<'_>>) -> Result<Key, NoMemory>
+    ensures { IfOk result (λ key. map try_of key.processors ≡ tries_of (option_map shown_processor processor.now)) }
+{
+    let mut processors = List::new(alloc);
+    if let Some(processor) = processor {
+        processors.push(key_processor(alloc, processor)?)?;
+    }
+    Ok(Key {
+        level: LEVEL,
+        options: List::new(alloc),
+        processors,
+        stubs: List::new(alloc),
+    })
+}
+
+fn name_of<'a>(processor: &Option<Processor<'a>>) -> &'a str
+    ensures { result.now ≡ name_of (option_map shown_processor processor.now) }
+{
+    match processor {
+        None => "",
+        Some(processor) => processor.name,
     }
 }
 
-/// Runs the processor, if there is one, over the units, and gives the files that it made.
+/// Runs the rounds over the units, and gives what they came to.
 fn make<C: Children>(
     alloc: Global,
-    processor: Option<Processor<'_>>,
-    units: &BTreeMap<String, Vec<u8>>,
+    processor: &Option<Processor<'_>>,
+    units: BTreeMap<String, Vec<u8>>,
+    taken: &List<u32>,
     children: &mut C,
-) -> Result<BTreeMap<String, Vec<u8>>, Refusal>
+) -> Result<Finished, Refusal>
+    requires { IsStrictlyIncreasing taken.now }
     ensures no_tree { ended result ≢ TreeFault }
     ensures no_sink { ended result ≢ SinkFault }
     ensures child_fault { ChildrenRose (ended result) (C.faults children.old) (C.faults children.new) }
     ensures later { C.faults children.old ≤ C.faults children.new }
     ensures live { C.live children.new ≡ C.live children.old }
-    ensures starts { Starts (Build (option_map shown_processor processor.entry)) (ended result) (C.starts children.old) (C.starts children.new) }
+    ensures starts { Starts (Build (option_map shown_processor processor.now)) (ended result) (C.starts children.old) (C.starts children.new) }
     ensures says { Told C.tells (C.says children.new ≡ C.says children.old) }
-    ensures tried { Told C.tells (Tries (Build (option_map shown_processor processor.entry)) (C.tried children.old) (C.tried children.new)) }
-    ensures made { Told C.tells (Makes (C.says children.old) (option_map shown_processor processor.entry) (files_of units.now) (C.known children.new) result) }
+    ensures tried { Told C.tells (Tries (Build (option_map shown_processor processor.now)) (C.tried children.old) (C.tried children.new)) }
+    ensures numbered { IfOk result (λ finished. AreNumbered taken.now finished.files) }
+    ensures made { Told C.tells (Makes (C.says children.old) (option_map shown_processor processor.now) (files_of units) (C.known children.new) result) }
 {
-    let Some(Processor { name, command }) = processor else {
-        return Ok(BTreeMap::new(alloc));
+    let project = Project {
+        key: key_of(alloc, processor)?,
+        initial: units,
     };
-    let name_copy = match Name::new(alloc, name) {
-        Ok(name_copy) => name_copy,
-        Err(_) => return Err(Refusal::Memory),
-    };
-    match run_processor(alloc, children, &name_copy, command, units) {
-        Ok(made) => Ok(made),
-        Err(fault) => Err(of_session(alloc, name, fault)),
+    match clean(alloc, &project, taken.as_slice(), children) {
+        Ok(finished) => Ok(finished),
+        Err(refusal) => Err(Refusal::from(refusal)),
     }
 }
 
-// How many children a build starts that finishes.
-fn started_by(processor: &Option<Processor<'_>>) -> u32
-    ensures { result ≡ started_of (Build (option_map shown_processor processor.now)) }
+/// Publishes what a run came to, or tells its errors.
+fn conclude<T: Tree, W: Sink>(
+    alloc: Global,
+    processor: &str,
+    finished: Finished,
+    tree: &mut T,
+    output: &mut W,
+) -> Result<Ending, Refusal>
+    requires count { length finished.files < 2 ^ 32 }
+    requires sizes { All (λ file. (file.store < 2 ^ 32) × (length file.path < 2 ^ 32) × (length file.bytes < 2 ^ 32)) finished.files }
+    requires texts { All (λ file. is_text file.path ≡ true) finished.files }
+    requires distinct { AreDistinct (map numbered_of finished.files) }
+    requires absent { Told T.tells (AreAbsent (T.files tree.old) (map numbered_of finished.files)) }
+    ensures tree_fault { closed result ≡ TreeFault → Rose (T.faults tree.old) (T.faults tree.new) }
+    ensures sink_fault { closed result ≡ SinkFault → Rose (W.faults output.old) (W.faults output.new) }
+    ensures no_child { IsConcluded (closed result) }
+    ensures later { T.faults tree.old ≤ T.faults tree.new }
+    ensures later_sink { W.faults output.old ≤ W.faults output.new }
+    ensures answer { OrFree (concluded finished) (closed result) }
+    ensures placed { Told T.tells (closed result ≡ Done → Places (map numbered_of finished.files) (record_form (map entry_of finished.files)) (T.files tree.old) (T.files tree.new)) }
+    ensures kept { Told T.tells (KeepsOutput (T.files tree.old) (T.files tree.new) (closed result)) }
+    ensures stand { Told T.tells (KeepsStores (T.files tree.old) (T.files tree.new) (closed result)) }
+    ensures outside { Told T.tells (SameOutside (T.files tree.old) (T.files tree.new)) }
+    ensures written { Told W.tells (AddsFront (concluding_report processor.now finished) (closed result) (W.written output.old) (W.written output.new)) }
 {
-    match processor {
-        None => 0,
-        Some(_) => 1,
+    let Finished {
+        errors,
+        warnings,
+        rounds,
+        started,
+        files,
+        messages,
+        unread,
+    } = finished;
+    let summary = Summary {
+        started,
+        rounds,
+        errors,
+        warnings,
+        messages,
+        unread,
+    };
+    if errors > 0 {
+        tell_errors(alloc, processor, &summary, output)?;
+        return Ok(Ending::Errors { count: errors });
     }
+    let written = spell(alloc, processor, &summary, files)?;
+    publish(alloc, tree, &written, output)?;
+    Ok(Ending::Published)
 }
 
-/// One build: reads the project, lists the store, runs the processor, and publishes what it made.
+/// One build: reads the project, lists the store, runs the rounds, and publishes what they made or tells the errors.
 pub fn build<T: Tree, C: Children, W: Sink>(
     alloc: Global,
     processor: Option<Processor<'_>>,
     tree: &mut T,
     children: &mut C,
     output: &mut W,
-) -> Result<(), Refusal>
-    ensures tree_fault { ended result ≡ TreeFault → Rose (T.faults tree.old) (T.faults tree.new) }
-    ensures sink_fault { ended result ≡ SinkFault → Rose (W.faults output.old) (W.faults output.new) }
-    ensures child_fault { ChildrenRose (ended result) (C.faults children.old) (C.faults children.new) }
+) -> Result<Ending, Refusal>
+    ensures tree_fault { closed result ≡ TreeFault → Rose (T.faults tree.old) (T.faults tree.new) }
+    ensures sink_fault { closed result ≡ SinkFault → Rose (W.faults output.old) (W.faults output.new) }
+    ensures child_fault { ChildrenRose (closed result) (C.faults children.old) (C.faults children.new) }
     ensures later { T.faults tree.old ≤ T.faults tree.new }
     ensures later_children { C.faults children.old ≤ C.faults children.new }
     ensures later_sink { W.faults output.old ≤ W.faults output.new }
     ensures live { C.live children.new ≡ C.live children.old }
-    ensures starts { Starts (Build (option_map shown_processor processor.entry)) (ended result) (C.starts children.old) (C.starts children.new) }
+    ensures starts { Starts (Build (option_map shown_processor processor.entry)) (closed result) (C.starts children.old) (C.starts children.new) }
     ensures says { Told C.tells (C.says children.new ≡ C.says children.old) }
     ensures tried { Told C.tells (Tries (Build (option_map shown_processor processor.entry)) (C.tried children.old) (C.tried children.new)) }
-    ensures answer { Told T.tells (Told C.tells (OrFree (answer_of (Build (option_map shown_processor processor.entry)) (C.says children.old) (T.files tree.old)) (ended result))) }
-    ensures published { Told T.tells (Told C.tells (PublishesClean (Build (option_map shown_processor processor.entry)) (C.says children.old) (T.files tree.old) (T.files tree.new) (ended result))) }
-    ensures kept { Told T.tells (KeepsOutput (T.files tree.old) (T.files tree.new) (ended result)) }
+    ensures answer { Told T.tells (Told C.tells (OrFree (answer_of (Build (option_map shown_processor processor.entry)) (C.says children.old) (T.files tree.old)) (closed result))) }
+    ensures published { Told T.tells (Told C.tells (PublishesClean (Build (option_map shown_processor processor.entry)) (C.says children.old) (T.files tree.old) (T.files tree.new) (closed result))) }
+    ensures kept { Told T.tells (KeepsOutput (T.files tree.old) (T.files tree.new) (closed result)) }
     ensures stand { Told T.tells (StoresStand (T.files tree.old) → StoresStand (T.files tree.new)) }
     ensures outside { Told T.tells (SameOutside (T.files tree.old) (T.files tree.new)) }
-    ensures shown { Told T.tells (Told C.tells (ShowsRun (Build (option_map shown_processor processor.entry)) (C.says children.old) (T.files tree.old) (C.known children.new) (ended result))) }
-    ensures written { Told W.tells (Begins T.tells C.tells (Build (option_map shown_processor processor.entry)) (C.says children.old) (T.files tree.old) (ended result) (W.written output.old) (W.written output.new)) }
+    ensures shown { Told T.tells (Told C.tells (ShowsRun (Build (option_map shown_processor processor.entry)) (C.says children.old) (T.files tree.old) (C.known children.new) (closed result))) }
+    ensures written { Told W.tells (Begins T.tells C.tells (Build (option_map shown_processor processor.entry)) (C.says children.old) (T.files tree.old) (closed result) (W.written output.old) (W.written output.new)) }
 {
     let units = read_units(alloc, tree)?;
     let taken = taken_numbers(alloc, tree)?;
-    let made = make(alloc, processor, &units, children)?;
-    let started = started_by(&processor);
-    let written = spell(alloc, &taken, made, started)?;
-    publish(alloc, tree, &written, output)
+    let finished = make(alloc, &processor, units, &taken, children)?;
+    conclude(alloc, name_of(&processor), finished, tree, output)
 }

@@ -3,23 +3,24 @@ ghost use Rattle.std.specs.Prelude.{◌≡◌, ◌≢◌, ◌≤◌, map, string
 ghost use Rattle.apt_outside.specs.Count.{Rose, Told};
 ghost use Rattle.tree_store.specs.Output.{StoresStand, SameOutside};
 ghost use Rattle.apt_host.specs.Words.{request_of, cut_at};
-ghost use Rattle.apt_host.specs.Verdicts.{verdict, Done, BadWords, TreeFault, SinkFault, Memory, OrFree};
-ghost use Rattle.apt_host.specs.Refusals.{ended};
+ghost use Rattle.apt_host.specs.Verdicts.{verdict, Done, BadWords, TreeFault, SinkFault, Memory, OrFree, is_finished};
+ghost use Rattle.apt_host.specs.Refusals.{closed};
 ghost use Rattle.apt_host.specs.Promises.{answer_of, ChildrenRose, PublishesClean, KeepsOutput, Begins, Writes, Finishes, AddsLine, Starts, Tries, ShowsRun};
 
 use crate::Status;
-use crate::build::build;
+use crate::build::{Ending, build};
 use crate::refusal::Refusal;
 use crate::report::refusal;
 use crate::words::{Request, read_words};
 use apt_outside::{Children, Fault, Sink, Source, Tree};
 use std::alloc::Global;
 
-fn status_of(outcome: Result<(), Refusal>) -> Status
-    ensures { verdict result ≡ ended outcome }
+fn status_of(outcome: Result<Ending, Refusal>) -> Status
+    ensures { verdict result ≡ closed outcome }
 {
     match outcome {
-        Ok(()) => Status::Done,
+        Ok(Ending::Published) => Status::Done,
+        Ok(Ending::Errors { count }) => Status::Errors { count },
         Err(refusal) => refusal.into_status(),
     }
 }
@@ -56,14 +57,24 @@ fn work<T: Tree, C: Children, W: Sink>(
     }
 }
 
+// A build that ended with a report.
+fn is_reported(status: &Status) -> bool
+    ensures { result ≡ is_finished (verdict status.now) }
+{
+    match status {
+        Status::Done | Status::Errors { .. } => true,
+        _ => false,
+    }
+}
+
 /// Writes the line of a refusal.
 fn finish<W: Sink>(alloc: Global, status: Status, output: &mut W) -> Status
     ensures status { Finishes (verdict status) (verdict result) }
     ensures later { W.faults output.old ≤ W.faults output.new }
     ensures line { Told W.tells (AddsLine (verdict result) (Rose (W.faults output.old) (W.faults output.new)) (W.written output.old) (W.written output.new)) }
 {
-    if let Status::Done = &status {
-        return Status::Done;
+    if is_reported(&status) {
+        return status;
     }
     let Ok(line) = refusal(alloc, &status) else {
         return Status::Memory;
@@ -78,8 +89,9 @@ fn finish<W: Sink>(alloc: Global, status: Status, output: &mut W) -> Status
 ///
 /// The one command so far is `build`, alone or followed by a processor's name, a chain of identifiers, and at least one
 /// word of the command that starts it. A build reads the `.java` files below `src`, runs the processor over them in
-/// two rounds, the last included (JSR 269, `Processor` and `RoundEnvironment`), and publishes what it created and a
-/// report at once, or nothing. After any status but success a line says what was refused, and the former output stands.
+/// rounds (JSR 269, `Processor` and `RoundEnvironment`), and publishes what it created and a report at once, or nothing.
+/// Where the processor printed an error the report is written alone. After any other status but success a line says what
+/// was refused. After any status but success the former output stands.
 pub fn run<T: Tree, C: Children, R: Source, W: Sink>(
     alloc: Global,
     words: &[String],

@@ -1,25 +1,23 @@
 // Publishes what a run made.
-ghost use Rattle.std.specs.Prelude.{◌≡◌, ◌≤◌, ◌<◌, ◌^◌, All, IfOk, length, map, true, string_bytes};
-ghost use Rattle.std.specs.List.Sorted.{IsStrictlyIncreasing};
+ghost use Rattle.std.specs.Prelude.{◌≡◌, ◌≢◌, ◌≤◌, ◌<◌, ◌^◌, All, IfOk, length, map, true, string_bytes};
 ghost use Rattle.decl_syntax.specs.Fields.{is_text};
 ghost use Rattle.apt_outside.specs.Count.{Rose, Told};
-ghost use Rattle.apt_outside.specs.Held.{files_of};
 ghost use Rattle.tree_store.specs.RecordFormat.{IsEntry};
 ghost use Rattle.tree_store.specs.Output.{SameOutside};
 ghost use Rattle.tree_store.specs.Storing.{AreDistinct, AreAbsent};
 ghost use Rattle.apt_host.specs.Verdicts.{Done, TreeFault, SinkFault, OrFree};
 ghost use Rattle.apt_host.specs.Refusals.{refused, ended, sink_verdict};
 ghost use Rattle.apt_host.specs.Entering.{IsUntouched};
-ghost use Rattle.apt_host.specs.Listed.{entry_of, numbered_of, Spells, Places};
+ghost use Rattle.apt_host.specs.Report.{errors_report};
+ghost use Rattle.apt_host.specs.Listed.{entry_of, numbered_of, summary_of, Spells, Places};
 ghost use Rattle.apt_host.specs.Promises.{KeepsOutput, KeepsStores, AddsFront};
 
 use crate::refusal::Refusal;
-use crate::report::report;
+use crate::report::{Summary, errors_report, report};
 use apt_outside::{Fault, Sink, Tree};
 use decl_syntax::{List, Name, NoMemory};
-use round_engine::{Made, number_files};
+use round_engine::Made;
 use std::alloc::Global;
-use std::collections::BTreeMap;
 use tree_store::{StoredFile, commit, encode_record, put_files};
 
 /// What is to be written: the files of the store by their numbers, the record, and the report.
@@ -27,7 +25,7 @@ use tree_store::{StoredFile, commit, encode_record, put_files};
 pub struct Written {
     stored: List<(u32, List<u8>)>,
     record: List<u8>,
-    report: String,
+    report: Vec<u8>,
 }
 
 // The entries of the record, and the files of the store.
@@ -42,7 +40,7 @@ fn entry_of(path: Name, store: u32, bytes: &List<u8>) -> StoredFile
     requires path { length path < 2 ^ 32 }
     requires text { is_text path ≡ true }
     requires size { length bytes.now < 2 ^ 32 }
-    ensures entry { result ≡ entry_of (record { path = path; store = store; bytes = bytes.now }) }
+    ensures entry { result ≡ entry_of (record { path = path; store = store; written = true; bytes = bytes.now }) }
     ensures fits { IsEntry result }
 {
     StoredFile {
@@ -53,7 +51,7 @@ fn entry_of(path: Name, store: u32, bytes: &List<u8>) -> StoredFile
 }
 
 fn prepare(alloc: Global, made: List<Made>) -> Result<Prepared, NoMemory>
-    requires sizes { All (λ file. (length file.path < 2 ^ 32) × (length file.bytes < 2 ^ 32)) made }
+    requires sizes { All (λ file. (file.store < 2 ^ 32) × (length file.path < 2 ^ 32) × (length file.bytes < 2 ^ 32)) made }
     requires texts { All (λ file. is_text file.path ≡ true) made }
     ensures entries { IfOk result (λ prepared. prepared.entries ≡ map entry_of made) }
     ensures stored { IfOk result (λ prepared. prepared.stored ≡ map numbered_of made) }
@@ -62,7 +60,12 @@ fn prepare(alloc: Global, made: List<Made>) -> Result<Prepared, NoMemory>
     let mut entries = List::new(alloc);
     let mut stored = List::new(alloc);
     for file in made.into_vec() {
-        let Made { path, store, bytes } = file;
+        let Made {
+            path,
+            store,
+            bytes,
+            ..
+        } = file;
         entries.push(entry_of(path, store, &bytes))?;
         stored.push((store, bytes))?;
     }
@@ -72,16 +75,17 @@ fn prepare(alloc: Global, made: List<Made>) -> Result<Prepared, NoMemory>
 /// Spells all that a build writes: the files that it made, the record that names them, and the report.
 pub fn spell(
     alloc: Global,
-    taken: &List<u32>,
-    made: BTreeMap<String, Vec<u8>>,
-    started: u32,
+    processor: &str,
+    summary: &Summary,
+    made: List<Made>,
 ) -> Result<Written, NoMemory>
-    requires { IsStrictlyIncreasing taken.now }
-    ensures { IfOk result (λ written. Spells taken.now (files_of made) started written.stored written.record (string_bytes written.report)) }
+    requires count { length made < 2 ^ 32 }
+    requires sizes { All (λ file. (file.store < 2 ^ 32) × (length file.path < 2 ^ 32) × (length file.bytes < 2 ^ 32)) made }
+    requires texts { All (λ file. is_text file.path ≡ true) made }
+    ensures { IfOk result (λ written. Spells (summary_of processor.now summary.now) made written.stored written.record written.report.items) }
 {
-    let files = number_files(alloc, taken.as_slice(), made)?;
-    let prepared = prepare(alloc, files)?;
-    let report = report(alloc, started, prepared.entries.as_slice())?;
+    let prepared = prepare(alloc, made)?;
+    let report = report(alloc, processor, summary, prepared.entries.as_slice())?;
     let record = encode_record(alloc, &prepared.entries)?;
     Ok(Written {
         stored: prepared.stored,
@@ -96,6 +100,27 @@ fn of_sink(fault: Fault) -> Refusal
     match fault {
         Fault::Failed => Refusal::SinkFault,
         Fault::Memory => Refusal::Memory,
+    }
+}
+
+/// Writes the report of a build in which an error was printed.
+pub fn tell_errors<W: Sink>(
+    alloc: Global,
+    processor: &str,
+    summary: &Summary,
+    output: &mut W,
+) -> Result<(), Refusal>
+    ensures no_tree { ended result ≢ TreeFault }
+    ensures sink_fault { ended result ≡ SinkFault → Rose (W.faults output.old) (W.faults output.new) }
+    ensures no_child { IsUntouched (ended result) }
+    ensures later_sink { W.faults output.old ≤ W.faults output.new }
+    ensures free { OrFree Done (ended result) }
+    ensures written { Told W.tells (AddsFront (errors_report (summary_of processor.now summary.now)) (ended result) (W.written output.old) (W.written output.new)) }
+{
+    let report = errors_report(alloc, processor, summary)?;
+    match output.write_all(&report) {
+        Ok(()) => Ok(()),
+        Err(fault) => Err(of_sink(fault)),
     }
 }
 
@@ -118,10 +143,10 @@ pub fn publish<T: Tree, W: Sink>(
     ensures kept { Told T.tells (KeepsOutput (T.files tree.old) (T.files tree.new) (ended result)) }
     ensures stand { Told T.tells (KeepsStores (T.files tree.old) (T.files tree.new) (ended result)) }
     ensures outside { Told T.tells (SameOutside (T.files tree.old) (T.files tree.new)) }
-    ensures written { Told W.tells (AddsFront (string_bytes written.now.report) (ended result) (W.written output.old) (W.written output.new)) }
+    ensures written { Told W.tells (AddsFront (written.now.report.items) (ended result) (W.written output.old) (W.written output.new)) }
 {
     put_files(alloc, tree, &written.stored)?;
-    if let Err(fault) = output.write_all(written.report.as_bytes()) {
+    if let Err(fault) = output.write_all(&written.report) {
         return Err(of_sink(fault));
     }
     match commit(tree, &written.record) {

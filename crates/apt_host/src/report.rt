@@ -1,52 +1,193 @@
 // The texts of a call.
-ghost use Rattle.std.specs.Prelude.{◌≡◌, ◌++◌, IfOk, string_bytes, map};
+ghost use Rattle.std.specs.Prelude.{◌≡◌, ◌++◌, IfOk, OnOk, codes, string_bytes, map};
 ghost use Rattle.std.specs.List.{flat_map};
-ghost use Rattle.apt_host.specs.Report.{mode_line, file_line, done_line, report_of};
+ghost use Rattle.apt_host.specs.Report.{mode_line, kind_text, escaped, message_line, unread_line, told_lines, file_line, report_of, errors_report};
 ghost use Rattle.apt_host.specs.Verdicts.{verdict, refusal_of};
-ghost use Rattle.apt_host.specs.Listed.{listed};
+ghost use Rattle.apt_host.specs.Listed.{listed, summary_of};
 
 use crate::Status;
+use decl_syntax::{List, Name};
+use round_engine::Placed;
 use std::alloc::{AllocError, Global};
 use tree_store::StoredFile;
 
-fn file_line(alloc: Global, file: &StoredFile) -> Result<String, AllocError>
-    ensures { IfOk result (λ text. string_bytes text ≡ file_line (listed file.now)) }
+/// What a report says of a run, beside its processor's name and its files.
+#[derive(Debug, Drop)]
+pub struct Summary {
+    /// How many children were started.
+    pub started: u32,
+    /// How many rounds there were, the last included.
+    pub rounds: u32,
+    /// How many errors were printed.
+    pub errors: u64,
+    /// How many warnings were printed, those of the closing lines included.
+    pub warnings: u64,
+    /// The messages, in order.
+    pub messages: List<Placed>,
+    /// The names of the sources that were created in the last round, ascending.
+    pub unread: List<Name>,
+}
+
+// ---- messages
+
+fn kind_text(kind: u8) -> &'static str
+    ensures { result.now ≡ kind_text kind }
+{
+    match kind {
+        0 => "error",
+        1 => "warning",
+        2 => "mandatory_warning",
+        3 => "note",
+        _ => "other",
+    }
+}
+
+fn add_escaped(report: &mut Vec<u8>, text: &[u8]) -> Result<(), AllocError>
+    ensures { OnOk result (report.new.items ≡ report.old.items ++ escaped text.now) }
+{
+    for byte in text {
+        match *byte {
+            b'\\' => report.extend_from_slice(b"\\\\")?,
+            b'\n' => report.extend_from_slice(b"\\n")?,
+            b'\r' => report.extend_from_slice(b"\\r")?,
+            other => report.push(other)?,
+        }
+    }
+    Ok(())
+}
+
+fn add_message(
+    alloc: Global,
+    report: &mut Vec<u8>,
+    processor: &str,
+    placed: &Placed,
+) -> Result<(), AllocError>
+    ensures { OnOk result (report.new.items ≡ report.old.items ++ message_line processor.now placed.now) }
+{
+    let kind = kind_text(placed.message.kind);
+    let head = format!(in alloc; "{kind}: [{processor}] ")?;
+    report.extend_from_slice(head.as_bytes())?;
+    add_escaped(report, placed.message.text.as_str().as_bytes())?;
+    report.push(b'\n')?;
+    Ok(())
+}
+
+#[tactic(auto, unfolding(crate::specs::Report::unread_line))]
+fn add_unread(alloc: Global, report: &mut Vec<u8>, name: &Name) -> Result<(), AllocError>
+    ensures { OnOk result (report.new.items ≡ report.old.items ++ unread_line name.now) }
+{
+    let name = name.as_str();
+    let line = format!(in alloc;
+        "warning: [host] type {name} was created in the last round and is not processed\n"
+    )?;
+    report.extend_from_slice(line.as_bytes())?;
+    Ok(())
+}
+
+fn add_messages(
+    alloc: Global,
+    report: &mut Vec<u8>,
+    processor: &str,
+    messages: &[Placed],
+) -> Result<(), AllocError>
+    ensures { OnOk result (report.new.items ≡ report.old.items ++ flat_map (message_line processor.now) messages.now) }
+{
+    for placed in messages {
+        add_message(alloc, report, processor, placed)?;
+    }
+    Ok(())
+}
+
+fn add_closing_lines(alloc: Global, report: &mut Vec<u8>, unread: &[Name]) -> Result<(), AllocError>
+    ensures { OnOk result (report.new.items ≡ report.old.items ++ flat_map unread_line unread.now) }
+{
+    for name in unread {
+        add_unread(alloc, report, name)?;
+    }
+    Ok(())
+}
+
+/// The mode line, the messages and the closing lines.
+fn told_lines(alloc: Global, processor: &str, summary: &Summary) -> Result<Vec<u8>, AllocError>
+    ensures { IfOk result (λ text. text.items ≡ mode_line summary.now.started ++ told_lines (summary_of processor.now summary.now)) }
+{
+    let started = summary.started;
+    let mode = format!(in alloc; "mode: clean (Full), started {started}\n")?;
+    let mut report = mode.into_bytes();
+    add_messages(alloc, &mut report, processor, summary.messages.as_slice())?;
+    add_closing_lines(alloc, &mut report, summary.unread.as_slice())?;
+    Ok(report)
+}
+
+// ---- files and the end
+
+fn add_file(alloc: Global, report: &mut Vec<u8>, file: &StoredFile) -> Result<(), AllocError>
+    ensures { OnOk result (report.new.items ≡ report.old.items ++ file_line (listed file.now)) }
 {
     let path = file.path.as_str();
     let length = file.length;
-    format!(in alloc; "file {path} {length}\n")
+    let line = format!(in alloc; "file {path} {length}\n")?;
+    report.extend_from_slice(line.as_bytes())?;
+    Ok(())
 }
 
 /// The lines of the files, in order.
-fn file_lines(alloc: Global, files: &[StoredFile]) -> Result<String, AllocError>
-    ensures { IfOk result (λ text. string_bytes text ≡ flat_map file_line (map listed files.now)) }
+fn add_files(alloc: Global, report: &mut Vec<u8>, files: &[StoredFile]) -> Result<(), AllocError>
+    ensures { OnOk result (report.new.items ≡ report.old.items ++ flat_map file_line (map listed files.now)) }
 {
-    let mut lines = String::new(alloc);
     for file in files {
-        lines.push_str(file_line(alloc, file)?.as_str())?;
+        add_file(alloc, report, file)?;
     }
-    Ok(lines)
+    Ok(())
 }
 
-/// The report of a build that started so many children and publishes these files, ascending by path.
-pub fn report(alloc: Global, started: u32, files: &[StoredFile]) -> Result<String, AllocError>
-    ensures { IfOk result (λ text. string_bytes text ≡ report_of started (map listed files.now)) }
+/// The report of a build that publishes these files, ascending by path.
+pub fn report(
+    alloc: Global,
+    processor: &str,
+    summary: &Summary,
+    files: &[StoredFile],
+) -> Result<Vec<u8>, AllocError>
+    ensures { IfOk result (λ text. text.items ≡ report_of (summary_of processor.now summary.now) (map listed files.now)) }
 {
+    let mut report = told_lines(alloc, processor, summary)?;
+    add_files(alloc, &mut report, files)?;
+    let rounds = summary.rounds;
+    let errors = summary.errors;
+    let warnings = summary.warnings;
     let count = files.len();
-    let lines = file_lines(alloc, files)?;
-    let mut text = format!(in alloc; "mode: clean (Full), started {started}\n")?;
-    text.push_str(lines.as_str())?;
-    let done = format!(in alloc; "done: 2 rounds, {count} files, 0 errors, 0 warnings\n")?;
-    text.push_str(done.as_str())?;
-    Ok(text)
+    let line = format!(in alloc;
+        "done: {rounds} rounds, {count} files, {errors} errors, {warnings} warnings\n"
+    )?;
+    report.extend_from_slice(line.as_bytes())?;
+    Ok(report)
 }
 
-/// The line of a refusal.
+/// The report of a build in which an error was printed.
+pub fn errors_report(
+    alloc: Global,
+    processor: &str,
+    summary: &Summary,
+) -> Result<Vec<u8>, AllocError>
+    ensures { IfOk result (λ text. text.items ≡ errors_report (summary_of processor.now summary.now)) }
+{
+    let mut report = told_lines(alloc, processor, summary)?;
+    let rounds = summary.rounds;
+    let errors = summary.errors;
+    let warnings = summary.warnings;
+    let line = format!(in alloc;
+        "errors: {rounds} rounds, {errors} errors, {warnings} warnings\n"
+    )?;
+    report.extend_from_slice(line.as_bytes())?;
+    Ok(report)
+}
+
+/// The line of a refusal. A build that ended with a report has none.
 pub fn refusal(alloc: Global, status: &Status) -> Result<String, AllocError>
     ensures { IfOk result (λ text. string_bytes text ≡ refusal_of (verdict status.now)) }
 {
     match status {
-        Status::Done => Ok(String::new(alloc)),
+        Status::Done | Status::Errors { .. } => Ok(String::new(alloc)),
         Status::BadWords { at } => format!(in alloc; "refused: BadWords({at})\n"),
         Status::UnbuiltForm { path } => {
             let path = path.as_str();
@@ -56,6 +197,15 @@ pub fn refusal(alloc: Global, status: &Status) -> Result<String, AllocError>
             let processor = processor.as_str();
             format!(in alloc; "refused: UnbuiltTalk({processor})\n")
         }
+        Status::TooManyQuestions { processor, limit } => {
+            let processor = processor.as_str();
+            format!(in alloc; "refused: TooManyQuestions({processor}, {limit})\n")
+        }
+        Status::GeneratedDuplicate { name } => {
+            let name = name.as_str();
+            format!(in alloc; "refused: GeneratedDuplicate({name})\n")
+        }
+        Status::TooManyRounds => String::from_str(alloc, "refused: TooManyRounds(64)\n"),
         Status::TreeFault => String::from_str(alloc, "refused: TreeFault\n"),
         Status::SinkFault => String::from_str(alloc, "refused: SinkFault\n"),
         Status::ChildFault { processor } => {

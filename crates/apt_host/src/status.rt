@@ -9,15 +9,20 @@ use decl_syntax::Name;
 pub enum Status {
     /// The build is published.
     Done,
+    /// A processor printed errors, and nothing is published.
+    Errors {
+        /// How many.
+        count: u64,
+    },
     /// The words are none of the table's.
     BadWords {
         /// The position, from 0, of the first word that no line of the table has there, or the number of
         /// words where one is missing.
         at: u64,
     },
-    /// A source is none that can be read so far.
+    /// A source, or a created source, is none that can be read so far.
     UnbuiltForm {
-        /// The least path of such a source.
+        /// The least path of such a source; of a created one its path in the output.
         path: Name,
     },
     /// A child's bytes are not the frames that can be read so far, in their order, or it ended inside a frame.
@@ -25,6 +30,20 @@ pub enum Status {
         /// The processor's name.
         processor: Name,
     },
+    /// A child asked more often in one round than it may.
+    TooManyQuestions {
+        /// The processor's name.
+        processor: Name,
+        /// How often it may.
+        limit: u32,
+    },
+    /// A created source gives a type that is there (JSR 269, `Filer`).
+    GeneratedDuplicate {
+        /// The canonical name of the type.
+        name: Name,
+    },
+    /// Round 64 would not be the last.
+    TooManyRounds,
     /// A call of the tree failed.
     TreeFault,
     /// A call of the sink failed.
@@ -45,11 +64,15 @@ impl Status {
     {
         match self {
             Status::Done => 0,
+            Status::Errors { .. } => 1,
             Status::BadWords { .. } => 2,
             Status::Memory => 3,
             Status::TreeFault => 4,
             Status::SinkFault => 5,
             Status::ChildFault { .. } => 7,
+            Status::TooManyQuestions { .. } => 11,
+            Status::GeneratedDuplicate { .. } => 19,
+            Status::TooManyRounds => 20,
             Status::UnbuiltForm { .. } => 25,
             Status::UnbuiltTalk { .. } => 26,
         }

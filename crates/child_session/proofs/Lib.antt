@@ -2,4 +2,3 @@ pub mod FrameLemmas
 pub mod Taking
 pub mod Answering
 pub mod Rounds
-pub mod Creations

@@ -16,6 +16,11 @@ pub enum SessionFault {
     Failed,
     /// The child's bytes are not the frames of this order and form, or it ended inside a frame that was wanted.
     Unbuilt,
+    /// The child asked more often in one round than it may.
+    TooManyQuestions {
+        /// How often it may.
+        limit: u32,
+    },
     /// Want of memory.
     Memory,
 }

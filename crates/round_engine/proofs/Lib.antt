@@ -1,4 +1,8 @@
 pub mod Presence
-pub mod RunLemmas
-pub mod Sessions
 pub mod NumberLemmas
+pub mod RoundLemmas
+pub mod EnterLemmas
+pub mod MessageLemmas
+pub mod Sessions
+pub mod Creations
+pub mod CleanLemmas

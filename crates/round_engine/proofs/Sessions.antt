@@ -1,40 +1,83 @@
 -- What came of a processor's child, from its start to its stop.
-use Rattle.std.proofs.Common.{◌≡◌, ◌≢◌, ℕ, List, Option, None, Some, Result, Ok, Err, IfSome, IsSomeAnd, Vec, String, refl, sym, ap, ◌∙◌, subst}
-use Rattle.std.specs.BTreeMap.{BTreeMap}
-use Rattle.std.specs.FinMap as fin
-use Rattle.std.specs.declared.alloc.Global.{Global}
-use Rattle.apt_outside.specs.Files.{Files}
-use Rattle.apt_outside.specs.Held.{files_of}
+use Rattle.std.proofs.Common.{◌≡◌, ℕ, List, Option, None, Some, Result, Ok, Err, IfSome, IsSome, IsSomeAnd, false, refl, sym, ap, ◌∙◌, subst}
 use Rattle.apt_outside.specs.Child.{Says, Try, Child, Known, Changes, OthersKept, StaysSent}
-use Rattle.child_session.specs.declared.fault.SessionFault.{SessionFault}
-use Rattle.child_session.specs.declared.fault.SessionFault.TheVariants.{Failed, Unbuilt, Memory}
-use Rattle.child_session.specs.Round.{Act, Answered, Broken}
-use Rattle.round_engine.specs.Run.{Units, run_of, begun, Comes, CameTo, IsSent, IsShown, RanAs, Runs}
+use Rattle.wire_frames.specs.declared.frame.Frame.{Frame}
+use Rattle.apt_filer.specs.Filing.{Filings}
+use Rattle.child_session.specs.Talk.{rest_after, answer_to, HasAnswered, Exchanged, Exchanges}
+use Rattle.round_engine.specs.declared.fault.RunFault.{RunFault}
+use Rattle.round_engine.specs.declared.fault.RunFault.TheVariants as code
+use Rattle.round_engine.specs.declared.rounds.Rounds.{Rounds}
+use Rattle.round_engine.specs.Units.{Units}
+use Rattle.round_engine.specs.Run.{Run, Refused, UnbuiltTalk, init_frame, pattern_of, after_hello, rounds_from, rounds_before_last, next_of, start, run_of}
+use Rattle.round_engine.specs.Shown.{begun, ComesTo, Ended, Ends, CameTo, Came, IsSent, IsShown, is_free, RanAs, Runs}
+
+-- ---- from Init on
+
+module _ (child : ℕ) (says : Says) (name : List ℕ) (command : List (List ℕ)) (units : Units) (k0 k1 : Known) (at0 : k0 child ≡ Some (begun says (name, command))) (answer : Option Frame) (init : Exchanges child says k0 k1 (init_frame name) answer) where
+  abbrev first_child : Child
+  first_child = begun says (name, command)
+
+  -- it has answered nothing, and nothing was asked
+  has_answered : HasAnswered says first_child
+  unfolding rest_after
+  has_answered = refl
+
+  exchanged : IsSomeAnd (k1 child) (Exchanged says (init_frame name) answer first_child)
+  exchanged = (subst (λ o. IfSome o (λ before. HasAnswered says before → IsSomeAnd (k1 child) (Exchanged says (init_frame name) answer before))) at0 init.exchanged) has_answered
+
+  -- the run, from the answer on
+  run_goes : (b : Child) → Exchanged says (init_frame name) answer first_child b → (pattern : Option (List ℕ)) → pattern_of answer ≡ pattern → after_hello (says name command) b.sent units pattern ≡ run_of says (name, command) units
+  run_goes b x pattern is = ap (after_hello (says name command) b.sent units) (sym is)
+      ∙ ap (λ o. after_hello (says name command) b.sent units (pattern_of o)) x.answer_is
+      ∙ ap (λ sent. after_hello (says name command) sent units (pattern_of (answer_to (says name command) sent))) x.sent
+
+  some_of : (o : Option Child) (P : Child → Type 0) → IsSomeAnd o P → (b : Child) × (o ≡ Some b) × P b
+  some_of None P h = absurd h
+  some_of (Some b) P h = (b, refl, h)
+
+  -- its answer is no Hello of the form
+  pub came_unbuilt : (filings' : Filings) → pattern_of answer ≡ None → IsSomeAnd (k1 child) (CameTo (run_of says (name, command) units) (name, command) filings' (Err code.UnbuiltTalk))
+  came_unbuilt filings' none =
+      let b = some_of (k1 child) (Exchanged says (init_frame name) answer first_child) exchanged in
+      subst (λ o. IsSomeAnd o (CameTo (run_of says (name, command) units) (name, command) filings' (Err code.UnbuiltTalk))) (sym b.1)
+      (record { name = b.2.name; command = b.2.command; comes = sym (run_goes b.0 b.2 None none) })
+
+  some_pattern : (o : Option Frame) (pattern : List ℕ) → pattern_of o ≡ Some pattern → IsSome o
+  some_pattern None pattern e = absurd cc
+  some_pattern (Some f) pattern e = refl
+
+  -- the rounds decide
+  pub came_on : (k2 : Known) (filings' : Filings) (pattern : List ℕ) (result : Result Rounds RunFault) → pattern_of answer ≡ Some pattern
+      → Ends child says k1 k2 (λ before. rounds_from (says before.name before.command) pattern rounds_before_last (next_of 1 units) before.sent (start units)) filings' result
+      → IsSomeAnd (k2 child) (CameTo (run_of says (name, command) units) (name, command) filings' result)
+  came_on k2 filings' pattern result is ends =
+      let whole : Child → Run = λ before. rounds_from (says before.name before.command) pattern rounds_before_last (next_of 1 units) before.sent (start units) in
+      let b = some_of (k1 child) (Exchanged says (init_frame name) answer first_child) exchanged in
+      let c = some_of (k2 child) (Ended whole filings' result b.0) ((subst (λ o. IfSome o (λ before. HasAnswered says before → IsSomeAnd (k2 child) (Ended whole filings' result before))) b.1 ends.ended) (b.2.answered (some_pattern answer pattern is))) in
+      let stream_is : says b.0.name b.0.command ≡ says name command = ap (λ n. says n b.0.command) b.2.name ∙ ap (λ w. says name w) b.2.command in
+      let goes : whole b.0 ≡ run_of says (name, command) units = ap (λ stream. rounds_from stream pattern rounds_before_last (next_of 1 units) b.0.sent (start units)) stream_is ∙ run_goes b.0 b.2 (Some pattern) is in
+      subst (λ o. IsSomeAnd o (CameTo (run_of says (name, command) units) (name, command) filings' result)) (sym c.1)
+      (record { name = c.2.name ∙ b.2.name; command = c.2.command ∙ b.2.command; comes = subst (λ o. ComesTo o result c.0.sent filings') goes c.2.comes })
+
+-- ---- to its stop
 
 -- a child that was stopped was sent what it was sent
-stopped : (child : ℕ) (k2 k3 : Known) (run : Act) (processor : Try) (files : Files) (result : Result Unit SessionFault) → Changes child k2 k3 → StaysSent child k2 k3 → (o : Option Child) → k2 child ≡ o → IsSomeAnd o (CameTo run processor files result)
-    → (sent : List (List ℕ)) × Comes run result sent files × IsShown processor sent k3 child
-stopped child k2 k3 run processor files result change stays None is came = absurd came
-stopped child k2 k3 run processor files result change stays (Some c) is came =
+stopped : (child : ℕ) (k2 k3 : Known) (whole : Run) (processor : Try) (filings' : Filings) (result : Result Rounds RunFault) → Changes child k2 k3 → StaysSent child k2 k3 → (o : Option Child) → k2 child ≡ o → IsSomeAnd o (CameTo whole processor filings' result)
+    → RanAs whole processor filings' k3 child result
+stopped child k2 k3 whole processor filings' result change stays None is came = absurd came
+stopped child k2 k3 whole processor filings' result change stays (Some c) is came =
     let d = change.same_child c is in
     let same : d.0.sent ≡ c.sent = subst (λ o. IsSomeAnd o (λ after. after.sent ≡ c.sent)) d.1 (subst (λ o. IfSome o (λ before. IsSomeAnd (k3 child) (λ after. after.sent ≡ before.sent))) is stays.same_sent) in
-    (c.sent, came.comes, subst (λ o. IsSomeAnd o (IsSent processor c.sent)) (sym d.1) (record { name = d.2 ∙ came.name; command = d.3 ∙ came.command; frames = same }))
+    record {
+      sent = c.sent;
+      comes = came.comes;
+      shown = subst (λ o. IsSomeAnd o (IsSent processor c.sent)) (sym d.1) (record { name = d.2 ∙ came.name; command = d.3 ∙ came.command; frames = same });
+    }
 
-module _ (child : ℕ) (says : Says) (processor : Try) (units : Units) (k0 k1 k2 k3 : Known) (others : OthersKept child k0 k1) (shows : Changes child k1 k2) (stops : Changes child k2 k3) (stays : StaysSent child k2 k3) where
-  others_kept : OthersKept child k0 k3
-  others_kept = λ k ne. stops.others k ne ∙ shows.others k ne ∙ others k ne
-
-  pub ran_ok : (made : BTreeMap (String Global) (Vec ℕ Global)) → IsSomeAnd (k2 child) (CameTo (run_of says processor units) processor (files_of made) (Ok tt)) → Runs says processor units k0 k3 (Ok made)
-  ran_ok made came =
-      let s = stopped child k2 k3 (run_of says processor units) processor (files_of made) (Ok tt) stops stays (k2 child) refl came in
-      record { child = child; others = others_kept; ran = (s.0, s.1, s.2) }
-
-  err_as : (files : Files) (fault : SessionFault) → IsSomeAnd (k2 child) (CameTo (run_of says processor units) processor files (Err fault)) → RanAs (run_of says processor units) processor k3 child (Err fault)
-  err_as files Failed came = tt
-  err_as files Memory came = tt
-  err_as files Unbuilt came =
-      let s = stopped child k2 k3 (run_of says processor units) processor files (Err Unbuilt) stops stays (k2 child) refl came in
-      (s.0, s.1, s.2)
-
-  pub ran_err : (files : Files) (fault : SessionFault) → IsSomeAnd (k2 child) (CameTo (run_of says processor units) processor files (Err fault)) → Runs says processor units k0 k3 (Err fault)
-  ran_err files fault came = record { child = child; others = others_kept; ran = err_as files fault came }
+pub ran : (child : ℕ) (says : Says) (processor : Try) (units : Units) (k0 k1 k2 k3 : Known) (filings' : Filings) (result : Result Rounds RunFault) → OthersKept child k0 k1 → Changes child k1 k2 → Changes child k2 k3 → StaysSent child k2 k3
+    → IsSomeAnd (k2 child) (CameTo (run_of says processor units) processor filings' result) → Runs says processor units filings' k0 k3 result
+ran child says processor units k0 k1 k2 k3 filings' result others shows stops stays came = record {
+  child = child;
+  others = λ k ne. stops.others k ne ∙ shows.others k ne ∙ others k ne;
+  ran = λ free. stopped child k2 k3 (run_of says processor units) processor filings' result stops stays (k2 child) refl came;
+}

@@ -1,50 +1,33 @@
--- The run of one processor over a project, from nothing: what its child is sent, and what comes of it.
-use Rattle.std.specs.Prelude.{◌≡◌, ℕ, ◌==◌, Bool, true, false, List, [], ◌∷◌, ◌++◌, Option, None, Some, if◌then◌else◌, Result, Ok, Err, IsSomeAnd, ◌⊎◌, ◌+◌, ◌≤◌}
+-- The run of one processor over the units of a project, from nothing: the rounds of JSR 269, what its child is shown in each,
+-- and what comes of them. It is a function of the units and of what the child says.
+use Rattle.std.specs.Prelude.{ℕ, zero, suc, ◌==◌, ◌+◌, ◌*◌, ◌||◌, not, Bool, true, false, List, [], ◌∷◌, ◌++◌, length, drop, Option, None, Some, if◌then◌else◌, Result, Ok, Err}
 use Rattle.std.specs.List.{list_any}
-use Rattle.std.specs.Str.{bytes_eq}
-use Rattle.std.specs.Ordering.{nat_cmp}
-use Rattle.std.specs.Cmp.Lexicographic.{slice_cmp}
 use Rattle.std.specs.FinMap as fin
-use Rattle.std.specs.FinMap.{FinMap}
-use Rattle.std.specs.BTreeMap.{BTreeMap}
-use Rattle.std.specs.declared.alloc.Global.{Global}
-use Rattle.std.specs.Prelude.{String, Vec}
 use Rattle.apt_outside.specs.Files.{Files}
-use Rattle.apt_outside.specs.Held.{files_of}
-use Rattle.apt_outside.specs.Child.{Says, Try, Child, Known, OthersKept}
+use Rattle.apt_outside.specs.Child.{Says, Try}
 use Rattle.source_form.specs.Form.{is_chain}
-use Rattle.wire_frames.specs.declared.frame.Frame.{Frame}
-use Rattle.wire_frames.specs.declared.frame.Frame.TheVariants as frame
-use Rattle.wire_frames.specs.declared.frame.Hello.{Hello}
 use Rattle.decl_syntax.specs.declared.kinds.Claim.{Claim}
 use Rattle.decl_syntax.specs.declared.kinds.Claim.TheVariants.{Always, Never, Varies}
+use Rattle.wire_frames.specs.declared.frame.Frame.{Frame}
+use Rattle.wire_frames.specs.declared.frame.Frame.TheVariants as frame
+use Rattle.wire_frames.specs.declared.frame.Creation.{Creation}
+use Rattle.wire_frames.specs.declared.frame.Creation.TheVariants as creation
+use Rattle.wire_frames.specs.declared.frame.Message.{Message}
 use Rattle.wire_frames.specs.Frames.{spelling}
-use Rattle.child_session.specs.declared.fault.SessionFault.{SessionFault}
-use Rattle.child_session.specs.declared.fault.SessionFault.TheVariants.{Failed, Unbuilt, Memory}
+use Rattle.apt_filer.specs.Filing.{Filings, path_of, content_of}
 use Rattle.child_session.specs.Talk.{Stream, answer_to}
-use Rattle.child_session.specs.Round.{Act, Answered, Broken, answer_of_round}
+use Rattle.child_session.specs.Round.{Act, Answered, Broken, Overasked, Showing, act_of}
+use Rattle.round_engine.specs.declared.messages.Placed.{Placed}
+use Rattle.round_engine.specs.Units.{Units, is_present, Table, Entered, SourceRefusal, IsUnbuilt, IsDuplicate, enter_all}
 
--- the units of a project: by the name of its type, the name of the annotation that is written on each
-abbrev pub Units : Type 0
-Units = FinMap (slice_cmp nat_cmp) (List ℕ)
-
--- a name of an annotation that is written on a unit; so far names count as they are written
-abbrev pub is_present : Units → List ℕ → Bool
-is_present units name = list_any (λ annotation. bytes_eq annotation name) (fin.values units)
+-- ---- the frames of the host
 
 -- the source level
 abbrev pub level : ℕ
 level = 11
 
--- the frames of the host: the first, round 1 with what is offered and all roots, and the last round, which is round 2 so far
 abbrev pub init_frame : List ℕ → List ℕ
 init_frame name = spelling (frame.Init (record { name = name; level = level; options = [] }))
-
-abbrev pub first_round : List ℕ → List (List ℕ) → List ℕ
-first_round pattern roots = spelling (frame.Round 1 false false (pattern ∷ []) roots)
-
-abbrev pub last_round : List ℕ
-last_round = spelling (frame.Round 2 true false [] [])
 
 -- so far a processor supports one annotation by its name, has no options and always claims
 abbrev pub one_pattern : List (List ℕ) → List (List ℕ) → Claim → Option (List ℕ)
@@ -55,71 +38,197 @@ abbrev pub pattern_of : Option Frame → Option (List ℕ)
 pattern_of (Some (frame.Hello hello)) = one_pattern hello.patterns hello.options hello.claim
 pattern_of other = None
 
--- then the last round, which each processor that was asked before is shown
-abbrev pub then_last : Stream → Act → Act
-then_last stream (Answered sent files) = answer_of_round stream sent last_round files
-then_last stream (Broken sent) = Broken sent
+-- ---- rounds
 
--- It is asked in round 1 where its annotation is present, and in the last round where it was asked before.
-abbrev pub after_hello : Stream → List (List ℕ) → Units → Option (List ℕ) → Act
-after_hello stream sent units None = Broken sent
-after_hello stream sent units (Some pattern) = if is_present units pattern then then_last stream (answer_of_round stream sent (first_round pattern (fin.keys units)) fin.empty) else Answered sent fin.empty
+-- a round: its number, from 1, its flags, and its root units
+pub record Round : Type 0 where
+  pub number : ℕ
+  pub over : Bool
+  pub error : Bool
+  pub roots : Units
+
+-- what has come of the rounds before: the table, whether the processor was asked, what the filer has, and the messages
+-- that were printed
+pub record Progress : Type 0 where
+  pub table : Table
+  pub asked : Bool
+  pub filings : Filings
+  pub messages : List Placed
+
+-- ---- one round
+
+-- The present names that the processor supports are offered to it. The last round has no roots, and so no names.
+abbrev pub offered : List ℕ → Units → List (List ℕ)
+offered pattern roots = if is_present roots pattern then pattern ∷ [] else []
+
+-- it is asked where its annotation is present, and where it was asked before
+abbrev pub is_asked : List ℕ → Units → Bool → Bool
+is_asked pattern roots before = is_present roots pattern || before
+
+-- how often a child may ask in a round with these roots
+abbrev pub limit : Units → ℕ
+limit roots = 65536 + 4096 * length (fin.keys roots)
+
+abbrev pub round_frame : List ℕ → Round → List ℕ
+round_frame pattern r = spelling (frame.Round r.number r.over r.error (offered pattern r.roots) (fin.keys r.roots))
+
+-- what a processor is shown in a round
+abbrev pub showing : List ℕ → Round → Showing
+showing pattern r = record { limit = limit r.roots; round = round_frame pattern r }
+
+-- what a processor comes to in a round, after these frames
+abbrev pub act : Stream → List ℕ → Round → List (List ℕ) → Progress → Act
+act stream pattern r sent p = if is_asked pattern r.roots p.asked then act_of stream (showing pattern r) sent p.filings else Answered sent p.filings []
+
+-- messages of a round, numbered from one on; there is one processor, which has the number 0
+abbrev pub place : ℕ → ℕ → List Message → List Placed
+place round number [] = []
+place round number (message ∷ messages) = record { round = round; processor = 0; number = number; message = message } ∷ place round (suc number) messages
+
+-- what has come of the rounds up to this one
+abbrev pub progress : List ℕ → Round → Progress → Filings → List Message → Progress
+progress pattern r p filings printed = record {
+  table = p.table;
+  asked = is_asked pattern r.roots p.asked;
+  filings = filings;
+  messages = p.messages ++ place r.number 0 printed;
+}
+
+-- an ERROR has the kind 0
+abbrev pub has_error : List Message → Bool
+has_error messages = list_any (λ message. message.kind == 0) messages
+
+-- ---- created sources
+
+-- what was made since
+abbrev pub new_since : Filings → Filings → List Creation
+new_since before filings = drop (length before.made) filings.made
+
+-- files to which each creation adds what it adds
+abbrev pub gathered : (Files → Creation → Files) → Files → List Creation → Files
+gathered add files [] = files
+gathered add files (creation ∷ others) = gathered add (add files creation) others
+
+abbrev pub with_source : Files → Creation → Files
+with_source files (creation.Source name content origins) = fin.insert files (path_of (creation.Source name content origins)) content
+with_source files (creation.Resource location folder relative content origins) = files
+with_source files (creation.Class name content origins) = files
+
+-- the sources among files that were made, by their paths
+abbrev pub sources_among : List Creation → Files
+sources_among made = gathered with_source fin.empty made
+
+abbrev pub is_source : Creation → Bool
+is_source (creation.Source name content origins) = true
+is_source (creation.Resource location folder relative content origins) = false
+is_source (creation.Class name content origins) = false
+
+-- a source is among files that were made
+abbrev pub creates_source : List Creation → Bool
+creates_source made = list_any is_source made
+
+-- a source by its name alone
+abbrev pub with_unread : Files → Creation → Files
+with_unread files (creation.Source name content origins) = fin.insert files name []
+with_unread files (creation.Resource location folder relative content origins) = files
+with_unread files (creation.Class name content origins) = files
+
+-- the names of the sources among files that were made, ascending
+abbrev pub unread_among : List Creation → List (List ℕ)
+unread_among made = fin.keys (gathered with_unread fin.empty made)
+
+-- ---- the run
+
+-- why a run is refused
+pub data Fault : Type 0 where
+  -- the child's bytes left the form
+  UnbuiltTalk : Fault
+  -- it asked once more than so often in one round
+  TooManyQuestions : (most : ℕ) → Fault
+  UnbuiltForm : (path : List ℕ) → Fault
+  GeneratedDuplicate : (name : List ℕ) → Fault
+  -- round 64 would not be the last
+  TooManyRounds : Fault
+
+-- a run, with the frames that its child was sent
+pub data Run : Type 0 where
+  -- so many rounds, the files, the messages, and the sources of the last round by their names
+  Finished : (sent : List (List ℕ)) (rounds : ℕ) (made : List Creation) (messages : List Placed) (unread : List (List ℕ)) → Run
+  Refused : (sent : List (List ℕ)) (fault : Fault) → Run
+
+abbrev pub fault_of : SourceRefusal → Fault
+fault_of (IsUnbuilt path) = UnbuiltForm path
+fault_of (IsDuplicate name) = GeneratedDuplicate name
+
+-- what follows an act in a round with these roots, unless it is a refusal
+abbrev pub after_act : Units → Act → (List (List ℕ) → Filings → List Message → Run) → Run
+after_act roots (Answered sent filings printed) go = go sent filings printed
+after_act roots (Broken sent) go = Refused sent UnbuiltTalk
+after_act roots (Overasked sent) go = Refused sent (TooManyQuestions (limit roots))
+
+abbrev pub last_of : ℕ → Bool → Round
+last_of number error = record { number = number; over = true; error = error; roots = fin.empty }
+
+abbrev pub next_of : ℕ → Units → Round
+next_of number roots = record { number = number; over = false; error = false; roots = roots }
+
+-- The last round has no roots, and nothing is offered in it. Its sources are kept and not read.
+abbrev pub last_round : Stream → List ℕ → ℕ → Bool → List (List ℕ) → Progress → Run
+last_round stream pattern number error sent p = after_act fin.empty (act stream pattern (last_of number error) sent p) (λ sent' filings printed.
+    Finished sent' number filings.made (p.messages ++ place number 0 printed) (unread_among (new_since p.filings filings)))
+
+abbrev pub enter_next : List (List ℕ) → Result Entered SourceRefusal → (Entered → Run) → Run
+enter_next sent (Ok entered) go = go entered
+enter_next sent (Err refusal) go = Refused sent (fault_of refusal)
+
+-- After a round with an ERROR, or one that created no source, comes the last one. Else its sources are read and entered in
+-- order of path, and their units are the roots of the next.
+abbrev pub after_round : Stream → List ℕ → ℕ → List (List ℕ) → Progress → List Creation → List Message → (Entered → Run) → Run
+after_round stream pattern number sent p new printed go =
+    if has_error printed || not (creates_source new) then last_round stream pattern (suc number) (has_error printed) sent p
+    else enter_next sent (enter_all (record { table = p.table; roots = fin.empty }) (fin.entries (sources_among new))) go
+
+abbrev pub with_table : Progress → Table → Progress
+with_table p table = record { table = table; asked = p.asked; filings = p.filings; messages = p.messages }
+
+-- A round that is not the last, and what follows it; go says what follows where its sources are entered.
+abbrev pub round_then : Stream → List ℕ → Round → List (List ℕ) → Progress → (Round → List (List ℕ) → Progress → Run) → Run
+round_then stream pattern r sent p go = after_act r.roots (act stream pattern r sent p) (λ sent' filings printed.
+    after_round stream pattern r.number sent' (progress pattern r p filings printed) (new_since p.filings filings) printed (λ entered.
+    go (next_of (suc r.number) entered.roots) sent' (with_table (progress pattern r p filings printed) entered.table)))
+
+-- the rounds from one on that is not the last, where so many rounds may come that are not the last
+unfoldable pub rounds_from : Stream → List ℕ → ℕ → Round → List (List ℕ) → Progress → Run
+rounds_from stream pattern zero r sent p = Refused sent TooManyRounds
+rounds_from stream pattern (suc left) r sent p = round_then stream pattern r sent p (rounds_from stream pattern left)
+
+-- a run has 64 rounds at most, the last included
+abbrev pub rounds_before_last : ℕ
+rounds_before_last = 63
+
+-- what a filer has at first
+abbrev pub new_filings : Units → Filings
+new_filings units = record { initial = fin.keys units; made = [] }
+
+abbrev pub start : Units → Progress
+start units = record { table = record { initial = units; created = fin.empty }; asked = false; filings = new_filings units; messages = [] }
+
+abbrev pub after_hello : Stream → List (List ℕ) → Units → Option (List ℕ) → Run
+after_hello stream sent units None = Refused sent UnbuiltTalk
+after_hello stream sent units (Some pattern) = rounds_from stream pattern rounds_before_last (next_of 1 units) sent (start units)
 
 -- the run of a processor with this name and command
-abbrev pub run_of : Says → Try → Units → Act
+abbrev pub run_of : Says → Try → Units → Run
 run_of says processor units =
     let stream = says processor.0 processor.1 in
     let sent = init_frame processor.0 ∷ [] in
     after_hello stream sent units (pattern_of (answer_to stream sent))
 
--- a child that was just started
-abbrev pub begun : Says → Try → Child
-begun says processor = record { name = processor.0; command = processor.1; sent = []; waiting = says processor.0 processor.1 [] }
+-- ---- what is published
 
--- what came of showing a child all that it is to be shown
-abbrev pub Comes : Act → Result Unit SessionFault → List (List ℕ) → Files → Type 0
-Comes run (Ok done) sent files = run ≡ Answered sent files
-Comes run (Err Unbuilt) sent files = run ≡ Broken sent
-Comes run (Err Failed) sent files = Unit {0}
-Comes run (Err Memory) sent files = Unit {0}
+abbrev pub with_file : Files → Creation → Files
+with_file files creation = fin.insert files (path_of creation) (content_of creation)
 
--- The child was just started, and nothing was made before: what came of it is the run.
-pub record CameTo (run : Act) (processor : Try) (files : Files) (result : Result Unit SessionFault) (after : Child) : Type 0 where
-  pub name : after.name ≡ processor.0
-  pub command : after.command ≡ processor.1
-  pub comes : Comes run result after.sent files
-
-pub record Came (child : ℕ) (says : Says) (name : List ℕ) (units : Units) (made made' : Files) (known known' : Known) (result : Result Unit SessionFault) : Type 0 where
-  pub came : (command : List (List ℕ)) → known child ≡ Some (begun says (name, command)) → made ≡ fin.empty → IsSomeAnd (known' child) (CameTo (run_of says (name, command) units) (name, command) made' result)
-
--- a child of the processor that was sent these frames
-pub record IsSent (processor : Try) (sent : List (List ℕ)) (child : Child) : Type 0 where
-  pub name : child.name ≡ processor.0
-  pub command : child.command ≡ processor.1
-  pub frames : child.sent ≡ sent
-
--- the child was shown exactly these frames
-abbrev pub IsShown : Try → List (List ℕ) → Known → ℕ → Type 0
-IsShown processor sent known child = IsSomeAnd (known child) (IsSent processor sent)
-
--- What came of it is the run, and the child that was started for it was shown exactly that run's frames; a fault of
--- the children or want of memory may come at any point.
-abbrev pub RanAs : Act → Try → Known → ℕ → Result (BTreeMap (String Global) (Vec ℕ Global)) SessionFault → Type 0
-RanAs run processor known child (Ok made) = (sent : List (List ℕ)) × (run ≡ Answered sent (files_of made)) × IsShown processor sent known child
-RanAs run processor known child (Err Unbuilt) = (sent : List (List ℕ)) × (run ≡ Broken sent) × IsShown processor sent known child
-RanAs run processor known child (Err Failed) = Unit {0}
-RanAs run processor known child (Err Memory) = Unit {0}
-
-pub record Runs (says : Says) (processor : Try) (units : Units) (known known' : Known) (result : Result (BTreeMap (String Global) (Vec ℕ Global)) SessionFault) : Type 0 where
-  pub child : ℕ
-  pub others : OthersKept child known known'
-  pub ran : RanAs (run_of says processor units) processor known' child result
-
--- at most this start was tried
-abbrev pub TriedOnce : Try → List Try → List Try → Type 0
-TriedOnce processor old new = (new ≡ old) ⊎ (new ≡ old ++ processor ∷ [])
-
--- one child was started, or at most one where the run was refused
-abbrev pub StartedOnce : {T : Type 0} → Result T SessionFault → ℕ → ℕ → Type 0
-StartedOnce (Ok made) old new = new ≡ old + 1
-StartedOnce (Err fault) old new = new ≤ old + 1
+-- the files of a run, by their paths
+abbrev pub files_among : List Creation → Files
+files_among made = gathered with_file fin.empty made

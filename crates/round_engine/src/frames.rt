@@ -1,15 +1,14 @@
 // The frames that a child is shown.
-ghost use Rattle.std.specs.Prelude.{◌≡◌, IfOk, option_map};
-ghost use Rattle.std.specs.FinMap.{keys};
-ghost use Rattle.apt_outside.specs.Held.{files_of};
+ghost use Rattle.std.specs.Prelude.{◌≡◌, ◌∷◌, [], IfOk};
+ghost use Rattle.std.specs.Bool.{if◌then◌else◌};
 ghost use Rattle.wire_frames.specs.Frames.{spelling};
-ghost use Rattle.round_engine.specs.Run.{init_frame, first_round, last_round, one_pattern, pattern_of};
+ghost use Rattle.wire_frames.specs.declared.frame.Frame.TheVariants as frames;
+ghost use Rattle.round_engine.specs.Run.{init_frame, one_pattern, pattern_of};
 
-use crate::units::roots_of;
+use crate::rounds::Round;
 use decl_syntax::{Claim, List, Name, NoMemory};
 use source_form::is_chain;
 use std::alloc::Global;
-use std::collections::BTreeMap;
 use wire_frames::{Frame, Hello, Init, encode};
 
 const LEVEL: u16 = 11;
@@ -36,36 +35,32 @@ pub fn init_frame(alloc: Global, name: &Name) -> Result<List<u8>, NoMemory>
     bytes_of(alloc, &Frame::Init(init))
 }
 
-/// Round 1: the name is offered, and all units are roots.
-pub fn first_round(
-    alloc: Global,
-    pattern: Name,
-    units: &BTreeMap<String, Vec<u8>>,
-) -> Result<List<u8>, NoMemory>
-    ensures { IfOk result (λ bytes. bytes ≡ first_round pattern (keys (files_of units.now))) }
+fn offered(alloc: Global, pattern: &Name, present: bool) -> Result<List<Name>, NoMemory>
+    ensures { IfOk result (λ names. names ≡ (if present then pattern.now ∷ [] else [])) }
 {
-    let mut offered = List::new(alloc);
-    offered.push(pattern)?;
-    let frame = Frame::Round {
-        number: 1,
-        over: false,
-        error: false,
-        offered,
-        roots: roots_of(alloc, units)?,
-    };
-    bytes_of(alloc, &frame)
+    let mut names = List::new(alloc);
+    if present {
+        names.push(pattern.copy()?)?;
+    }
+    Ok(names)
 }
 
-/// The last round, which is round 2.
-pub fn last_round(alloc: Global) -> Result<List<u8>, NoMemory>
-    ensures { IfOk result (λ bytes. bytes ≡ last_round) }
+/// The frame of a round with these roots, in which the processor's pattern is present or not.
+pub fn round_bytes(
+    alloc: Global,
+    pattern: &Name,
+    present: bool,
+    round: Round,
+    roots: List<Name>,
+) -> Result<List<u8>, NoMemory>
+    ensures { IfOk result (λ bytes. bytes ≡ spelling (frames.Round round.number round.over round.error (if present then pattern.now ∷ [] else []) roots)) }
 {
     let frame = Frame::Round {
-        number: 2,
-        over: true,
-        error: false,
-        offered: List::new(alloc),
-        roots: List::new(alloc),
+        number: round.number,
+        over: round.over,
+        error: round.error,
+        offered: offered(alloc, pattern, present)?,
+        roots,
     };
     bytes_of(alloc, &frame)
 }

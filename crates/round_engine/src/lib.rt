@@ -1,13 +1,24 @@
-//! The rounds of a build, from nothing.
+//! The rounds of a build, from nothing (JSR 269, `Processor` and `RoundEnvironment`).
 //!
-//! `specs/Run.antt` says what the run of a processor over a project is: a function of the project and
-//! of what the processor says. Nothing is said of files that an earlier build left.
+//! `specs/Run.antt` says what the run of a processor over the units of a project is, round by round: a function of the
+//! units and of what the processor says. `specs/Clean.antt` says what `clean` gives of it. Nothing is said of files that an
+//! earlier build left, of pipes or of pieces of bytes, and nothing is promised of time.
 #![tactic(auto)]
 
 mod child;
+mod fault;
 mod frames;
+mod messages;
 mod numbering;
+mod project;
+mod refusal;
+mod rounds;
+mod running;
+mod sources;
 mod units;
 
-pub use child::run_processor;
-pub use numbering::{Made, number_files};
+pub use messages::Placed;
+pub use numbering::Made;
+pub use project::{Key, KeyProcessor, Project};
+pub use refusal::Refusal;
+pub use running::{Finished, clean};

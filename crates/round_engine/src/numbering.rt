@@ -18,6 +18,8 @@ pub struct Made {
     pub path: Name,
     /// The number of its store file.
     pub store: u32,
+    /// Whether its store file is to be written.
+    pub written: bool,
     /// What it holds.
     pub bytes: List<u8>,
 }
@@ -69,8 +71,9 @@ fn fits(count: usize) -> bool
 
 // The file under its number, which takes no memory. It fails where the path or the file has 2^32 bytes or more.
 fn made_file(alloc: Global, path: String, store: u32, bytes: Vec<u8>) -> Result<Made, NoMemory>
-    ensures file { IfOk result (λ file. file ≡ record { path = string_bytes path; store = store; bytes = bytes.items }) }
+    ensures file { IfOk result (λ file. file ≡ record { path = string_bytes path; store = store; written = true; bytes = bytes.items }) }
     ensures text { IfOk result (λ file. is_text file.path ≡ true) }
+    ensures store { store < 2 ^ 32 }
     ensures fits { IsOk result ↔ ((length (string_bytes path) < 2 ^ 32) × (length bytes.items < 2 ^ 32)) }
 {
     if !fits(path.len()) || !fits(bytes.len()) {
@@ -79,6 +82,7 @@ fn made_file(alloc: Global, path: String, store: u32, bytes: Vec<u8>) -> Result<
     Ok(Made {
         path: Name::from_string(alloc, path),
         store,
+        written: true,
         bytes: List::from_vec(bytes),
     })
 }
@@ -98,7 +102,7 @@ pub fn number_files(
     ensures numbers { IfOk result (λ files. AreLeast taken.now [] (map (λ file. file.store) files)) }
     ensures texts { IfOk result (All (λ file. is_text file.path ≡ true)) }
     ensures sizes { IfOk result (λ files. (length files < 2 ^ 32)
-        × All (λ file. (length file.path < 2 ^ 32) × (length file.bytes < 2 ^ 32)) files) }
+        × All (λ file. (file.store < 2 ^ 32) × (length file.path < 2 ^ 32) × (length file.bytes < 2 ^ 32)) files) }
 {
     let mut numbers = Numbers { taken, next: 0 };
     let mut files = List::new(alloc);

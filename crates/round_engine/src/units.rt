@@ -2,7 +2,8 @@
 ghost use Rattle.std.specs.Prelude.{◌≡◌, IfOk};
 ghost use Rattle.std.specs.FinMap.{keys};
 ghost use Rattle.apt_outside.specs.Held.{files_of};
-ghost use Rattle.round_engine.specs.Run.{is_present};
+ghost use Rattle.round_engine.specs.Units.{is_present};
+ghost use Rattle.round_engine.specs.Entering.{shown_roots};
 
 use decl_syntax::{List, Name, NoMemory};
 use std::alloc::Global;
@@ -28,4 +29,17 @@ pub fn roots_of(alloc: Global, units: &BTreeMap<String, Vec<u8>>) -> Result<List
         roots.push(Name::new(alloc, name.as_str())?)?;
     }
     Ok(roots)
+}
+
+/// The roots of a round: the units that were entered before it, or all initial ones where it is the first.
+pub fn roots_or<'a>(
+    initial: &'a BTreeMap<String, Vec<u8>>,
+    entered: &'a Option<BTreeMap<String, Vec<u8>>>,
+) -> &'a BTreeMap<String, Vec<u8>>
+    ensures { files_of result.now ≡ shown_roots (files_of initial.now) entered.now }
+{
+    match entered {
+        None => initial,
+        Some(roots) => roots,
+    }
 }

@@ -2,7 +2,7 @@ use Rattle.std.proofs.Common.{◌≡◌, true, false, Some, ap, sym, ◌∙◌, 
 use Rattle.std.specs.FinMap as fin
 use Rattle.apt_outside.specs.Held.{files_of}
 use Rattle.apt_outside.proofs.HeldLemmas.{files_of-insert}
-use Rattle.child_session.proofs.Creations.{found_there}
+use Rattle.round_engine.proofs.Creations.{found_there}
 use Rattle.source_form.specs.Form.{canonical}
 use Rattle.apt_host.proofs.Units.{full, repeated, entered}
 use Rattle.apt_host.proofs.project.enter_form.Goals as goal

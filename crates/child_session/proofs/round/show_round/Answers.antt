@@ -1,52 +1,59 @@
-use Rattle.std.proofs.Common.{◌≡◌, Err, ◌-◌, ◌+◌, suc, sym, ap, ◌∙◌, subst, string_bytes, arith, rules}
-use Rattle.apt_outside.specs.Held.{files_of}
-use Rattle.child_session.specs.Talk.{Exchanges}
-use Rattle.child_session.specs.Round.{accepted, shown_turn, turn_at, Ends, Creates, Leaves, GoesOn}
+use Rattle.std.proofs.Common.{◌≡◌, Err, ◌-◌, ◌+◌, suc, sym, ap, ◌∙◌, subst, arith, rules}
 use Rattle.std.proofs.lemmas.Result.{err_from_is_err_and}
+use Rattle.child_session.specs.Talk.{Exchanges}
+use Rattle.child_session.specs.Round.{turn_at, reply_frame, GoesOn, Showing}
+use Rattle.child_session.specs.declared.round.Turn.TheVariants.{Ends, Asks, Leaves}
 use Rattle.child_session.proofs.Taking.{attends_then}
-use Rattle.child_session.proofs.Rounds.{way_goes, way_ends, way_leaves, way_repeats, way_too_long, way_is_refused, shown_ends}
+use Rattle.child_session.proofs.Rounds.{way_begins, way_goes, way_ends, way_leaves, way_is_full, way_is_free}
 use Rattle.child_session.proofs.round.show_round.Goals as goal
 
 pub returns-in-Ends-clause-shown : goal.returns-in-Ends-clause-shown
 returns-in-Ends-clause-shown g c = λ told.
-    let turn : turn_at c.loop-count.answer ≡ Ends = sym c.in_ok-turn_of.ensures ∙ ap shown_turn c.in-Ends.is in
-    way_ends _ _ _ _ _ _ _ _ _ (c.loop-count.invariant.goes told) turn
+    let turn : turn_at c.loop-count.answer ≡ Ends = sym c.turn_of.ensures ∙ c.in-Ends.is in
+    way_ends _ _ _ _ _ _ _ _ _ _ (c.loop-count.invariant.goes told) turn
 
 pub returns-in-Leaves-clause-shown : goal.returns-in-Leaves-clause-shown
 returns-in-Leaves-clause-shown g c = λ told.
-    let turn : turn_at c.loop-count.answer ≡ Leaves = sym c.in_ok-turn_of.ensures ∙ ap shown_turn c.in-Leaves.is in
-    way_leaves _ _ _ _ _ _ _ _ _ (c.loop-count.invariant.goes told) turn
+    let turn : turn_at c.loop-count.answer ≡ Leaves = sym c.turn_of.ensures ∙ c.in-Leaves.is in
+    way_leaves _ _ _ _ _ _ _ _ _ _ (c.loop-count.invariant.goes told) turn
 
 pub loop-count-preserved : goal.loop-count-preserved
 loop-count-preserved g c = record {
-  later = omega (arith, c.loop-count.invariant.later, c.create.ensures.reason.later);
-  starts = c.create.ensures.starts ∙ c.loop-count.invariant.starts;
-  live = c.create.ensures.live ∙ c.loop-count.invariant.live;
-  attends = λ told. attends_then _ _ _ _ _ _ _ _ _ _ (c.loop-count.invariant.attends told) (c.create.ensures.attends told);
+  later = omega (arith, c.loop-count.invariant.later, c.take_turn.ensures.reason.later);
+  starts = c.take_turn.ensures.starts ∙ c.loop-count.invariant.starts;
+  live = c.take_turn.ensures.live ∙ c.loop-count.invariant.live;
+  attends = λ told. attends_then _ _ _ _ _ _ _ _ _ _ (c.loop-count.invariant.attends told) (c.take_turn.ensures.attends told);
   goes = λ told.
-      let turn : turn_at c.loop-count.answer ≡ Creates (string_bytes c.in-Creates.path) c.in-Creates.content.items = sym c.in_ok-turn_of.ensures ∙ ap shown_turn c.in-Creates.is in
-      let one_left : 1000 - c.loop-count.count ≡ suc (1000 - (c.loop-count.count + 1)) = omega (arith, c.loop-count-test.true) in
-      let before = subst (λ n. GoesOn c.args.child (g.C.Children.says c.args.children.now) (g.C.Children.known c.args.children.now) (g.C.Children.known c.loop-count.children) c.args.round.now (files_of c.args.made.now) (files_of c.loop-count.made) n c.loop-count.answer) one_left (c.loop-count.invariant.goes told) in
-      let said : g.C.Children.says c.loop-count.children ≡ g.C.Children.says c.args.children.now = (c.loop-count.invariant.attends told).same_says in
-      let next = subst (λ says. Exchanges c.args.child says (g.C.Children.known c.loop-count.children) (g.C.Children.known c.create.new.children) accepted c.in_ok-answer-in-Creates.answer) said (c.in_ok-answer-in-Creates.ensures.answer told) in
-      way_goes _ _ _ _ _ _ _ _ _ _ _ _ _ _ before turn c.in_ok-answer-in-Creates.ensures.keeps.0 c.in_ok-answer-in-Creates.ensures.keeps.1 next;
+      let C = g.C.Children in
+      let showing : Showing = record { limit = c.args.limit; round = c.args.round.now } in
+      let turn : turn_at c.loop-count.answer ≡ Asks c.in-Asks.request = sym c.turn_of.ensures ∙ c.in-Asks.is in
+      let one_left : c.args.limit - c.loop-count.count ≡ suc (c.args.limit - (c.loop-count.count + 1)) = omega (arith, c.loop-count-test.true) in
+      let before = subst (λ n. GoesOn c.args.child (C.says c.args.children.now) (C.known c.args.children.now) (C.known c.loop-count.children) showing c.args.filer.now c.loop-count.filer c.loop-count.printed n c.loop-count.answer) one_left (c.loop-count.invariant.goes told) in
+      let said : C.says c.loop-count.children ≡ C.says c.args.children.now = (c.loop-count.invariant.attends told).same_says in
+      let next = subst (λ says. Exchanges c.args.child says (C.known c.loop-count.children) (C.known c.take_turn.new.children) (reply_frame c.loop-count.filer c.in-Asks.request) c.in_ok-answer-in-Asks.answer) said (c.in_ok-answer-in-Asks.ensures.answer told) in
+      way_goes _ _ _ _ _ _ _ _ _ _ _ _ _ _ _ before turn c.in_ok-answer-in-Asks.ensures.filed c.in_ok-answer-in-Asks.ensures.printed next;
 }
 
-pub returns-in_err-answer-in-Creates-clause-shown :
-    goal.returns-in_err-answer-in-Creates-clause-shown
-returns-in_err-answer-in-Creates-clause-shown g c = λ told.
-    let turn : turn_at c.loop-count.answer ≡ Creates (string_bytes c.in-Creates.path) c.in-Creates.content.items = sym c.in_ok-turn_of.ensures ∙ ap shown_turn c.in-Creates.is in
+pub returns-in_err-answer-in-Asks-clause-shown :
+    goal.returns-in_err-answer-in-Asks-clause-shown
+returns-in_err-answer-in-Asks-clause-shown g c = λ told.
     let C = g.C.Children in
-    let p = err_from_is_err_and c.from_residual-in_err-answer-in-Creates.result c.from_residual-in_err-answer-in-Creates.ensures.1 in
-    rw (p.1, p.2) (way_is_refused c.args.child (C.says c.args.children.now) (C.known c.args.children.now) (C.known c.loop-count.children) (C.known c.create.new.children) c.args.round.now (files_of c.args.made.now) (files_of c.loop-count.made) (files_of c.create.new.made) (1000 - c.loop-count.count) c.loop-count.answer _ _ c.in_err-answer-in-Creates.field-0.0 (c.loop-count.invariant.goes told) turn c.in_err-answer-in-Creates.ensures.keeps (λ e. c.in_err-answer-in-Creates.ensures.unsent (ap Err e))
-    (attends_then _ _ _ _ _ _ _ _ _ _ (c.loop-count.invariant.attends told) (c.create.ensures.attends told)).change)
+    let p = err_from_is_err_and c.from_residual-in_err-answer-in-Asks.result c.from_residual-in_err-answer-in-Asks.ensures.1 in
+    rw (p.1, p.2) (way_is_free c.args.child (C.says c.args.children.now) (record { limit = c.args.limit; round = c.args.round.now }) c.args.filer.now (C.known c.args.children.now) (C.known c.take_turn.new.children) c.take_turn.new.filer c.in_err-answer-in-Asks.field-0.0 c.in_err-answer-in-Asks.ensures.free
+    (attends_then _ _ _ _ _ _ _ _ _ _ (c.loop-count.invariant.attends told) (c.take_turn.ensures.attends told)).change)
 
-pub returns-in-Ends-2-clause-shown : goal.returns-in-Ends-2-clause-shown
-returns-in-Ends-2-clause-shown g c = λ told.
-    let turn : turn_at c.loop-count.answer ≡ Ends = sym c.in_ok-turn_of-2.ensures ∙ ap shown_turn c.in-Ends-2.is in
-    way_ends _ _ _ _ _ _ _ _ _ (c.loop-count.invariant.goes told) turn
+pub returns-in-Ends-turn_of-clause-shown : goal.returns-in-Ends-turn_of-clause-shown
+returns-in-Ends-turn_of-clause-shown g c = λ told.
+    let turn : turn_at c.loop-count.answer ≡ Ends = sym c.turn_of-2.ensures ∙ c.in-Ends-turn_of.is in
+    way_ends _ _ _ _ _ _ _ _ _ _ (c.loop-count.invariant.goes told) turn
 
-pub returns-in_default-clause-shown : goal.returns-in_default-clause-shown
-returns-in_default-clause-shown g c = λ told.
-    let none : 1000 - c.loop-count.count ≡ 0 = omega (arith, c.loop-count-test.false) in
-    way_too_long _ _ _ _ _ _ _ _ _ none (c.loop-count.invariant.goes told) (λ ends. c.in_default.not-Ends (shown_ends c.in_ok-turn_of-2.field-0 (c.in_ok-turn_of-2.ensures ∙ ends)))
+pub returns-in-Leaves-turn_of-clause-shown : goal.returns-in-Leaves-turn_of-clause-shown
+returns-in-Leaves-turn_of-clause-shown g c = λ told.
+    let turn : turn_at c.loop-count.answer ≡ Leaves = sym c.turn_of-2.ensures ∙ c.in-Leaves-turn_of.is in
+    way_leaves _ _ _ _ _ _ _ _ _ _ (c.loop-count.invariant.goes told) turn
+
+pub returns-in-Asks-turn_of-clause-shown : goal.returns-in-Asks-turn_of-clause-shown
+returns-in-Asks-turn_of-clause-shown g c = λ told.
+    let none : c.args.limit - c.loop-count.count ≡ 0 = omega (arith, c.loop-count-test.false) in
+    let turn : turn_at c.loop-count.answer ≡ Asks c.in-Asks-turn_of.field-0 = sym c.turn_of-2.ensures ∙ c.in-Asks-turn_of.is in
+    way_is_full _ _ _ _ _ _ _ _ _ _ (c.loop-count.invariant.goes told) c.in-Asks-turn_of.field-0 none turn

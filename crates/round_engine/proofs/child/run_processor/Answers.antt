@@ -1,10 +1,10 @@
 use Rattle.std.proofs.Common.{◌≡◌, Some, Ok, Err, IsSomeAnd, ap, sym, ◌∙◌, subst, map, string_bytes, rules}
-use Rattle.std.specs.FinMap as fin
 use Rattle.apt_outside.specs.Child.{Try, without}
-use Rattle.apt_outside.specs.Held.{files_of, shown_file}
+use Rattle.apt_outside.specs.Held.{files_of}
 use Rattle.apt_outside.proofs.Live.{without_last}
-use Rattle.round_engine.specs.Run.{run_of, begun, CameTo}
-use Rattle.round_engine.proofs.Sessions.{ran_ok, ran_err}
+use Rattle.round_engine.specs.Run.{run_of}
+use Rattle.round_engine.specs.Shown.{begun, CameTo}
+use Rattle.round_engine.proofs.Sessions.{ran}
 use Rattle.round_engine.proofs.child.run_processor.Goals as goal
 
 pub returns-in-Ok-clause-live : goal.returns-in-Ok-clause-live
@@ -28,10 +28,9 @@ returns-in-Ok-clause-runs g c = λ told.
     let begins = c.in_ok-child.ensures.child told in
     let at0 : C.known c.start.new.self child ≡ Some (begun (C.says c.start.new.self) processor) =
     begins.begun ∙ ap (λ n. Some (begun (C.says c.args.children.now) (n, command))) name_is ∙ ap (λ s. Some (begun s processor)) (sym said) in
-    let none : files_of c.new-made.result ≡ fin.empty = ap (λ es. fin.from_entries (map shown_file es)) c.new-made.ensures.empty in
-    let came = subst (λ says. IsSomeAnd (C.known c.show_all-outcome.new.children child) (CameTo (run_of says processor (files_of c.args.units.now)) processor (files_of c.show_all-outcome.new.made) (Ok tt))) said ((c.in-Ok.ensures.came told).came command at0 none) in
-    ran_ok child (C.says c.args.children.now) processor (files_of c.args.units.now) (C.known c.args.children.now) (C.known c.start.new.self) (C.known c.show_all-outcome.new.children) (C.known c.stop.new.self)
-    begins.others (c.show_all-outcome.ensures.attends told).change (c.stop.ensures.change told) (c.stop.ensures.sent told) c.show_all-outcome.new.made came
+    let came = subst (λ says. IsSomeAnd (C.known c.show_all-outcome.new.children child) (CameTo (run_of says processor (files_of c.args.units.now)) processor c.show_all-outcome.new.filer (Ok c.in-Ok.rounds))) said ((c.in-Ok.ensures.came told).came command at0) in
+    ran child (C.says c.args.children.now) processor (files_of c.args.units.now) (C.known c.args.children.now) (C.known c.start.new.self) (C.known c.show_all-outcome.new.children) (C.known c.stop.new.self) c.show_all-outcome.new.filer (Ok c.in-Ok.rounds)
+    begins.others (c.show_all-outcome.ensures.attends told).change (c.stop.ensures.change told) (c.stop.ensures.sent told) came
 
 pub returns-in-Err-clause-runs : goal.returns-in-Err-clause-runs
 returns-in-Err-clause-runs g c = λ told.
@@ -44,7 +43,6 @@ returns-in-Err-clause-runs g c = λ told.
     let begins = c.in_ok-child.ensures.child told in
     let at0 : C.known c.start.new.self child ≡ Some (begun (C.says c.start.new.self) processor) =
     begins.begun ∙ ap (λ n. Some (begun (C.says c.args.children.now) (n, command))) name_is ∙ ap (λ s. Some (begun s processor)) (sym said) in
-    let none : files_of c.new-made.result ≡ fin.empty = ap (λ es. fin.from_entries (map shown_file es)) c.new-made.ensures.empty in
-    let came = subst (λ says. IsSomeAnd (C.known c.show_all-outcome.new.children child) (CameTo (run_of says processor (files_of c.args.units.now)) processor (files_of c.show_all-outcome.new.made) (Err c.in-Err.fault))) said ((c.in-Err.ensures.came told).came command at0 none) in
-    ran_err child (C.says c.args.children.now) processor (files_of c.args.units.now) (C.known c.args.children.now) (C.known c.start.new.self) (C.known c.show_all-outcome.new.children) (C.known c.stop.new.self)
-    begins.others (c.show_all-outcome.ensures.attends told).change (c.stop.ensures.change told) (c.stop.ensures.sent told) (files_of c.show_all-outcome.new.made) c.in-Err.fault came
+    let came = subst (λ says. IsSomeAnd (C.known c.show_all-outcome.new.children child) (CameTo (run_of says processor (files_of c.args.units.now)) processor c.show_all-outcome.new.filer (Err c.in-Err.fault))) said ((c.in-Err.ensures.came told).came command at0) in
+    ran child (C.says c.args.children.now) processor (files_of c.args.units.now) (C.known c.args.children.now) (C.known c.start.new.self) (C.known c.show_all-outcome.new.children) (C.known c.stop.new.self) c.show_all-outcome.new.filer (Err c.in-Err.fault)
+    begins.others (c.show_all-outcome.ensures.attends told).change (c.stop.ensures.change told) (c.stop.ensures.sent told) came

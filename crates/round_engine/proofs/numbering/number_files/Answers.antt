@@ -25,7 +25,7 @@ loop-path-preserved c =
     let files : List Made = c.loop-path.files in
     let file : Made = c.in_ok-made_file.field-0 in
     let store : ℕ = c.in_ok-store.store in
-    let is : file ≡ record { path = string_bytes c.in-Some.path; store = store; bytes = c.in-Some.bytes.items } = c.in_ok-made_file.ensures.file in
+    let is : file ≡ record { path = string_bytes c.in-Some.path; store = store; written = true; bytes = c.in-Some.bytes.items } = c.in_ok-made_file.ensures.file in
     let pushed : c.push.new.self ≡ files ++ file ∷ [] = c.in_ok-push.ensures.ok in
     let rest : c.loop-path.path-iterator ≡ (c.in-Some.path, c.in-Some.bytes) ∷ c.next.new.self = c.in-Some.ensures.steps in
     let some : c.give.result ≡ Some store = grind arith in
@@ -34,12 +34,13 @@ loop-path-preserved c =
     let ahead : AreAhead c.give.new.self.taken.now (store + 1) = rw after at c.give.ensures.ahead in
     let same : SameFrom (store + 1) c.loop-path.numbers.taken.now c.give.new.self.taken.now = rw after at c.give.ensures.same in
     let stands : Stands c.args.taken.now (map (λ (f : Made). f.store) files ++ store ∷ []) c.give.new.self.taken.now (store + 1) = Stands-push _ _ _ _ store c.loop-path.invariant.numbers free _ ahead same in
-    let fits : (length (string_bytes c.in-Some.path) < 2 ^ 32) × (length c.in-Some.bytes.items < 2 ^ 32) = c.in_ok-made_file.ensures.fits.0 refl in
+    let sized : (length (string_bytes c.in-Some.path) < 2 ^ 32) × (length c.in-Some.bytes.items < 2 ^ 32) = c.in_ok-made_file.ensures.fits.0 refl in
+    let fits : (store < 2 ^ 32) × (length (string_bytes c.in-Some.path) < 2 ^ 32) × (length c.in-Some.bytes.items < 2 ^ 32) = (c.in_ok-made_file.ensures.store, sized.0, sized.1) in
     record {
       files = rw pushed (shown_more files file (c.in-Some.path, c.in-Some.bytes) c.next.new.self _ (rw is refl) (rw is refl) (rw rest at c.loop-path.invariant.files));
       numbers = rw (pushed, map-append (λ (f : Made). f.store) files (file ∷ []), is, after) stands;
       texts = rw pushed (All-push (λ (f : Made). is_text f.path ≡ true) files file c.loop-path.invariant.texts c.in_ok-made_file.ensures.text);
-      sizes = rw pushed (All-push (λ (f : Made). (length f.path < 2 ^ 32) × (length f.bytes < 2 ^ 32)) files file c.loop-path.invariant.sizes (rw is fits));
+      sizes = rw pushed (All-push (λ (f : Made). (f.store < 2 ^ 32) × (length f.path < 2 ^ 32) × (length f.bytes < 2 ^ 32)) files file c.loop-path.invariant.sizes (rw is fits));
     }
 
 pub returns-clause-files : goal.returns-clause-files

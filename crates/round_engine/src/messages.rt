@@ -1,0 +1,69 @@
+// The messages of a run.
+ghost use Rattle.std.specs.Prelude.{◌≡◌, ◌++◌, OnOk};
+ghost use Rattle.round_engine.specs.Run.{place, has_error};
+ghost use Rattle.round_engine.specs.Clean.{is_error, is_warning, count_of};
+
+use decl_syntax::{List, NoMemory};
+use wire_frames::Message;
+
+/// A message with its place in the order of a run's messages.
+#[derive(Debug, Drop)]
+pub struct Placed {
+    /// The round in which it was printed, from 1.
+    pub round: u32,
+    /// The number of the processor that printed it, from 0.
+    pub processor: u16,
+    /// Its number among the messages of that processor in that round, from 0.
+    pub number: u32,
+    /// The message.
+    pub message: Message,
+}
+
+/// Whether one of the messages is an error.
+pub fn has_error(messages: &[Message]) -> bool
+    ensures { result ≡ has_error messages.now }
+{
+    messages.iter().any(|message| message.kind == 0)
+}
+
+/// Adds the messages that the processor printed in a round to those of the rounds before. No memory holds 2^32 messages,
+/// so that these too are answered with `NoMemory`.
+pub fn place(
+    messages: &mut List<Placed>,
+    round: u32,
+    printed: List<Message>,
+) -> Result<(), NoMemory>
+    ensures { OnOk result (messages.new ≡ messages.old ++ place round 0 printed) }
+{
+    let mut number: u32 = 0;
+    for message in printed.into_vec() {
+        messages.push(Placed {
+            round,
+            processor: 0,
+            number,
+            message,
+        })?;
+        number = number.checked_add(1).ok_or(NoMemory)?;
+    }
+    Ok(())
+}
+
+/// How many errors were printed.
+pub fn count_errors(messages: &[Placed]) -> u64
+    ensures { result ≡ count_of is_error messages.now }
+{
+    messages
+        .iter()
+        .filter(|placed| placed.message.kind == 0)
+        .count() as u64
+}
+
+/// How many warnings and mandatory warnings were printed.
+pub fn count_warnings(messages: &[Placed]) -> u64
+    ensures { result ≡ count_of is_warning messages.now }
+{
+    messages
+        .iter()
+        .filter(|placed| placed.message.kind == 1 || placed.message.kind == 2)
+        .count() as u64
+}
