@@ -8,29 +8,12 @@ with status 1. The last line is 'first path: N passed, M failed'.
 """
 import os
 import shutil
-import signal
 import subprocess
-import sys
-import tempfile
 import time
 
-HERE = os.path.dirname(os.path.abspath(__file__))
-PROGRAM = os.path.join(HERE, "..", "crates", "apt_cli", "out", "apt_cli")
-CHILD = os.path.join(HERE, "scripted_child.py")
-SECONDS = 60
-
-SOURCE = b"package p; @q.A class C {}"
-
-# What the host sends.
-INIT = "00000010" "0100000005" "6d616b6572" "000b" "00000000"
-FIRST_ROUND = "0000001d" "02000000010000" "0000000100000003" "712e41" "0000000100000003" "702e43"
-LAST_ROUND = "0000000f" "02000000020100" "0000000000000000"
-ACCEPTED = "00000002" "1700"
-
-# What a child says.
-HELLO = "00000011" "4000000001" "00000003712e41" "0000000000"
-CREATE = "00000015" "4300" "00000000" "0000000178" "000000026869" "00000000"
-DONE = "00000002" "4101"
+from host import (ACCEPTED, BAD_WORDS, CHILD_FAULT, CREATE, DONE, DONE_STATUS, EXISTS, FIRST_ROUND, HELLO, INIT,
+                  LAST_ROUND, SECONDS, SINK_FAULT, SOURCE, TREE_FAULT, UNBUILT_FORM, UNBUILT_TALK, Cases, Failure,
+                  expect, former_stands, frame_of, processes_of, program, record_of, refused, text_of)
 
 # The steps of a child that creates one file, and of one that creates nothing.
 CREATES = ["read", "say:" + HELLO, "read", "say:" + CREATE, "read", "say:" + DONE, "read", "say:" + DONE, "rest"]
@@ -44,158 +27,7 @@ REPORT_OF_ONE_FILE = (
 REPORT_OF_NO_FILE = b"mode: clean (Full), started 1\ndone: 2 rounds, 0 files, 0 errors, 0 warnings\n"
 REPORT_WITHOUT_PROCESSOR = b"mode: clean (Full), started 0\ndone: 2 rounds, 0 files, 0 errors, 0 warnings\n"
 
-DONE_STATUS, BAD_WORDS, TREE_FAULT, SINK_FAULT, CHILD_FAULT, UNBUILT_FORM, UNBUILT_TALK = 0, 2, 4, 5, 7, 25, 26
-
-
-class Failure(Exception):
-    """What a case has shown to be wrong."""
-
-
-def expect(what, seen, wanted):
-    if seen != wanted:
-        raise Failure(f"{what}: {seen!r}, and not {wanted!r}")
-
-
-def record_of(files):
-    """The record of published files, by the number of each path's store file."""
-    text = bytes.fromhex("41505452" "0000") + len(files).to_bytes(4, "big")
-    for path, (number, content) in sorted(files.items()):
-        text += len(path).to_bytes(4, "big") + path.encode()
-        text += number.to_bytes(4, "big") + len(content).to_bytes(4, "big")
-    return text
-
-
-def text_of(text):
-    return len(text).to_bytes(4, "big").hex() + text.encode().hex()
-
-
-def frame_of(body):
-    return (len(body) // 2).to_bytes(4, "big").hex() + body
-
-
-FORMER = {"CLASS_OUTPUT/former": (0, b"what stood before")}
-
-
-class Run:
-    """How one run of the program ended."""
-
-    def __init__(self, status, output, messages):
-        self.status = status
-        self.output = output
-        self.messages = messages
-
-
-class Project:
-    """A fresh folder with one source, and what the program is called with there."""
-
-    def __init__(self):
-        self.folder = tempfile.mkdtemp(prefix="apt-first-path-")
-        self.record = os.path.join(self.folder, "child-record")
-        self.write("src/p/C.java", SOURCE)
-
-    def path(self, name):
-        return os.path.join(self.folder, name)
-
-    def write(self, name, content):
-        os.makedirs(os.path.dirname(self.path(name)), exist_ok=True)
-        with open(self.path(name), "wb") as file:
-            file.write(content)
-
-    def read(self, name):
-        with open(self.path(name), "rb") as file:
-            return file.read()
-
-    def publish_former(self):
-        self.write("out/store/0", FORMER["CLASS_OUTPUT/former"][1])
-        self.write("out/record", record_of(FORMER))
-
-    def published(self):
-        """The bytes of each published file, by its path."""
-        record = self.read("out/record")
-        expect("the first bytes of the record", record[:6].hex(), "415054520000")
-        count, at, files = int.from_bytes(record[6:10], "big"), 10, {}
-        for _ in range(count):
-            length = int.from_bytes(record[at:at + 4], "big")
-            path = record[at + 4:at + 4 + length].decode()
-            at += 4 + length
-            store, size = (int.from_bytes(record[at + k:at + k + 4], "big") for k in (0, 4))
-            at += 8
-            content = self.read(f"out/store/{store}")
-            expect(f"the length of {path}", len(content), size)
-            files[path] = content
-        expect("the length of the record", len(record), at)
-        return files
-
-    def scripted(self, steps):
-        """The words of a build with a child that follows these steps."""
-        return ["build", "maker", sys.executable, CHILD, self.record, *steps]
-
-    def sent(self):
-        """All bytes that the scripted child read."""
-        return self.read("child-record").hex()
-
-    def run(self, words, stdout=subprocess.PIPE, before=(), environment=None):
-        """Runs the program, and sees that no child outlives it."""
-        command = [*before, os.path.abspath(PROGRAM), *words]
-        host = subprocess.Popen(command, cwd=self.folder, stdin=subprocess.DEVNULL, stdout=stdout,
-                                stderr=subprocess.PIPE, start_new_session=True, env=environment)
-        try:
-            output, messages = host.communicate(timeout=SECONDS)
-        except subprocess.TimeoutExpired:
-            end_session(host.pid)
-            host.communicate()
-            raise Failure(f"no end after {SECONDS} seconds") from None
-        left = processes_of(host.pid)
-        end_session(host.pid)
-        expect("processes that are left", left, [])
-        return Run(host.returncode, output, messages)
-
-    def remove(self):
-        shutil.rmtree(self.folder, ignore_errors=True)
-
-
-def processes_of(session):
-    """The numbers of the processes of a session, those that were not waited for included."""
-    found = []
-    for name in os.listdir("/proc"):
-        if name.isdigit():
-            try:
-                with open(f"/proc/{name}/stat", "rb") as file:
-                    fields = file.read().rpartition(b")")[2].split()
-            except OSError:
-                continue
-            if int(fields[3]) == session:
-                found.append(int(name))
-    return found
-
-
-def end_session(session):
-    for number in processes_of(session):
-        try:
-            os.kill(number, signal.SIGKILL)
-        except OSError:
-            pass
-
-
-CASES = []
-
-
-def case(function):
-    CASES.append(function)
-    return function
-
-
-def refused(project, words, status, line, **how):
-    """A build that is refused prints this line alone, and the former output stands."""
-    project.publish_former()
-    run = project.run(words, **how)
-    expect("the output", run.output, f"refused: {line}\n".encode())
-    expect("the status", run.status, status)
-    former_stands(project)
-
-
-def former_stands(project):
-    expect("the published files", project.published(), {"CLASS_OUTPUT/former": b"what stood before"})
+case = Cases("first path")
 
 
 # One round, from bytes to a published record.
@@ -443,8 +275,10 @@ def frames_longer_than_a_pipe_holds(project):
 
 @case
 def a_child_that_creates_a_file_twice(project):
-    steps = CREATES[:5] + ["say:" + CREATE, "rest"]
-    refused(project, project.scripted(steps), UNBUILT_TALK, "UnbuiltTalk(maker)")
+    run = project.run(project.scripted(CREATES[:5] + ["say:" + CREATE, "read"] + CREATES[5:]))
+    expect("the output", run.output, REPORT_OF_ONE_FILE)
+    expect("what the child was sent", project.sent(), INIT + FIRST_ROUND + ACCEPTED + EXISTS + LAST_ROUND)
+    expect("the published files", project.published(), {"CLASS_OUTPUT/x": b"hi"})
 
 
 @case
@@ -606,7 +440,7 @@ def an_output_that_nobody_reads(project):
 @case
 def a_host_that_is_killed(project):
     project.publish_former()
-    command = [os.path.abspath(PROGRAM), *project.scripted(["read", "say:" + HELLO, "read", "rest"])]
+    command = [program(), *project.scripted(["read", "say:" + HELLO, "read", "rest"])]
     host = subprocess.Popen(command, cwd=project.folder, stdin=subprocess.DEVNULL, stdout=subprocess.DEVNULL,
                             stderr=subprocess.DEVNULL, start_new_session=True)
     wanted = len(INIT + FIRST_ROUND) // 2
@@ -645,27 +479,5 @@ def a_leftover_of_an_earlier_stop(project):
     expect("the files below out", sorted(os.listdir(project.path("out"))), ["record", "store"])
 
 
-def main():
-    global PROGRAM
-    if len(sys.argv) > 1:
-        PROGRAM = sys.argv[1]
-    if not os.path.exists(PROGRAM):
-        sys.exit(f"there is no program {PROGRAM}: build it by 'rt run' in crates/apt_cli")
-    passed = 0
-    for function in CASES:
-        project = Project()
-        try:
-            function(project)
-        except (Failure, OSError) as failure:
-            print(f"{function.__name__}: FAILED: {failure}")
-            print(f"first path: {passed} passed, 1 failed")
-            sys.exit(1)
-        finally:
-            project.remove()
-        passed += 1
-        print(f"{function.__name__}: ok", flush=True)
-    print(f"first path: {passed} passed, 0 failed")
-
-
 if __name__ == "__main__":
-    main()
+    case.main()

@@ -8,6 +8,7 @@ It writes its process number to RECORD.pid, and all bytes that it reads to RECOR
     rest          reads to the end of its input
     say:HEX       writes these bytes at once
     spell:HEX     writes these bytes one by one
+    ask:COUNT:HEX writes these bytes COUNT times, and reads a frame for each time; at most 1,000 are on their way
     make:FILE     writes the bytes of a file
     flood:COUNT   writes that many bytes that nobody asked for
     complain:TEXT writes a line to its standard error
@@ -50,6 +51,16 @@ class Child:
         for byte in bytes.fromhex(text):
             give(bytes([byte]))
             time.sleep(0.001)
+
+    def ask(self, argument):
+        count, _, text = argument.partition(":")
+        frame, left = bytes.fromhex(text), int(count)
+        while left > 0:
+            some = min(left, 1000)
+            give(frame * some)
+            for _ in range(some):
+                self.read()
+            left -= some
 
     def make(self, name):
         with open(name, "rb") as file:

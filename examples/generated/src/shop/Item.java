@@ -1,0 +1,1 @@
+package shop; @q.A class Item {}

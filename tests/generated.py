@@ -1,0 +1,682 @@
+#!/usr/bin/env python3
+"""Runs the built program with processors that create sources and resources and print messages, over real pipes.
+
+    tests/generated.py [PROGRAM]
+
+PROGRAM is crates/apt_cli/out/apt_cli where it is left out. Each case prints a line. The first that fails ends the run
+with status 1. The last line is 'generated: N passed, M failed'.
+"""
+import os
+
+from host import (ACCEPTED, BAD_NAME, CREATE, DONE, DONE_STATUS, ERRORS, EXISTS, FIRST_ROUND, GENERATED_DUPLICATE,
+                  HELLO, HERE, INIT, LAST_ROUND, NOTED, TOO_LARGE, TOO_MANY_QUESTIONS, TOO_MANY_ROUNDS, UNBUILT_FORM,
+                  UNBUILT_TALK, UNSUPPORTED, Cases, Failure, bytes_of, expect, former_stands, frame_of, number_of,
+                  record_of, refused, text_of, texts_of)
+
+case = Cases("generated")
+
+ERROR, WARNING, MANDATORY_WARNING, NOTE, OTHER = range(5)
+CLASS_OUTPUT, SOURCE_OUTPUT, NATIVE_HEADER_OUTPUT = range(3)
+
+NO_ORIGINS = number_of(0)
+ONE_ORIGIN = number_of(1) + text_of("p.C") + number_of(0)
+
+# The most bytes of one content, and of all contents and paths together.
+LONGEST, ALL = 8_388_608, 67_108_864
+
+
+# What a child sends, and the rounds that it is sent.
+
+
+def source_of(name):
+    """A source file that gives this type."""
+    package, _, simple = name.rpartition(".")
+    return f"package {package}; @q.A class {simple} {{}}".encode()
+
+
+def create_source(name, content=None, origins=NO_ORIGINS):
+    return frame_of("42" + text_of(name) + bytes_of(source_of(name) if content is None else content) + origins)
+
+
+def create_resource(relative, content=b"hi", package="", location=CLASS_OUTPUT, origins=NO_ORIGINS):
+    fields = f"{location:02x}" + text_of(package) + text_of(relative) + bytes_of(content)
+    return frame_of("43" + fields + origins)
+
+
+def create_class(name, content=b"", origins=NO_ORIGINS):
+    return frame_of("44" + text_of(name) + bytes_of(content) + origins)
+
+
+def message(kind, text, element="00"):
+    return frame_of("45" + f"{kind:02x}" + element + text_of(text))
+
+
+def round_frame(number, roots, over=False, error=False, offered=("q.A",)):
+    flags = f"{over:02x}{error:02x}"
+    return frame_of("02" + number_of(number) + flags + texts_of(offered) + texts_of(roots))
+
+
+def last_round(number, error=False):
+    return round_frame(number, (), over=True, error=error, offered=())
+
+
+def talk(*rounds):
+    """The steps of a child that sends these frames in its rounds, and waits for the reply to each.
+
+    A list among the frames is steps that stand as they are.
+    """
+    steps = ["read", "say:" + HELLO]
+    for frames in rounds:
+        steps.append("read")
+        for frame in frames:
+            steps += frame if isinstance(frame, list) else ["say:" + frame, "read"]
+        steps.append("say:" + DONE)
+    return steps + ["rest"]
+
+
+def from_file(project, name, *frames):
+    """Steps that send frames too long for words, and wait for their replies."""
+    project.write(name, bytes.fromhex("".join(frames)))
+    return ["make:" + project.path(name), *["read"] * len(frames)]
+
+
+# What a build gives.
+
+
+def report(*lines):
+    return "".join(line + "\n" for line in ("mode: clean (Full), started 1", *lines)).encode()
+
+
+def done(rounds, files, warnings=0):
+    return f"done: {rounds} rounds, {files} files, 0 errors, {warnings} warnings"
+
+
+def unread(name):
+    return f"warning: [host] type {name} was created in the last round and is not processed"
+
+
+def file_lines(files):
+    """The lines of published files, given by their paths, ascending."""
+    return [f"file {path} {len(content)}" for path, content in sorted(files.items())]
+
+
+def publishes(project, rounds, wanted, files, sent=None):
+    """A build with this talk, whose report has these lines after the first, publishes these files."""
+    run = project.run(project.scripted(talk(*rounds)))
+    expect("the output", run.output, report(*wanted))
+    expect("the status", run.status, DONE_STATUS)
+    expect("the published files", project.published(), files)
+    if sent is not None:
+        expect("what the child was sent", project.sent(), INIT + "".join(sent))
+
+
+def errs(project, rounds, wanted, sent=None):
+    """A build with this talk prints errors; what stood before stands, and the store gains nothing."""
+    project.publish_former()
+    run = project.run(project.scripted(talk(*rounds)))
+    expect("the output", run.output, report(*wanted))
+    expect("the status", run.status, ERRORS)
+    nothing_changed(project)
+    if sent is not None:
+        expect("what the child was sent", project.sent(), INIT + "".join(sent))
+
+
+def nothing_changed(project):
+    former_stands(project)
+    expect("the files of the store", os.listdir(project.path("out/store")), ["0"])
+
+
+def refuses(project, rounds, status, line):
+    """A build with this talk is refused with this line, and the store gains nothing."""
+    refused(project, project.scripted(talk(*rounds)), status, line)
+    nothing_changed(project)
+
+
+def answers(project, frames, wanted):
+    """The replies to the frames of round 1."""
+    run = project.run(project.scripted(talk(frames, [])))
+    expect("the status", run.status, DONE_STATUS)
+    expect("what the child was sent", project.sent(), INIT + FIRST_ROUND + "".join(wanted) + LAST_ROUND)
+    return run
+
+
+# The frames as these cases write them, against the same written out by hand.
+
+
+@case
+def frames_written_out(_project):
+    expect("a created source", create_source("p.D"),
+           "0000002a" "42" "00000003702e44"
+           "0000001a" "7061636b61676520703b2040712e4120636c6173732044207b7d" "00000000")
+    expect("a created resource", create_resource("x"), CREATE)
+    expect("a created class", create_class("p.D"), "00000010" "44" "00000003702e44" "00000000" "00000000")
+    expect("an error", message(ERROR, "bad"), "0000000a" "45" "00" "00" "00000003626164")
+    expect("the first round", round_frame(1, ["p.C"]), FIRST_ROUND)
+    expect("the last round", last_round(2), LAST_ROUND)
+    expect("a last round after an error", last_round(2, error=True), "0000000f" "02" "00000002" "01" "01" + "00" * 8)
+
+
+@case
+def the_exchange_of_the_document(project):
+    with open(os.path.join(HERE, "..", "docs", "PROTOCOL.md"), encoding="utf-8") as file:
+        exchange, wanted = file.read().split("```\n")[1::2]
+    frames = [(sender, "".join(digits)) for sender, _, *digits in map(str.split, exchange.splitlines())]
+    steps = ["read" if sender == "host" else "say:" + frame for sender, frame in frames]
+    run = project.run(project.scripted([*steps, "rest"]))
+    expect("what the child was sent", project.sent(), "".join(frame for sender, frame in frames if sender == "host"))
+    expect("the output", run.output, wanted.encode())
+    expect("the status", run.status, DONE_STATUS)
+
+
+# A created source makes a further round; a path, an error, a type and the rounds have their bounds.
+
+
+@case
+def a_created_source_is_the_root_of_the_next_round(project):
+    publishes(project, [[create_source("p.D")], [], []], ["file SOURCE_OUTPUT/p/D.java 26", done(3, 1)],
+              {"SOURCE_OUTPUT/p/D.java": b"package p; @q.A class D {}"},
+              sent=["0000001d" "02" "00000001" "00" "00" "00000001" "00000003712e41" "00000001" "00000003702e43",
+                    "00000002" "17" "00",
+                    "0000001d" "02" "00000002" "00" "00" "00000001" "00000003712e41" "00000001" "00000003702e44",
+                    "0000000f" "02" "00000003" "01" "00" "00000000" "00000000"])
+    expect("the record", project.read("out/record"),
+           record_of({"SOURCE_OUTPUT/p/D.java": (0, b"package p; @q.A class D {}")}))
+    expect("the files below out", sorted(os.listdir(project.path("out"))), ["record", "store"])
+
+
+@case
+def a_path_that_is_created_twice(project):
+    publishes(project, [[CREATE, create_resource("x", b"other")], []], ["file CLASS_OUTPUT/x 2", done(2, 1)],
+              {"CLASS_OUTPUT/x": b"hi"}, sent=[FIRST_ROUND, ACCEPTED, "00000002" "1701", LAST_ROUND])
+
+
+@case
+def an_error_ends_the_build(project):
+    errs(project, [["0000000a45000000000003626164"], []],
+         ["error: [maker] bad", "errors: 2 rounds, 1 errors, 0 warnings"],
+         sent=[FIRST_ROUND, "00000001" "18", "0000000f" "02" "00000002" "01" "01" "00000000" "00000000"])
+
+
+@case
+def an_error_leaves_no_output_behind(project):
+    run = project.run(project.scripted(talk([CREATE, message(ERROR, "bad")], [])))
+    expect("the status", run.status, ERRORS)
+    expect("whether there is an output", os.path.exists(project.path("out/record")), False)
+    run = project.run(project.scripted(talk([CREATE], [])))
+    expect("the output of the next build", run.output, report("file CLASS_OUTPUT/x 2", done(2, 1)))
+    expect("the published files", project.published(), {"CLASS_OUTPUT/x": b"hi"})
+
+
+@case
+def a_created_source_of_a_type_that_is_there(project):
+    refuses(project, [[create_source("p.E", b"package p; @q.A class C {}")]], GENERATED_DUPLICATE,
+            "GeneratedDuplicate(p.C)")
+
+
+def chain(count):
+    """The rounds of a child that creates one source in each of so many rounds, and the names of the sources."""
+    names = [f"p.D{number:02}" for number in range(1, count + 1)]
+    return [[create_source(name)] for name in names], names
+
+
+@case
+def sources_in_each_of_sixty_two_rounds(project):
+    rounds, names = chain(62)
+    files = {f"SOURCE_OUTPUT/p/{name[2:]}.java": source_of(name) for name in names}
+    sent = []
+    for number, root in enumerate(["p.C", *names], 1):
+        sent += [round_frame(number, [root]), ACCEPTED]
+    sent[-1] = last_round(64)
+    publishes(project, [*rounds, [], []], [*file_lines(files), done(64, 62)], files, sent=sent)
+
+
+@case
+def sources_in_each_of_sixty_three_rounds(project):
+    rounds, names = chain(63)
+    refuses(project, rounds, TOO_MANY_ROUNDS, "TooManyRounds(64)")
+    sent = "".join(round_frame(number, [root]) + ACCEPTED for number, root in enumerate(["p.C", *names[:-1]], 1))
+    expect("what the child was sent", project.sent(), INIT + sent)
+
+
+@case
+def a_source_of_the_last_round(project):
+    publishes(project, [[], [create_source("p.Z")]], [unread("p.Z"), "file SOURCE_OUTPUT/p/Z.java 26", done(2, 1, 1)],
+              {"SOURCE_OUTPUT/p/Z.java": source_of("p.Z")}, sent=[FIRST_ROUND, LAST_ROUND, ACCEPTED])
+
+
+# Rounds.
+
+
+@case
+def roots_and_files_ascend(project):
+    names = ["p.Z", "r.B", "p.D", "a.b.C"]
+    files = {f"SOURCE_OUTPUT/{name.replace('.', '/')}.java": source_of(name) for name in names}
+    publishes(project, [[create_source(name) for name in names], [], []], [*file_lines(files), done(3, 4)], files,
+              sent=[FIRST_ROUND, *[ACCEPTED] * 4, round_frame(2, ["a.b.C", "p.D", "p.Z", "r.B"]), last_round(3)])
+    numbered = {path: (number, content) for number, (path, content) in enumerate(sorted(files.items()))}
+    expect("the record", project.read("out/record"), record_of(numbered))
+
+
+@case
+def a_later_round_offers_what_its_roots_have(project):
+    other = b"package p; @r.B class D {}"
+    publishes(project, [[create_source("p.D", other)], [create_source("p.E")], [], []],
+              ["file SOURCE_OUTPUT/p/D.java 26", "file SOURCE_OUTPUT/p/E.java 26", done(4, 2)],
+              {"SOURCE_OUTPUT/p/D.java": other, "SOURCE_OUTPUT/p/E.java": source_of("p.E")},
+              sent=[FIRST_ROUND, ACCEPTED, "00000016" "02" "00000002" "00" "00" "00000000" "00000001" "00000003702e44",
+                    ACCEPTED, round_frame(3, ["p.E"]), last_round(4)])
+
+
+@case
+def a_processor_that_is_never_asked(project):
+    project.write("src/p/C.java", b"package p; @r.B class C {}")
+    publishes(project, [], [done(2, 0)], {}, sent=[])
+
+
+@case
+def a_source_may_give_another_type_than_its_name_says(project):
+    files = {"SOURCE_OUTPUT/p/E.java": source_of("p.F"), "SOURCE_OUTPUT/p/F.java": source_of("p.G")}
+    publishes(project, [[create_source("p.E", source_of("p.F"))], [create_source("p.F", source_of("p.G"))], [], []],
+              [*file_lines(files), done(4, 2)], files,
+              sent=[FIRST_ROUND, ACCEPTED, round_frame(2, ["p.F"]), ACCEPTED, round_frame(3, ["p.G"]), last_round(4)])
+
+
+@case
+def a_type_that_an_earlier_round_gave(project):
+    refuses(project, [[create_source("p.E", source_of("p.F"))], [create_source("p.F")]], GENERATED_DUPLICATE,
+            "GeneratedDuplicate(p.F)")
+
+
+@case
+def two_sources_of_a_round_that_give_one_type(project):
+    refuses(project, [[create_source("p.E", source_of("p.X")), create_source("p.D", source_of("p.X"))]],
+            GENERATED_DUPLICATE, "GeneratedDuplicate(p.X)")
+
+
+@case
+def a_created_source_off_the_form(project):
+    refuses(project, [[create_source("p.D", b"package p; class D {}")]], UNBUILT_FORM,
+            "UnbuiltForm(SOURCE_OUTPUT/p/D.java)")
+
+
+@case
+def the_least_path_of_two_off_the_form(project):
+    off = b"not a source"
+    refuses(project, [[create_source("p.E", off), create_source("p.B"), create_source("p.D", off)]], UNBUILT_FORM,
+            "UnbuiltForm(SOURCE_OUTPUT/p/D.java)")
+
+
+@case
+def a_source_off_the_form_before_a_type_that_is_there(project):
+    refuses(project, [[create_source("p.E", source_of("p.C")), create_source("p.D", b"")]], UNBUILT_FORM,
+            "UnbuiltForm(SOURCE_OUTPUT/p/D.java)")
+
+
+@case
+def a_source_off_the_form_in_a_later_round(project):
+    refuses(project, [[CREATE, create_source("p.D")], [create_source("p.E", b"not a source")]], UNBUILT_FORM,
+            "UnbuiltForm(SOURCE_OUTPUT/p/E.java)")
+
+
+def long_source(name, length):
+    """A source of this length that gives this type, with a long package for its annotation and a line feed."""
+    start, end = b"package p; @q.A.", f" class {name} {{}}\n".encode()
+    return start + b"x" * (length - len(start) - len(end)) + end
+
+
+@case
+def the_longest_source_that_is_read(project):
+    content = long_source("D", 4096)
+    publishes(project, [[create_source("p.D", content)], [], []], ["file SOURCE_OUTPUT/p/D.java 4096", done(3, 1)],
+              {"SOURCE_OUTPUT/p/D.java": content},
+              sent=[FIRST_ROUND, ACCEPTED, round_frame(2, ["p.D"], offered=()), last_round(3)])
+
+
+@case
+def a_source_one_byte_longer(project):
+    refuses(project, [[create_source("p.D", long_source("D", 4097))]], UNBUILT_FORM,
+            "UnbuiltForm(SOURCE_OUTPUT/p/D.java)")
+
+
+@case
+def sources_of_the_last_round_are_not_read(project):
+    files = {"CLASS_OUTPUT/x": b"hi", "SOURCE_OUTPUT/p/D.java": source_of("p.D"),
+             "SOURCE_OUTPUT/p/Y.java": b"x" * 5000, "SOURCE_OUTPUT/p/Z.java": b"not a source"}
+    last = [create_source("p.Z", b"not a source"), CREATE, create_source("p.Y", b"x" * 5000)]
+    publishes(project, [[create_source("p.D")], [], last],
+              [unread("p.Y"), unread("p.Z"), *file_lines(files), done(3, 4, 2)], files)
+
+
+@case
+def a_child_that_writes_a_byte_at_a_time(project):
+    steps = [step.replace("say:", "spell:") for step in talk([create_source("p.D"), message(NOTE, "n")], [], [])]
+    run = project.run(project.scripted(steps))
+    expect("the output", run.output, report("note: [maker] n", "file SOURCE_OUTPUT/p/D.java 26", done(3, 1)))
+    expect("what the child was sent", project.sent(),
+           INIT + FIRST_ROUND + ACCEPTED + NOTED + round_frame(2, ["p.D"]) + last_round(3))
+
+
+@case
+def more_roots_than_a_pipe_holds(project):
+    names = [f"p.D{number:03}{'x' * 100}" for number in range(700)]
+    files = {f"SOURCE_OUTPUT/p/{name[2:]}.java": source_of(name) for name in names}
+    frames = from_file(project, "frames", *(create_source(name) for name in names))
+    publishes(project, [[frames], [], []], [*file_lines(files), done(3, 700)], files,
+              sent=[FIRST_ROUND, *[ACCEPTED] * 700, round_frame(2, names), last_round(3)])
+
+
+@case
+def new_files_beside_former_ones(project):
+    project.publish_former()
+    publishes(project, [[CREATE, create_source("p.D"), create_resource("a")], [], []],
+              ["file CLASS_OUTPUT/a 2", "file CLASS_OUTPUT/x 2", "file SOURCE_OUTPUT/p/D.java 26", done(3, 3)],
+              {"CLASS_OUTPUT/a": b"hi", "CLASS_OUTPUT/x": b"hi", "SOURCE_OUTPUT/p/D.java": source_of("p.D")})
+    expect("the files of the store", sorted(os.listdir(project.path("out/store"))), ["0", "1", "2", "3"])
+    expect("the record", project.read("out/record"), record_of({
+        "CLASS_OUTPUT/a": (1, b"hi"), "CLASS_OUTPUT/x": (2, b"hi"), "SOURCE_OUTPUT/p/D.java": (3, source_of("p.D"))}))
+
+
+# Messages.
+
+
+@case
+def messages_of_each_kind(project):
+    frames = [message(OTHER, "one"), message(NOTE, "two"), CREATE, message(MANDATORY_WARNING, "three"),
+              message(WARNING, "four")]
+    publishes(project, [frames, []],
+              ["other: [maker] one", "note: [maker] two", "mandatory_warning: [maker] three", "warning: [maker] four",
+               "file CLASS_OUTPUT/x 2", done(2, 1, 2)], {"CLASS_OUTPUT/x": b"hi"},
+              sent=[FIRST_ROUND, NOTED, NOTED, ACCEPTED, NOTED, NOTED, LAST_ROUND])
+
+
+@case
+def characters_of_a_message(project):
+    publishes(project, [[message(NOTE, "a\\b\nc\rd\r\ne\\n"), message(NOTE, ""), message(NOTE, "\tä€𝄞\0")], []],
+              ["note: [maker] a\\\\b\\nc\\rd\\r\\ne\\\\n", "note: [maker] ", "note: [maker] \tä€𝄞\0",
+               done(2, 0)], {})
+
+
+@case
+def messages_in_the_order_of_rounds(project):
+    publishes(project, [[message(WARNING, "1"), create_source("p.D")], [message(NOTE, "2"), message(WARNING, "3")],
+                        [create_source("p.E"), message(OTHER, "4")]],
+              ["warning: [maker] 1", "note: [maker] 2", "warning: [maker] 3", "other: [maker] 4", unread("p.E"),
+               "file SOURCE_OUTPUT/p/D.java 26", "file SOURCE_OUTPUT/p/E.java 26", done(3, 2, 3)],
+              {"SOURCE_OUTPUT/p/D.java": source_of("p.D"), "SOURCE_OUTPUT/p/E.java": source_of("p.E")})
+
+
+@case
+def a_message_longer_than_a_pipe_holds(project):
+    text = "€\n" * 100_000
+    run = project.run(project.scripted(talk([from_file(project, "frame", message(NOTE, text))], [])))
+    expect("the output", run.output, report("note: [maker] " + "€\\n" * 100_000, done(2, 0)))
+    expect("the status", run.status, DONE_STATUS)
+
+
+# Errors.
+
+
+@case
+def an_error_in_the_last_round(project):
+    errs(project, [[CREATE], [message(WARNING, "w"), message(ERROR, "late\n"), message(ERROR, "again")]],
+         ["warning: [maker] w", "error: [maker] late\\n", "error: [maker] again",
+          "errors: 2 rounds, 2 errors, 1 warnings"],
+         sent=[FIRST_ROUND, ACCEPTED, LAST_ROUND, NOTED, NOTED, NOTED])
+
+
+@case
+def a_source_beside_an_error_is_not_read(project):
+    errs(project, [[create_source("p.D", b"not a source"), message(ERROR, "bad")], []],
+         ["error: [maker] bad", "errors: 2 rounds, 1 errors, 0 warnings"],
+         sent=[FIRST_ROUND, ACCEPTED, NOTED, last_round(2, error=True)])
+
+
+@case
+def an_error_in_a_later_round(project):
+    errs(project, [[create_source("p.D")], [message(ERROR, "bad"), create_source("p.E")], []],
+         ["error: [maker] bad", "errors: 3 rounds, 1 errors, 0 warnings"],
+         sent=[FIRST_ROUND, ACCEPTED, round_frame(2, ["p.D"]), NOTED, ACCEPTED, last_round(3, error=True)])
+
+
+@case
+def an_error_and_a_source_of_the_last_round(project):
+    errs(project, [[message(ERROR, "bad")], [create_source("p.Z")]],
+         ["error: [maker] bad", unread("p.Z"), "errors: 2 rounds, 1 errors, 1 warnings"])
+
+
+@case
+def an_error_in_round_sixty_three(project):
+    rounds, _ = chain(63)
+    rounds[-1].append(message(ERROR, "bad"))
+    errs(project, [*rounds, []], ["error: [maker] bad", "errors: 64 rounds, 1 errors, 0 warnings"])
+
+
+@case
+def an_error_before_a_refusal(project):
+    refuses(project, [[message(ERROR, "bad")], ["000000024100"]], UNBUILT_TALK, "UnbuiltTalk(maker)")
+
+
+# The answers to creations.
+
+
+@case
+def files_by_location_and_package(project):
+    frames = [create_resource("c/d.txt", b"1", package="a.b"), create_resource("META-INF/x", b"22"),
+              create_resource("d.h", b"", package="a", location=NATIVE_HEADER_OUTPUT),
+              create_resource("a/D.java", b"333", location=SOURCE_OUTPUT),
+              create_resource("C.java", b"4444", package="p", location=SOURCE_OUTPUT)]
+    files = {"CLASS_OUTPUT/META-INF/x": b"22", "CLASS_OUTPUT/a/b/c/d.txt": b"1", "NATIVE_HEADER_OUTPUT/a/d.h": b"",
+             "SOURCE_OUTPUT/a/D.java": b"333", "SOURCE_OUTPUT/p/C.java": b"4444"}
+    publishes(project, [frames, []], [*file_lines(files), done(2, 5)], files)
+
+
+@case
+def class_files_are_unsupported(project):
+    frames = [create_class("p.D"), create_class("p.D", b"x" * 100), create_class(""), create_class("p.C")]
+    run = answers(project, frames, [UNSUPPORTED] * 4)
+    expect("the output", run.output, report(done(2, 0)))
+
+
+@case
+def bad_names_of_types(project):
+    names = ["", ".", "p.", ".D", "p..D", "p.class", "int.D", "p.true", "p._", "p.1D", "p/D", "p.D-", "p. D", "p.D\n",
+             "package-info", ".package-info", "p.package-info.D", "int.package-info", "a-b.package-info", "*", "p.*",
+             "p." + "D" * 1023]
+    run = answers(project, [create_source(name, source_of("p.D")) for name in names], [BAD_NAME] * len(names))
+    expect("the output", run.output, report(done(2, 0)))
+
+
+@case
+def good_names_of_types(project):
+    names = ["D", "p.D", "p.q.r.D", "p.D_", "p.$", "p.__", "p.É1", "p.package-info", "q.C", "p.record",
+             "p." + "D" * 1022]
+    types = {name: f"g.G{number:02}" for number, name in enumerate(names)}
+    files = {f"SOURCE_OUTPUT/{name.replace('.', '/')}.java": source_of(types[name]) for name in names}
+    publishes(project, [[create_source(name, source_of(types[name])) for name in names], [], []],
+              [*file_lines(files), done(3, len(names))], files,
+              sent=[FIRST_ROUND, *[ACCEPTED] * len(names), round_frame(2, list(types.values())), last_round(3)])
+
+
+@case
+def bad_names_of_resources(project):
+    relative = ["", "/", "/a", "a/", "a//b", ".", "..", "a/../b", "./a", "a/.", "a\\b", "a\n", "\0", "a\x1fb", "a\x7f",
+                "a" * 1025]
+    packages = [".", "a.", ".a", "a..b", "a/b", "1a", "a b", "int", "a.null", "a-b", "a." + "b" * 1023]
+    frames = [create_resource(name) for name in relative]
+    frames += [create_resource("x", package=package, location=SOURCE_OUTPUT) for package in packages]
+    run = answers(project, frames, [BAD_NAME] * len(frames))
+    expect("the output", run.output, report(done(2, 0)))
+
+
+@case
+def good_names_of_resources(project):
+    relative = ["a b", "...", ".a", "a..b/c", "-", "ä€", "a:*?", "x" * 1024, "CLASS_OUTPUT/x"]
+    files = {f"CLASS_OUTPUT/{name}": b"hi" for name in relative}
+    files["CLASS_OUTPUT/a_/b$/é/x"] = b"hi"
+    frames = [create_resource(name) for name in relative] + [create_resource("x", package="a_.b$.é")]
+    publishes(project, [frames, []], [*file_lines(files), done(2, len(files))], files)
+
+
+@case
+def what_exists(project):
+    frames = [create_source("p.C"), create_source("p.D"), create_source("p.D", b"other"),
+              create_resource("D.java", package="p", location=SOURCE_OUTPUT),
+              create_resource("p/D.java", location=SOURCE_OUTPUT),
+              create_resource("E.java", package="p", location=SOURCE_OUTPUT), create_source("p.E"),
+              create_resource("p/D.java"), create_resource("D.java", package="p")]
+    wanted = [EXISTS, ACCEPTED, EXISTS, EXISTS, EXISTS, ACCEPTED, EXISTS, ACCEPTED, EXISTS]
+    files = {"CLASS_OUTPUT/p/D.java": b"hi", "SOURCE_OUTPUT/p/D.java": source_of("p.D"),
+             "SOURCE_OUTPUT/p/E.java": b"hi"}
+    publishes(project, [frames, [create_source("p.D")], [create_resource("p/D.java", b"late"), create_source("p.C")]],
+              [*file_lines(files), done(3, 3)], files,
+              sent=[FIRST_ROUND, *wanted, round_frame(2, ["p.D"]), EXISTS, last_round(3), EXISTS, EXISTS])
+
+
+@case
+def one_content_that_is_too_large(project):
+    frames = [from_file(project, "long", create_resource("x", b"x" * (LONGEST + 1))),
+              from_file(project, "source", create_source("p.D", b"x" * (LONGEST + 1))),
+              from_file(project, "longest", create_resource("x", b"x" * LONGEST))]
+    publishes(project, [frames, []], [f"file CLASS_OUTPUT/x {LONGEST}", done(2, 1)], {"CLASS_OUTPUT/x": b"x" * LONGEST},
+              sent=[FIRST_ROUND, TOO_LARGE, TOO_LARGE, ACCEPTED, LAST_ROUND])
+
+
+@case
+def all_contents_and_paths_that_are_too_large(project):
+    path = len("CLASS_OUTPUT/a")
+    room = ALL - 7 * (LONGEST + path)
+    frames = [from_file(project, f"frame-{name}", create_resource(name, b"x" * LONGEST)) for name in "abcdefg"]
+    frames += [from_file(project, "frame-h", create_resource("h", b"x" * (room - path + 1))),
+               from_file(project, "frame-i", create_resource("h", b"x" * (room - path - 14))),
+               create_resource("ij", b""), create_resource("i", b""), create_resource("j", b""), create_resource("i")]
+    sent = [FIRST_ROUND, *[ACCEPTED] * 7, TOO_LARGE, ACCEPTED, TOO_LARGE, ACCEPTED, TOO_LARGE, EXISTS, LAST_ROUND]
+    sizes = dict.fromkeys("abcdefg", LONGEST) | {"h": room - path - 14, "i": 0}
+    lines = [f"file CLASS_OUTPUT/{name} {size}" for name, size in sizes.items()]
+    publishes(project, [frames, []], [*lines, done(2, 9)],
+              {f"CLASS_OUTPUT/{name}": b"x" * size for name, size in sizes.items()}, sent=sent)
+
+
+@case
+def the_order_of_the_tests(project):
+    too_large = b"x" * (LONGEST + 1)
+    frames = [CREATE, from_file(project, "class", create_class("", too_large)),
+              from_file(project, "name", create_resource("..", too_large)),
+              from_file(project, "type", create_source("p.", too_large)),
+              from_file(project, "path", create_resource("x", too_large)),
+              from_file(project, "unit", create_source("p.C", too_large))]
+    run = answers(project, frames, [ACCEPTED, UNSUPPORTED, BAD_NAME, BAD_NAME, EXISTS, EXISTS])
+    expect("the output", run.output, report("file CLASS_OUTPUT/x 2", done(2, 1)))
+
+
+@case
+def a_thousand_and_one_creations(project):
+    names = [f"x{number:04}" for number in range(1001)]
+    files = {f"CLASS_OUTPUT/{name}": b"" for name in names}
+    frames = from_file(project, "frames", *(create_resource(name, b"") for name in names))
+    publishes(project, [[frames], []], [*file_lines(files), done(2, 1001)], files,
+              sent=[FIRST_ROUND, *[ACCEPTED] * 1001, LAST_ROUND])
+
+
+# Frames that are none of these, or not in this order.
+
+NOT_IN_A_ROUND = {
+    "a Done that says false": "000000024100",
+    "a Done that says 2": "000000024102",
+    "a Done with one byte more": "00000003" "410100",
+    "a Done without its field": "0000000141",
+    "a second Hello": HELLO,
+    "Init": INIT,
+    "a round": FIRST_ROUND,
+    "a reply": ACCEPTED,
+    "Noted": NOTED,
+    "a source with an origin": create_source("p.D", origins=ONE_ORIGIN),
+    "a resource with an origin": create_resource("x", origins=ONE_ORIGIN),
+    "a class file with an origin": create_class("p.D", origins=ONE_ORIGIN),
+    "a message with an element": message(NOTE, "n", element="01" + text_of("p.C") + number_of(0)),
+    "a message of kind 5": message(5, "n"),
+    "a message whose element is 2": message(NOTE, "n", element="02"),
+    "a message that is no text": frame_of("45" "0300" + bytes_of(b"\xff")),
+    "a message with one byte more": frame_of("45" "0300" + text_of("n") + "00"),
+    "a message that ends inside its text": frame_of("45" "0300" + number_of(2) + "6e"),
+    "a source whose name is no text": frame_of("42" + bytes_of(b"\xc3") + bytes_of(b"") + NO_ORIGINS),
+    "a source without origins": frame_of("42" + text_of("p.D") + bytes_of(b"")),
+    "a resource at location 3": create_resource("x", location=3),
+    "a class file with one byte more": frame_of("44" + text_of("p.D") + bytes_of(b"") + NO_ORIGINS + "00"),
+    "a question": "00000008" "50" "00000003" "782e59",
+    "a question for the roots": "00000001" "73",
+    "a tag of no frame": "00000001" "77",
+    "an empty frame": "00000000",
+    "a frame past the limit": "07fffffd" "45",
+}
+
+
+@case
+def what_is_no_talk_in_a_round(project):
+    for what, frame in NOT_IN_A_ROUND.items():
+        in_round(what, project, [[CREATE, ["say:" + frame, "rest"]]])
+
+
+@case
+def what_is_no_talk_in_a_further_round(project):
+    for what in ["a Done that says false", "a source with an origin", "a question", "a second Hello"]:
+        steps = ["say:" + NOT_IN_A_ROUND[what], "rest"]
+        in_round(what + ", in round 2", project, [[create_source("p.D")], [steps]])
+        in_round(what + ", in the last round", project, [[create_source("p.D")], [], [steps]])
+
+
+def in_round(what, project, rounds):
+    try:
+        refuses(project, rounds, UNBUILT_TALK, "UnbuiltTalk(maker)")
+    except Failure as failure:
+        raise Failure(f"{what}: {failure}") from None
+
+
+@case
+def a_frame_in_the_place_of_hello(project):
+    for frame in [create_source("p.D"), CREATE, create_class("p.D"), message(NOTE, "n")]:
+        refused(project, project.scripted(["read", "say:" + frame, "rest"]), UNBUILT_TALK, "UnbuiltTalk(maker)")
+
+
+@case
+def a_child_that_ends_in_a_further_round(project):
+    steps = talk([create_source("p.D")])[:-1]
+    refused(project, project.scripted([*steps, "read"]), UNBUILT_TALK, "UnbuiltTalk(maker)")
+    refused(project, project.scripted([*steps, "read", "say:" + create_source("p.E")[:-2]]), UNBUILT_TALK,
+            "UnbuiltTalk(maker)")
+
+
+# How many frames other than Done may come in one round: 65,536 and 4,096 for each root.
+
+
+def asked(count, frame):
+    return [f"ask:{count}:{frame}"]
+
+
+@case
+def as_many_frames_as_may_come(project):
+    run = project.run(project.scripted(talk([asked(69_632, create_class("x"))], [asked(65_536, create_class("x"))])))
+    expect("the output", run.output, report(done(2, 0)))
+    expect("the status", run.status, DONE_STATUS)
+    expect("what the child was sent", project.sent(),
+           INIT + FIRST_ROUND + UNSUPPORTED * 69_632 + LAST_ROUND + UNSUPPORTED * 65_536)
+
+
+@case
+def one_frame_more(project):
+    refuses(project, [[CREATE, asked(69_632, create_class("x"))]], TOO_MANY_QUESTIONS, "TooManyQuestions(maker, 69632)")
+    expect("what the child was sent", project.sent(), INIT + FIRST_ROUND + ACCEPTED + UNSUPPORTED * 69_631)
+
+
+@case
+def one_message_more_than_may_come_in_the_last_round(project):
+    refuses(project, [[], [asked(65_537, message(NOTE, "n"))]], TOO_MANY_QUESTIONS, "TooManyQuestions(maker, 65536)")
+
+
+@case
+def one_frame_more_than_may_come_for_two_roots(project):
+    project.write("src/p/D.java", source_of("p.D"))
+    refuses(project, [[asked(73_729, create_resource("x"))]], TOO_MANY_QUESTIONS, "TooManyQuestions(maker, 73728)")
+
+
+if __name__ == "__main__":
+    case.main()
