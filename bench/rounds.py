@@ -6,6 +6,10 @@
 PROGRAM is crates/apt_cli/out/apt_cli where it is left out. For each of two pairs it prints the median of each build,
 their ratio, which is to be at most 12, and the most memory that each build took. Nothing but the ratios means anything
 on another machine, and no test depends on them.
+
+On a disk nearly all of a build's time is the wait until each file of the store is stored. That hides what the host
+itself takes, and it was seen to vary between 1 and 8 ms for a file. So the builds run many times in /dev/shm, where it
+is there, and the goal is for the ratio of these; a few run on the disk, in which the memory is looked at too.
 """
 import os
 import shutil
@@ -17,7 +21,8 @@ import time
 
 HERE = os.path.dirname(os.path.abspath(__file__))
 PROGRAM = os.path.join(HERE, "..", "crates", "apt_cli", "out", "apt_cli")
-TURNS, MEMORY_TURNS, GOAL = 15, 5, 12
+IN_MEMORY = "/dev/shm"
+TURNS, DISK_TURNS, GOAL = 15, 3, 12
 
 HELLO = bytes.fromhex("00000011" "4000000001" "00000003712e41" "0000000000")
 DONE = bytes.fromhex("00000002" "4101")
@@ -51,11 +56,11 @@ PAIRS = [("created sources", in_one_round, 100, 1000), ("rounds with a source", 
 
 
 class Project:
-    """A folder with one source and the answers of a child."""
+    """A folder, below `where` or that of temporary files, with one source and the answers of a child."""
 
-    def __init__(self, answers, end):
+    def __init__(self, where, answers, end):
         self.end = end
-        self.folder = tempfile.mkdtemp(prefix="apt-bench-rounds-")
+        self.folder = tempfile.mkdtemp(prefix="apt-bench-rounds-", dir=where)
         os.makedirs(os.path.join(self.folder, "src", "p"))
         with open(os.path.join(self.folder, "src", "p", "C.java"), "wb") as file:
             file.write(b"package p; @q.A class C {}\n")
@@ -83,14 +88,18 @@ class Project:
         self.check(run.returncode)
         return taken
 
-    def memory(self):
-        """The most bytes that the host held in memory, as seen until shortly before it ended."""
-        build = subprocess.Popen(self.start(), cwd=self.folder, stdout=self.report)
+    def seconds_and_memory(self):
+        """The time, and the most bytes that the host held in memory, as seen until shortly before it ended."""
+        command = self.start()
+        start = time.perf_counter()
+        build = subprocess.Popen(command, cwd=self.folder, stdout=self.report)
         most = 0
         while build.poll() is None:
             most = max(most, high_water_mark(build.pid))
+            time.sleep(0.001)
+        taken = time.perf_counter() - start
         self.check(build.returncode)
-        return most
+        return taken, most
 
     def remove(self):
         shutil.rmtree(self.folder)
@@ -105,27 +114,39 @@ def high_water_mark(number):
     return 0
 
 
-def compare(what, answers_of, small, large):
-    projects = {count: Project(*answers_of(count)) for count in (small, large)}
-    taken = {count: [] for count in projects}
-    most = dict.fromkeys(projects, 0)
+def in_turn(where, answers_of, counts, turns, measure):
+    """What each build gives that is measured, by its count; the builds take turns."""
+    projects = {count: Project(where, *answers_of(count)) for count in counts}
+    found = {count: [] for count in counts}
     try:
-        for turn in range(TURNS + 1):
+        for _ in range(turns):
             for count, project in projects.items():
-                seconds = project.seconds()
-                if turn > 0:
-                    taken[count].append(seconds)
-        for _ in range(MEMORY_TURNS):
-            for count, project in projects.items():
-                most[count] = max(most[count], project.memory())
+                found[count].append(measure(project))
     finally:
         for project in projects.values():
             project.remove()
-    times = {count: statistics.median(taken[count]) for count in projects}
-    for count in projects:
-        print(f"{count} {what}: {times[count] * 1000:.1f} ms (median of {TURNS}), "
-              f"at most {most[count] / 1048576:.1f} MiB of memory")
-    print(f"ratio: {times[large] / times[small]:.1f}, goal: at most {GOAL}")
+    return found
+
+
+def print_times(what, where, goal, times):
+    small, large = times
+    medians = {count: statistics.median(taken) for count, taken in times.items()}
+    for count, median in medians.items():
+        print(f"{count} {what}, {where}: {median * 1000:.1f} ms (median of {len(times[count])})")
+    print(f"ratio: {medians[large] / medians[small]:.1f}{goal}", flush=True)
+
+
+def compare(what, answers_of, *counts):
+    goal = f", goal: at most {GOAL}"
+    if os.path.isdir(IN_MEMORY):
+        # The first turn brings the program into memory, and is not counted.
+        taken = in_turn(IN_MEMORY, answers_of, counts, TURNS + 1, Project.seconds)
+        print_times(what, "in memory", goal, {count: seconds[1:] for count, seconds in taken.items()})
+        goal = ""
+    found = in_turn(None, answers_of, counts, DISK_TURNS, Project.seconds_and_memory)
+    print_times(what, "on the disk", goal, {count: [it[0] for it in pairs] for count, pairs in found.items()})
+    for count, pairs in found.items():
+        print(f"{count} {what}: at most {max(it[1] for it in pairs) / 1048576:.1f} MiB of memory", flush=True)
 
 
 def main():
