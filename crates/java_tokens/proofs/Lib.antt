@@ -1,5 +1,6 @@
 pub mod EscapeLemmas
 pub mod CharLemmas
+pub mod ShiftLemmas
 pub mod ReadLemmas
 pub mod LawLemmas
 pub mod OffsetLemmas

@@ -1,13 +1,15 @@
 -- How places move past texts.
 use Rattle.std.proofs.Common.{◌≡◌, eqb, ℕ, zero, suc, ◌+◌, ◌<◌, ◌≤◌, Bool, true, false, cond, List, [], ◌∷◌, ◌++◌, length, take, get_or, refl, sym, ap, ◌∙◌, arith, length-append}
-use Rattle.std.proofs.lemmas.List.{take_more, length-take-le, take_all}
+use Rattle.std.proofs.lemmas.List.{take_more, length-take-le, take_all, get_or-map}
 use Rattle.std.proofs.lemmas.Str.{length-encode}
 use Rattle.std.specs.Char.{len_utf8}
 use Rattle.std.specs.Prelude.{encode_utf8}
 use Rattle.std.specs.Str.{encode_utf8_all}
-use Rattle.java_tokens.specs.CharsShown.{plain_offsets}
+use Rattle.java_tokens.specs.declared.shift.Shift.{Shift}
+use Rattle.java_tokens.specs.CharsShown.{places_from, shift_at, offsets_of}
 use Rattle.java_tokens.specs.Tokens.{ends_line, line_ends, returns}
 use Rattle.java_tokens.specs.Table.{bytes_of}
+use Rattle.java_tokens.proofs.ShiftLemmas.{places_from-length}
 
 pub line_ends-append : (r : Bool) (xs ys : List ℕ) → line_ends r (xs ++ ys) ≡ line_ends r xs + line_ends (returns r xs) ys
 line_ends-append r [] ys = omega arith
@@ -64,15 +66,20 @@ passed_all cs n before before' line line' r r' passed end =
     let all : take n cs ≡ cs = take_all n cs end in
     (omega (arith, passed.before_is, passed.within, end), passed.line_is ∙ ap (λ xs. line + line_ends r xs) all, passed.return_is ∙ ap (returns r) all)
 
--- a plain offset is how many bytes are before
-plain_from : (from : ℕ) (cs : List ℕ) (n : ℕ) → n < length cs → get_or (plain_offsets from cs) n 0 ≡ from + bytes_of cs n
-plain_from from [] n h = absurd (omega (arith, h))
-plain_from from (c ∷ cs) zero h = omega arith
-plain_from from (c ∷ cs) (suc n) h =
-    omega (arith, plain_from (from + len_utf8 c) cs n (omega (arith, h)), length-append (encode_utf8 c) (encode_utf8_all (take n cs)), length-encode c)
+-- a place in the text is how many bytes are before
+place_from : (from : ℕ) (cs : List ℕ) (n : ℕ) → n < length cs → get_or (places_from from cs) n 0 ≡ from + bytes_of cs n
+place_from from [] n h = absurd (omega (arith, h))
+place_from from (c ∷ cs) zero h = omega arith
+place_from from (c ∷ cs) (suc n) h =
+    omega (arith, place_from (from + len_utf8 c) cs n (omega (arith, h)), length-append (encode_utf8 c) (encode_utf8_all (take n cs)), length-encode c)
 
-pub plain_at : (cs : List ℕ) (n : ℕ) → n < length cs → get_or (plain_offsets 0 cs) n 0 ≡ bytes_of cs n
-plain_at cs n h = plain_from 0 cs n h ∙ nothing (bytes_of cs n)
+place_at : (cs : List ℕ) (n : ℕ) → n < length cs → get_or (places_from 0 cs) n 0 ≡ bytes_of cs n
+place_at cs n h = place_from 0 cs n h ∙ nothing (bytes_of cs n)
   where
     nothing : (m : ℕ) → 0 + m ≡ m
     nothing m = omega arith
+
+-- and its offset is that and what the shifts add
+pub offset_of_place : (cs : List ℕ) (shifts : List Shift) (n place by : ℕ) → n < length cs → place ≡ bytes_of cs n → by ≡ shift_at shifts place → place + by ≡ get_or (offsets_of cs shifts) n 0
+offset_of_place cs shifts n place by h is added =
+    ap (λ m. place + m) added ∙ ap (λ p. p + shift_at shifts p) (is ∙ sym (place_at cs n h)) ∙ sym (get_or-map (λ p. p + shift_at shifts p) (places_from 0 cs) n 0 0 (omega (arith, h, places_from-length 0 cs)))

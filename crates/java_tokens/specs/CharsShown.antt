@@ -1,34 +1,45 @@
 -- What characters that were read show: each with its offset.
-use Rattle.std.specs.Prelude.{◌≡◌, ℕ, ◌+◌, List, [], ◌∷◌, length, Bool, if◌then◌else◌, Option, None, Some, Vec, ⊤}
-use Rattle.std.specs.List.{zip}
+-- The place of a character in the text is how many bytes of UTF-8 are before it. Its offset in the file is further on by the bytes that the
+-- escapes before it have more than the characters that they give.
+use Rattle.std.specs.Prelude.{ℕ, ◌+◌, ◌≤◌, List, [], ◌∷◌, map, leb, if◌then◌else◌, ⊤}
+use Rattle.std.specs.List.{zip, All}
+use Rattle.std.specs.List.Sorted.{IsNonDecreasingBy}
 use Rattle.std.specs.Char.{len_utf8}
 use Rattle.std.specs.Str.{chars}
-use Rattle.std.specs.declared.alloc.Global.{Global}
 use Rattle.java_tokens.specs.declared.fault.TextFault.{TextFault}
 use Rattle.java_tokens.specs.declared.fault.TextFault.TheVariants.{Bad, Memory}
+use Rattle.java_tokens.specs.declared.shift.Shift.{Shift}
 use Rattle.java_tokens.specs.Characters.{Placed}
 
--- the offsets of characters that a file spells in UTF-8 alone
-abbrev pub plain_offsets : ℕ → List ℕ → List ℕ
-plain_offsets from [] = []
-plain_offsets from (c ∷ cs) = from ∷ plain_offsets (from + len_utf8 c) cs
+-- the places of characters of which the first has this one
+abbrev pub places_from : ℕ → List ℕ → List ℕ
+places_from place [] = []
+places_from place (c ∷ cs) = place ∷ places_from (place + len_utf8 c) cs
 
--- the offsets that are kept, or else the plain ones
-abbrev pub offsets_of : List ℕ → Option (Vec ℕ Global) → List ℕ
-offsets_of codes None = plain_offsets 0 codes
-offsets_of codes (Some kept) = kept.items
+-- what the last shift says that begins at or before a place, or else `by`
+abbrev pub shift_from : ℕ → List Shift → ℕ → ℕ
+shift_from by [] place = by
+shift_from by (s ∷ ss) place = shift_from (if leb s.place place then s.by else by) ss place
+
+-- what is to be added to a place to give the offset: what the last shift says that begins at or before it, and 0 where there is none
+abbrev pub shift_at : List Shift → ℕ → ℕ
+shift_at shifts place = shift_from 0 shifts place
+
+-- the offset of each character
+abbrev pub offsets_of : List ℕ → List Shift → List ℕ
+offsets_of codes shifts = map (λ place. place + shift_at shifts place) (places_from 0 codes)
 
 -- each character of a text with its offset
-abbrev pub placed_chars : List ℕ → Option (Vec ℕ Global) → List Placed
-placed_chars text offsets = zip (chars text) (offsets_of (chars text) offsets)
+abbrev pub placed_chars : List ℕ → List Shift → List Placed
+placed_chars text shifts = zip (chars text) (offsets_of (chars text) shifts)
 
--- offsets are kept only where they aren't plain
-abbrev pub kept : Bool → Vec ℕ Global → Option (Vec ℕ Global)
-kept plain offsets = if plain then None else Some offsets
+-- the places of shifts ascend
+abbrev pub Ascend : List Shift → Type 0
+Ascend shifts = IsNonDecreasingBy (λ s. s.place) shifts
 
--- where offsets are kept, each character has one
-abbrev pub CoversChars : List ℕ → Option (Vec ℕ Global) → Type 0
-CoversChars text offsets = length (offsets_of (chars text) offsets) ≡ length (chars text)
+-- no shift is further than this
+abbrev pub AreWithin : ℕ → List Shift → Type 0
+AreWithin most shifts = All (λ s. s.by ≤ most) shifts
 
 -- what a fault says of its place; want of memory says nothing
 abbrev pub FaultAt : (ℕ → Type 0) → TextFault → Type 0

@@ -11,7 +11,7 @@ abbrev pub codes_in : Chars → List ℕ
 codes_in read = chars (string_bytes read.text)
 
 abbrev pub offsets_in : Chars → List ℕ
-offsets_in read = offsets_of (codes_in read) read.offsets
+offsets_in read = offsets_of (codes_in read) read.shifts.items
 
 abbrev pub shown_token : Token → Lexeme
 shown_token t =

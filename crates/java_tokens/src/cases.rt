@@ -465,8 +465,14 @@ fn text_blocks_are_read(rt: HostRuntime) -> Result<(), Fail> {
     Ok(())
 }
 
-const PLACES: [(&str, &str, &str); 4] = [
+const PLACES: [(&str, &str, &str); 6] = [
     ("offset after an escape", "\\u0061 #", "bad 7"),
+    ("offset after two escapes", "\\u0061\\u0062 #", "bad 13"),
+    (
+        "offset after a surrogate pair and an escape",
+        "/*\\ud83d\\ude00*/ \\uu0061 #",
+        "bad 25",
+    ),
     ("offset after two bytes", "\u{e9}#", "bad 2"),
     ("bad escape", "ab\\u12", "characters 2"),
     ("escaped SUB in the middle", "a\\u001ab", "bad 1"),

@@ -1,11 +1,12 @@
 // The characters of a file with their offsets.
-ghost use Rattle.std.specs.Prelude.{ℕ, List, ◌≡◌, ◌≤◌, ◌<◌, length, string_bytes, slice_get, MatchResult};
+ghost use Rattle.std.specs.Prelude.{ℕ, List, ◌≡◌, ◌≤◌, ◌<◌, ◌/◌, length, string_bytes, slice_get, IfSome, MatchResult};
 ghost use Rattle.std.specs.Str.{chars};
 ghost use Rattle.java_tokens.specs.Characters.{Placed, IsDecided, AreChars, IsCharFault, slashes_after};
-ghost use Rattle.java_tokens.specs.CharsShown.{placed_chars, offsets_of, plain_offsets, CoversChars, FaultAt, kept};
+ghost use Rattle.java_tokens.specs.CharsShown.{placed_chars, offsets_of, places_from, Ascend, AreWithin, FaultAt};
 
 use crate::TextFault;
 use crate::reading::read_char;
+use crate::shift::{Shift, shift_at};
 use std::alloc::Global;
 
 /// The characters of a file, each with the offset at which it begins.
@@ -13,9 +14,10 @@ use std::alloc::Global;
 pub struct Chars {
     /// The characters.
     pub text: String,
-    /// The offset of each, unless it is the place of the character in the text, as where the file has no escapes.
-    pub offsets: Option<Vec<u32>>,
-    ghost covered: { CoversChars (string_bytes text) offsets },
+    /// How far their offsets are beyond their places in the text: one behind each escape, and so none in a file without.
+    pub shifts: Vec<Shift>,
+    ghost ascending: { Ascend shifts.items },
+    ghost within: { AreWithin 8_388_608 shifts.items },
     ghost small: { length (string_bytes text) ≤ 8_388_608 },
 }
 
@@ -28,21 +30,20 @@ impl Chars {
     }
 
     /// The offset in the file of the character with this number, counted from 0, and None exactly where there is no such character.
-    /// It is found in one step where offsets are kept, and else by a walk over the characters before it; it takes no memory.
+    /// It is found by a walk over the characters before it, and takes no memory.
     pub fn offset(&self, at: u32) -> Option<u32>
-        ensures { result ≡ slice_get (offsets_of (chars (string_bytes self.now.text)) self.now.offsets) at }
+        ensures { result ≡ slice_get (offsets_of (chars (string_bytes self.now.text)) self.now.shifts.items) at }
     {
-        match &self.offsets {
-            Some(offsets) => offsets.get(at as usize).copied(),
-            None => plain_offset(self.text.as_str(), at),
-        }
+        let place = place_of(self.text.as_str(), at)?;
+        Some(place + shift_at(self.shifts.as_slice(), place))
     }
 }
 
-// The offset of a character whose file has no escapes before it.
-fn plain_offset(text: &str, at: u32) -> Option<u32>
+// The place in a text of the character with this number.
+fn place_of(text: &str, at: u32) -> Option<u32>
     requires { length text.now ≤ 8_388_608 }
-    ensures { result ≡ slice_get (plain_offsets 0 (chars text.now)) at }
+    ensures place { result ≡ slice_get (places_from 0 (chars text.now)) at }
+    ensures within { IfSome result (λ place. place ≤ length text.now) }
 {
     let mut place = 0;
     let mut left = at;
@@ -57,17 +58,17 @@ fn plain_offset(text: &str, at: u32) -> Option<u32>
 }
 
 /// The characters of a file (JLS 3.3), or `Bad` with the offset of the first escape or UTF-8 sequence at which none goes on.
-/// A malformed escape and a lone surrogate are bad at their `\`. `Memory` comes for want of memory alone.
+/// A malformed escape and a lone surrogate are bad at their `\`. `Memory` comes for want of memory alone. Taken are as many
+/// bytes as the file has, and eight for each `\u` in it, but no more than eight for six of its bytes, which no clause says.
 pub fn read_chars(alloc: Global, bytes: &[u8]) -> Result<Chars, TextFault>
     requires { length bytes.now ≤ 8_388_608 }
-    ensures chars { MatchResult result (λ chars. AreChars bytes.now (placed_chars (string_bytes chars.text) chars.offsets)) (FaultAt (IsCharFault bytes.now)) }
-    ensures list { (all : List Placed) → AreChars bytes.now all → MatchResult result (λ chars. placed_chars (string_bytes chars.text) chars.offsets ≡ all) (λ e. e ≡ TextFault.Memory) }
+    ensures chars { MatchResult result (λ chars. AreChars bytes.now (placed_chars (string_bytes chars.text) chars.shifts.items)) (FaultAt (IsCharFault bytes.now)) }
+    ensures list { (all : List Placed) → AreChars bytes.now all → MatchResult result (λ chars. placed_chars (string_bytes chars.text) chars.shifts.items ≡ all) (λ e. e ≡ TextFault.Memory) }
     ensures decided { IsDecided bytes.now }
     ensures place { (place : ℕ) → IsCharFault bytes.now place → MatchResult result (λ _. ⊥) (FaultAt (λ at. at ≡ place)) }
 {
-    let mut text = String::new(alloc);
-    let mut offsets = Vec::new(alloc);
-    let mut plain = true;
+    let mut text = String::with_capacity(alloc, bytes.len())?;
+    let mut shifts = Vec::with_capacity(alloc, most_escapes(bytes))?;
     let mut slashes = 0;
     let mut at = 0;
     while at < bytes.len() {
@@ -75,23 +76,29 @@ pub fn read_chars(alloc: Global, bytes: &[u8]) -> Result<Chars, TextFault>
         let Some(read) = read_char(rest, slashes) else {
             return Err(TextFault::Bad { place: at as u32 });
         };
-        plain = plain && at == text.len();
-        offsets.push(at as u32)?;
         text.push(read.code)?;
-        slashes = count_slashes(slashes, &rest[..read.width]);
         at += read.width;
+        if read.width != read.code.len_utf8() {
+            let place = text.len();
+            shifts.push(Shift {
+                place: place as u32,
+                by: (at - place) as u32,
+            })?;
+        }
+        slashes = count_slashes(slashes, &rest[..read.width]);
     }
-    Ok(Chars {
-        text,
-        offsets: kept_offsets(plain, offsets),
-    })
+    Ok(Chars { text, shifts })
 }
 
-// The offsets are kept only where they aren't the places in the text.
-fn kept_offsets(plain: bool, offsets: Vec<u32>) -> Option<Vec<u32>>
-    ensures { result ≡ kept plain offsets }
+// No file has more escapes than this that give a character: each begins with `\u`, and has at least six bytes.
+fn most_escapes(bytes: &[u8]) -> usize
+    ensures { result ≤ length bytes.now / 6 }
 {
-    if plain { None } else { Some(offsets) }
+    let begun = bytes
+        .windows(2)
+        .filter(|pair| *pair == b"\\u".as_slice())
+        .count();
+    begun.min(bytes.len() / 6)
 }
 
 // How many `\` stand directly before what follows a character that is spelled so.
@@ -138,18 +145,47 @@ mod tests {
         Ok(())
     }
 
+    // The characters of the file have these offsets, and there are no more.
+    fn expect_offsets(
+        rt: &impl Abort,
+        alloc: Global,
+        bytes: &[u8],
+        offsets: &[u32],
+    ) -> Result<(), TextFault> {
+        if bytes.len() > 100 || offsets.len() > 100 {
+            return Ok(());
+        }
+        let chars = read_chars(alloc, bytes)?;
+        for at in 0..offsets.len() {
+            assert_eq!(rt; chars.offset(at as u32), Some(offsets[at]));
+        }
+        assert_eq!(rt; chars.offset(offsets.len() as u32), None);
+        Ok(())
+    }
+
     #[test]
     fn offsets_are_those_of_the_file(rt: HostRuntime) -> Result<(), Fail> {
         let alloc = rt.alloc();
-        let plain = read_chars(alloc, b"a\xc3\xa9b")?;
-        assert_eq!(rt; plain.offset(0), Some(0));
-        assert_eq!(rt; plain.offset(2), Some(3));
-        assert_eq!(rt; plain.offset(3), None);
-        assert!(rt; plain.offsets.is_none());
-        let escaped = read_chars(alloc, b"a\\u0041b")?;
-        assert_eq!(rt; escaped.offset(1), Some(1));
-        assert_eq!(rt; escaped.offset(2), Some(7));
-        assert_eq!(rt; escaped.offset(3), None);
+        expect_offsets(&rt, alloc, b"", &[])?;
+        expect_offsets(&rt, alloc, b"a\xc3\xa9b", &[0, 1, 3])?;
+        expect_offsets(&rt, alloc, b"a\\u0041b", &[0, 1, 7])?;
+        expect_offsets(&rt, alloc, b"\\u0041b\\u0043", &[0, 6, 7])?;
+        expect_offsets(&rt, alloc, b"\\uuu0041\\u0042\xc3\xa9c", &[0, 8, 14, 16])?;
+        expect_offsets(&rt, alloc, b"\\u00e9\\u20acx", &[0, 6, 12])?;
+        expect_offsets(&rt, alloc, b"x\\ud83d\\ude00y\\u0041z", &[0, 1, 13, 14, 20])?;
+        expect_offsets(&rt, alloc, b"\\\\u1\\u0042d", &[0, 1, 2, 3, 4, 10])?;
+        expect_offsets(&rt, alloc, b"\\u005cu1\\u0042d", &[0, 6, 7, 8, 14])?;
+        Ok(())
+    }
+
+    #[test]
+    fn shifts_stand_behind_escapes_alone(rt: HostRuntime) -> Result<(), Fail> {
+        let alloc = rt.alloc();
+        let plain = read_chars(alloc, b"\\\\u1\\n\xf0\x9f\x98\x80")?;
+        assert!(rt; plain.shifts.is_empty());
+        let escaped = read_chars(alloc, b"x\\ud83d\\ude00y\\u00e9")?;
+        let behind = [Shift { place: 5, by: 8 }, Shift { place: 8, by: 12 }];
+        assert_eq!(rt; escaped.shifts.as_slice(), behind.as_slice());
         Ok(())
     }
 

@@ -22,6 +22,7 @@ mod identifiers;
 mod lexing;
 mod place;
 mod reading;
+mod shift;
 mod token;
 mod words;
 
@@ -29,4 +30,5 @@ pub use chars::{Chars, read_chars};
 pub use fault::TextFault;
 pub use identifiers::{begins_identifier, continues_identifier};
 pub use lexing::tokens;
+pub use shift::Shift;
 pub use token::{Token, TokenKind};

@@ -6,6 +6,7 @@ ghost use Rattle.java_tokens.specs.TokensShown.{codes_in, offsets_in};
 ghost use Rattle.java_tokens.specs.Table.{bytes_of};
 
 use crate::Chars;
+use crate::shift::shift_at;
 
 /// Where a character stands.
 #[derive(Clone, Copy)]
@@ -63,8 +64,6 @@ pub fn offset_at(chars: &Chars, before: usize, width: usize) -> u32
     requires narrow { width ≤ 8_388_608 }
     ensures { result ≡ slice_index (offsets_in chars.now) before }
 {
-    match &chars.offsets {
-        Some(offsets) => offsets[before],
-        None => width as u32,
-    }
+    let place = width as u32;
+    place + shift_at(chars.shifts.as_slice(), place)
 }

@@ -3,7 +3,7 @@ use Rattle.java_tokens.proofs.ReadLemmas.{IsReading}
 use Rattle.java_tokens.proofs.chars.read_chars.Given as goal
 
 abbrev pub invariant-loop-at : goal.invariant-loop-at
-invariant-loop-at l = IsReading l.bytes (string_bytes l.text) l.offsets.items l.plain l.slashes l.at
+invariant-loop-at l = IsReading l.bytes (string_bytes l.text) l.shifts.items l.slashes l.at
 
 abbrev pub decreases-loop-at : goal.decreases-loop-at
 decreases-loop-at l = length l.bytes - l.at

@@ -20,7 +20,7 @@ lexeme kind start line text doc = record { kind = kind; start = start; line = li
 pub elements-init : goal.elements-init
 elements-init c =
     let bs = string_bytes c.args.chars.now.text in
-    let offsets = offsets_of (chars bs) c.args.chars.now.offsets in
+    let offsets = offsets_of (chars bs) c.args.chars.now.shifts.items in
     record {
       utf8 = subst IsUtf8 (sym c.as_str-rest.ensures) (IsUtf8-string_bytes c.args.chars.now.text);
       lexing =
@@ -41,22 +41,22 @@ next_front-requires-clause-words c = c.reserved_table-words.ensures
 pub returns-in_default-clause-tokens : goal.returns-in_default-clause-tokens
 returns-in_default-clause-tokens c =
     let bs = string_bytes c.args.chars.now.text in
-    subst (IsTokenFault (chars bs) (offsets_of (chars bs) c.args.chars.now.offsets)) (sym c.offset_at-start.ensures) (lexing_stuck _ _ _ _ _ _ _ _ _ c.elements.invariant.lexing c.elements-test.ensures c.in_default.ensures)
+    subst (IsTokenFault (chars bs) (offsets_of (chars bs) c.args.chars.now.shifts.items)) (sym c.offset_at-start.ensures) (lexing_stuck _ _ _ _ _ _ _ _ _ c.elements.invariant.lexing c.elements-test.ensures c.in_default.ensures)
 
 pub returns-in_default-clause-list : goal.returns-in_default-clause-list
 returns-in_default-clause-list c = λ all are.
     let bs = string_bytes c.args.chars.now.text in
-    absurd (never_both (chars bs) (offsets_of (chars bs) c.args.chars.now.offsets) all _ are (lexing_stuck _ _ _ _ _ _ _ _ _ c.elements.invariant.lexing c.elements-test.ensures c.in_default.ensures))
+    absurd (never_both (chars bs) (offsets_of (chars bs) c.args.chars.now.shifts.items) all _ are (lexing_stuck _ _ _ _ _ _ _ _ _ c.elements.invariant.lexing c.elements-test.ensures c.in_default.ensures))
 
 pub returns-in_default-clause-decided : goal.returns-in_default-clause-decided
 returns-in_default-clause-decided c =
     let bs = string_bytes c.args.chars.now.text in
-    list_or_place (chars bs) (offsets_of (chars bs) c.args.chars.now.offsets)
+    list_or_place (chars bs) (offsets_of (chars bs) c.args.chars.now.shifts.items)
 
 pub returns-in_default-clause-place : goal.returns-in_default-clause-place
 returns-in_default-clause-place c = λ place is.
     let bs = string_bytes c.args.chars.now.text in
-    c.offset_at-start.ensures ∙ one_place (chars bs) (offsets_of (chars bs) c.args.chars.now.offsets) _ place (lexing_stuck _ _ _ _ _ _ _ _ _ c.elements.invariant.lexing c.elements-test.ensures c.in_default.ensures) is
+    c.offset_at-start.ensures ∙ one_place (chars bs) (offsets_of (chars bs) c.args.chars.now.shifts.items) _ place (lexing_stuck _ _ _ _ _ _ _ _ _ c.elements.invariant.lexing c.elements-test.ensures c.in_default.ensures) is
 
 pub split_at-requires : goal.split_at-requires
 split_at-requires c = front_cut c.elements.rest.now c.in-Some.front.width c.in-Some.front.kind c.elements.invariant.utf8 c.in-Some.ensures
@@ -64,7 +64,7 @@ split_at-requires c = front_cut c.elements.rest.now c.in-Some.front.width c.in-S
 pub returns-in_err-push-in-Some-kind-clause-decided : goal.returns-in_err-push-in-Some-kind-clause-decided
 returns-in_err-push-in-Some-kind-clause-decided c =
     let bs = string_bytes c.args.chars.now.text in
-    list_or_place (chars bs) (offsets_of (chars bs) c.args.chars.now.offsets)
+    list_or_place (chars bs) (offsets_of (chars bs) c.args.chars.now.shifts.items)
 
 pub place_after-place-requires-clause-few : goal.place_after-place-requires-clause-few
 place_after-place-requires-clause-few c =
@@ -90,7 +90,7 @@ elements-smaller c =
 pub elements-preserved : goal.elements-preserved
 elements-preserved c =
     let bs = string_bytes c.args.chars.now.text in
-    let offsets = offsets_of (chars bs) c.args.chars.now.offsets in
+    let offsets = offsets_of (chars bs) c.args.chars.now.shifts.items in
     let rest = c.elements.rest.now in
     let w = c.in-Some.front.width in
     let place = c.elements.place in
@@ -127,14 +127,14 @@ returns-clause-tokens c = lexing_done _ _ _ _ _ _ _ _ _ c.elements.invariant.lex
 pub returns-clause-list : goal.returns-clause-list
 returns-clause-list c = λ all are.
     let bs = string_bytes c.args.chars.now.text in
-    one_list (chars bs) (offsets_of (chars bs) c.args.chars.now.offsets) _ all (lexing_done _ _ _ _ _ _ _ _ _ c.elements.invariant.lexing c.elements-test.ensures) are
+    one_list (chars bs) (offsets_of (chars bs) c.args.chars.now.shifts.items) _ all (lexing_done _ _ _ _ _ _ _ _ _ c.elements.invariant.lexing c.elements-test.ensures) are
 
 pub returns-clause-decided : goal.returns-clause-decided
 returns-clause-decided c =
     let bs = string_bytes c.args.chars.now.text in
-    list_or_place (chars bs) (offsets_of (chars bs) c.args.chars.now.offsets)
+    list_or_place (chars bs) (offsets_of (chars bs) c.args.chars.now.shifts.items)
 
 pub returns-clause-place : goal.returns-clause-place
 returns-clause-place c = λ place is.
     let bs = string_bytes c.args.chars.now.text in
-    never_both (chars bs) (offsets_of (chars bs) c.args.chars.now.offsets) _ place (lexing_done _ _ _ _ _ _ _ _ _ c.elements.invariant.lexing c.elements-test.ensures) is
+    never_both (chars bs) (offsets_of (chars bs) c.args.chars.now.shifts.items) _ place (lexing_done _ _ _ _ _ _ _ _ _ c.elements.invariant.lexing c.elements-test.ensures) is

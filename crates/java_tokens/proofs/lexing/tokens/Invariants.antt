@@ -12,7 +12,7 @@ invariant-elements l =
     let all = chars (string_bytes l.chars.text) in
     record {
       utf8 : shadow (Utf8 l.rest);
-      lexing : IsLexing all (offsets_of all l.chars.offsets) l.rest l.place.before l.place.width l.place.line l.place.after_return (option_map (λ d. d.now) l.doc) (shown_tokens l.tokens.items);
+      lexing : IsLexing all (offsets_of all l.chars.shifts.items) l.rest l.place.before l.place.width l.place.line l.place.after_return (option_map (λ d. d.now) l.doc) (shown_tokens l.tokens.items);
     }
 
 abbrev pub decreases-elements : goal.decreases-elements

@@ -1,11 +1,16 @@
-use Rattle.std.proofs.Common.{◌∙◌, string_bytes, ap, sym, arith}
-use Rattle.std.specs.List.{slice_index}
+use Rattle.std.proofs.Common.{◌∙◌, string_bytes, ap, arith}
 use Rattle.std.specs.Str.{chars}
-use Rattle.java_tokens.specs.CharsShown.{offsets_of}
-use Rattle.java_tokens.proofs.PlaceLemmas.{plain_at}
+use Rattle.java_tokens.specs.CharsShown.{shift_at}
+use Rattle.java_tokens.proofs.ShiftLemmas.{shift_within}
+use Rattle.java_tokens.proofs.PlaceLemmas.{offset_of_place}
 use Rattle.java_tokens.proofs.place.offset_at.Goals as goal
 
-pub returns-in-None : goal.returns-in-None
-returns-in-None c =
-    let cs = chars (string_bytes c.args.chars.now.text) in
-    c.requires.width ∙ sym (plain_at cs c.args.before (omega (arith, c.requires.before))) ∙ sym (ap (λ o. slice_index (offsets_of cs o) c.args.before) c.in-None.is)
+pub overflow_add-result : goal.overflow_add-result
+overflow_add-result c =
+    let by = ap (λ ss. shift_at ss c.args.width) c.as_slice.ensures.value in
+    omega (arith, c.requires.narrow, c.shift_at.ensures, by, shift_within 8388608 c.args.chars.now.shifts.items c.args.width c.args.chars.now.within)
+
+pub returns : goal.returns
+returns c =
+    offset_of_place (chars (string_bytes c.args.chars.now.text)) c.args.chars.now.shifts.items c.args.before c.args.width c.shift_at.result (omega (arith, c.requires.before)) c.requires.width
+    (c.shift_at.ensures ∙ ap (λ ss. shift_at ss c.args.width) c.as_slice.ensures.value)
