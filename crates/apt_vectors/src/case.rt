@@ -1,4 +1,9 @@
 // A case: a file, and what its characters and tokens are to be.
+ghost use Rattle.std.specs.Prelude.{◌≡◌, IfOk, MatchBool};
+ghost use Rattle.java_tokens.specs.Tokens.{IsTokenFault};
+ghost use Rattle.java_tokens.specs.TokensShown.{codes_in, offsets_in, shown_token, shown_tokens};
+ghost use Rattle.apt_vectors.specs.Cases.{kinds_and_texts, shown_pairs, HaveTokens, IsOfKind, GivenBy, IsPassed};
+
 use java_tokens::{Chars, TextFault, Token, TokenKind, read_chars, tokens};
 use std::alloc::{AllocError, Global};
 
@@ -27,22 +32,34 @@ pub struct Case {
     pub expected: Expected,
 }
 
-/// A file gives what it is to give. The one error is want of memory.
-pub fn passes(alloc: Global, case: &Case) -> Result<bool, AllocError> {
+/// A case passes exactly where its file gives what is expected. The one error is want of memory.
+pub fn passes(alloc: Global, case: &Case) -> Result<bool, AllocError>
+    ensures { IfOk result (λ passed. MatchBool passed (IsPassed case.now) (¬ IsPassed case.now)) }
+{
     if case.file.len() > MOST {
         return Ok(false);
     }
     match read_chars(alloc, case.file) {
         Ok(chars) => gives(alloc, &chars, case.expected),
-        Err(TextFault::Bad { place }) => Ok(
-            matches!(case.expected, Expected::NoCharacters(at) if at == place),
-        ),
+        Err(TextFault::Bad { place }) => Ok(is_fault(case.expected, place)),
         Err(TextFault::Memory) => Err(AllocError),
     }
 }
 
+// A fault at this place is expected.
+fn is_fault(expected: Expected, place: u32) -> bool
+    ensures { MatchBool result (expected ≡ Expected.NoCharacters place) (¬ (expected ≡ Expected.NoCharacters place)) }
+{
+    match expected {
+        Expected::NoCharacters(at) => at == place,
+        _ => false,
+    }
+}
+
 // The characters are the expected ones, or give what is expected.
-fn gives(alloc: Global, chars: &Chars, expected: Expected) -> Result<bool, AllocError> {
+fn gives(alloc: Global, chars: &Chars, expected: Expected) -> Result<bool, AllocError>
+    ensures { IfOk result (λ given. MatchBool given (GivenBy (codes_in chars.now) (offsets_in chars.now) expected) (¬ GivenBy (codes_in chars.now) (offsets_in chars.now) expected)) }
+{
     match expected {
         Expected::Characters(text) => Ok(chars.as_str() == text),
         Expected::NoCharacters(_) => Ok(false),
@@ -52,11 +69,9 @@ fn gives(alloc: Global, chars: &Chars, expected: Expected) -> Result<bool, Alloc
 }
 
 // The characters have tokens of these kinds with these texts.
-fn has_tokens(
-    alloc: Global,
-    chars: &Chars,
-    list: &[(TokenKind, &str)],
-) -> Result<bool, AllocError> {
+fn has_tokens(alloc: Global, chars: &Chars, list: &[(TokenKind, &str)]) -> Result<bool, AllocError>
+    ensures { IfOk result (λ has. MatchBool has (HaveTokens (codes_in chars.now) (offsets_in chars.now) list.now) (¬ HaveTokens (codes_in chars.now) (offsets_in chars.now) list.now)) }
+{
     match tokens(alloc, chars) {
         Ok(found) => Ok(are_equal(found.as_slice(), list)),
         Err(TextFault::Bad { .. }) => Ok(false),
@@ -65,7 +80,9 @@ fn has_tokens(
 }
 
 // The characters have no tokens, and the first fault is at this place.
-fn has_fault(alloc: Global, chars: &Chars, place: u32) -> Result<bool, AllocError> {
+fn has_fault(alloc: Global, chars: &Chars, place: u32) -> Result<bool, AllocError>
+    ensures { IfOk result (λ has. MatchBool has (IsTokenFault (codes_in chars.now) (offsets_in chars.now) place) (¬ IsTokenFault (codes_in chars.now) (offsets_in chars.now) place)) }
+{
     match tokens(alloc, chars) {
         Ok(_) => Ok(false),
         Err(TextFault::Bad { place: at }) => Ok(at == place),
@@ -73,12 +90,26 @@ fn has_fault(alloc: Global, chars: &Chars, place: u32) -> Result<bool, AllocErro
     }
 }
 
-fn are_equal(found: &[Token<'_>], list: &[(TokenKind, &str)]) -> bool {
+// The tokens have these kinds and texts.
+fn are_equal(found: &[Token<'_>], list: &[(TokenKind, &str)]) -> bool
+    ensures { MatchBool result (kinds_and_texts (shown_tokens found.now) ≡ shown_pairs list.now) (¬ (kinds_and_texts (shown_tokens found.now) ≡ shown_pairs list.now)) }
+{
     if found.len() != list.len() {
         return false;
     }
-    let mut pairs = found.iter().zip(list);
-    pairs.all(|(token, &(kind, text))| token.kind == kind && token.text == text)
+    for at in 0..found.len() {
+        if !is_equal(&found[at], list[at].0, list[at].1) {
+            return false;
+        }
+    }
+    true
+}
+
+// A token has this kind and this text.
+fn is_equal(token: &Token<'_>, kind: TokenKind, text: &str) -> bool
+    ensures { MatchBool result (IsOfKind (shown_token token.now) kind text.now) (¬ IsOfKind (shown_token token.now) kind text.now) }
+{
+    token.kind == kind && token.text == text
 }
 
 #[cfg(test)]

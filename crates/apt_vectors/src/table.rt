@@ -1,5 +1,9 @@
 // The tables of cases, and their names.
-use crate::case::passes;
+ghost use Rattle.std.specs.Prelude.{◌<◌, length, IfOk, MatchBool};
+ghost use Rattle.std.specs.List.{All};
+ghost use Rattle.apt_vectors.specs.Cases.{IsPassed};
+
+use crate::case::{Case, passes};
 use crate::token_cases::TOKEN_CASES;
 use std::alloc::{AllocError, Global};
 
@@ -26,17 +30,21 @@ impl Table {
         Table::ALL.into_iter().find(|table| table.name() == name)
     }
 
-    /// Each of its cases gives what it is to give.
-    pub fn passes(self, alloc: Global) -> Result<bool, AllocError> {
+    /// Its cases, of which there is at least one.
+    pub fn cases(self) -> &'static [Case]
+        ensures { 0 < length result.now }
+    {
         match self {
-            Table::Tokens => all_pass(alloc),
+            Table::Tokens => &TOKEN_CASES,
         }
     }
 }
 
-// Each case of a file passes.
-fn all_pass(alloc: Global) -> Result<bool, AllocError> {
-    for case in &TOKEN_CASES {
+/// These cases pass exactly where each of them does. The one error is want of memory.
+pub fn all_pass(alloc: Global, cases: &[Case]) -> Result<bool, AllocError>
+    ensures { IfOk result (λ passed. MatchBool passed (All IsPassed cases.now) (¬ All IsPassed cases.now)) }
+{
+    for case in cases {
         if !passes(alloc, case)? {
             return Ok(false);
         }
