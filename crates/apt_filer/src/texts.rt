@@ -38,6 +38,7 @@ impl Texts {
         }
     }
 
+    /// Whether this text is in the set.
     pub fn contains(&self, text: &str) -> bool
         ensures { result ≡ set.contains self.now text.now }
     {
@@ -54,6 +55,7 @@ impl Texts {
         Ok(())
     }
 
+    /// Takes a text out. One that is not in the set changes nothing.
     pub fn remove(&mut self, text: &str)
         ensures { self.new ≡ set.remove self.old text.now }
     {

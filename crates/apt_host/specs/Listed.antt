@@ -15,9 +15,13 @@ use Rattle.round_engine.specs.declared.numbering.Made.{Made}
 abbrev pub listed : StoredFile → List ℕ × ℕ
 listed file = (file.path, file.length)
 
+-- the entry in the record of a file with this path, number and content
+abbrev pub entry_with : List ℕ → ℕ → List ℕ → StoredFile
+entry_with path store bytes = record { path = path; store = store; length = length bytes }
+
 -- its entry in the record
 abbrev pub entry_of : Made → StoredFile
-entry_of made = record { path = made.path; store = made.store; length = length made.bytes }
+entry_of made = entry_with made.path made.store made.bytes
 
 -- its file in the store
 abbrev pub numbered_of : Made → ℕ × List ℕ

@@ -9,7 +9,7 @@ ghost use Rattle.apt_host.specs.Verdicts.{Done, TreeFault, SinkFault, OrFree};
 ghost use Rattle.apt_host.specs.Refusals.{refused, ended, sink_verdict};
 ghost use Rattle.apt_host.specs.Entering.{IsUntouched};
 ghost use Rattle.apt_host.specs.Report.{errors_report};
-ghost use Rattle.apt_host.specs.Listed.{entry_of, numbered_of, summary_of, Spells, Places};
+ghost use Rattle.apt_host.specs.Listed.{entry_of, entry_with, numbered_of, summary_of, Spells, Places};
 ghost use Rattle.apt_host.specs.Promises.{KeepsOutput, KeepsStores, AddsFront};
 
 use crate::refusal::Refusal;
@@ -40,7 +40,7 @@ fn entry_of(path: Name, store: u32, bytes: &List<u8>) -> StoredFile
     requires path { length path < 2 ^ 32 }
     requires text { is_text path ≡ true }
     requires size { length bytes.now < 2 ^ 32 }
-    ensures entry { result ≡ entry_of (record { path = path; store = store; written = true; bytes = bytes.now }) }
+    ensures entry { result ≡ entry_with path store bytes.now }
     ensures fits { IsEntry result }
 {
     StoredFile {

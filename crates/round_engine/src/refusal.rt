@@ -50,7 +50,7 @@ impl From<NoMemory> for Refusal {
     }
 }
 
-// The refusal of a run of the processor with this name, or want of memory for the name.
+/// The refusal of a run of the processor with this name, or `Memory` where there is none for a copy of the name.
 pub fn refusal_of(name: &Name, fault: RunFault) -> Refusal
     ensures { RefusedAs name.now fault result }
 {
