@@ -1,19 +1,16 @@
 -- From what was spelled to what a build leaves.
-use Rattle.std.proofs.Common.{◌≡◌, ◌≢◌, ℕ, zero, suc, ◌<◌, ◌^◌, List, [], ◌∷◌, length, map, get_or, All, Option, None, Some, Result, Ok, Err, refl, sym, ap, ◌∙◌, subst, Contains, String, Vec, arith}
+use Rattle.std.proofs.Common.{◌≡◌, ◌≢◌, ℕ, zero, suc, ◌<◌, ◌^◌, List, [], ◌∷◌, length, map, get_or, All, Option, None, Some, Ok, Err, refl, sym, ap, ◌∙◌, subst, Contains, arith}
 use Rattle.std.specs.Prelude.{AllPairs, ◌+◌, ◌==◌, cond, Bool, true, false}
 use Rattle.std.specs.FinMap as fin
-use Rattle.std.specs.BTreeMap.{BTreeMap}
-use Rattle.std.specs.declared.alloc.Global.{Global}
-use Rattle.std.proofs.lemmas.List.Elements.{All-head, All-tail, All-cons, All-map, All-contains}
+use Rattle.std.proofs.lemmas.List.Elements.{All-head, All-tail, All-cons}
 use Rattle.std.proofs.lemmas.List.{length-map}
 use Rattle.apt_outside.specs.Files.{Files, file_at}
-use Rattle.apt_outside.specs.Held.{files_of}
 use Rattle.apt_outside.specs.Child.{Says, Try, Known}
 use Rattle.tree_store.specs.declared.record.StoredFile.{StoredFile}
 use Rattle.decl_syntax.specs.Fields.{is_text}
 use Rattle.tree_store.specs.RecordFormat.{record_form, IsEntry}
 use Rattle.tree_store.specs.Output.{store_path, record_path, output_of, StoresStand}
-use Rattle.tree_store.specs.Storing.{Numbered, paths_of, AreTaken, AreDistinct, AreAbsent, AreWritten, Holds}
+use Rattle.tree_store.specs.Storing.{Numbered, paths_of, AreTaken, AreDistinct, AreAbsent, Holds}
 use Rattle.tree_store.proofs.OutputLemmas.{output_of-record_form, file_at-record}
 use Rattle.tree_store.proofs.Publishing.{absent_from_taken, Holds-written}
 use Rattle.round_engine.specs.declared.numbering.Made.{Made}
@@ -22,22 +19,21 @@ use Rattle.round_engine.specs.declared.running.Finished.{Finished}
 use Rattle.round_engine.specs.Units.{Units}
 use Rattle.round_engine.specs.Run.{run_of, files_among}
 use Rattle.round_engine.specs.Shown.{IsShown}
-use Rattle.round_engine.specs.Clean.{AreNumbered, Has, is_error, is_warning, count_of, frames_of}
+use Rattle.round_engine.specs.Clean.{AreNumbered, is_error, is_warning, count_of, frames_of}
 use Rattle.round_engine.proofs.NumberLemmas.{All-from_AreLeast, AllPairs-from_AreLeast}
-use Rattle.wire_frames.specs.declared.frame.Creation.{Creation}
 use Rattle.apt_host.specs.declared.refusal.Refusal.{Refusal}
 use Rattle.apt_host.specs.declared.refusal.Refusal.TheVariants as code
-use Rattle.apt_host.specs.Words.{Request, Build}
+use Rattle.apt_host.specs.Words.{Build}
 use Rattle.apt_host.specs.Project.{units_of}
 use Rattle.apt_host.specs.CleanBuild.{Summary, summary, Outcome, outcome_of, outcome_of_run, clean}
 use Rattle.apt_host.specs.CleanBuild as outcome
 use Rattle.apt_host.specs.Report.{report_of, errors_report}
 use Rattle.apt_host.specs.Verdicts.{Verdict, Done, Errors, BadWords, UnbuiltForm, UnbuiltTalk, TooManyQuestions, GeneratedDuplicate, TooManyRounds, TreeFault, SinkFault, ChildFault, Memory, is_free, OrFree, verdict_of}
-use Rattle.apt_host.specs.Refusals.{refused, ended}
+use Rattle.apt_host.specs.Refusals.{refused}
 use Rattle.apt_host.specs.Listed.{listed, entry_of, numbered_of, file_of, Places}
 use Rattle.apt_host.specs.Entering.{EntersAll}
 use Rattle.apt_host.proofs.Making.{outcome_is}
-use Rattle.apt_host.specs.Making.{run_over, ShowsRunOver, count_of_processors, name_of, finished_summary, concluded, concluding_report, Makes}
+use Rattle.apt_host.specs.Making.{ShowsRunOver, count_of_processors, name_of, finished_summary, concluded, concluding_report, Makes}
 use Rattle.apt_host.specs.Promises.{is_run, KeepsStores, Publishes, PublishesOutcome, Reports, ShowsRun}
 
 -- ---- the store's new files
@@ -107,6 +103,14 @@ module _ (taken : List ℕ) (finished : Finished) (numbered : AreNumbered taken 
   stores [] = refl
   stores (m ∷ made) = ap (λ ns. m.store ∷ ns) (stores made)
 
+  -- what the report and the record name
+  lines : (made : List Made) → map listed (map entry_of made) ≡ map (λ file. (file.0, length file.1)) (map file_of made)
+  lines [] = refl
+  lines (m ∷ made) = ap (λ ls. (m.path, length m.bytes) ∷ ls) (lines made)
+
+  pub listed_are : (files : Files) → map file_of all ≡ fin.entries files → map listed (map entry_of all) ≡ map (λ file. (file.0, length file.1)) (fin.entries files)
+  listed_are files files_are = lines all ∙ ap (map (λ file. (file.0, length file.1))) files_are
+
   pub publishes : (files : Files) → map file_of all ≡ fin.entries files → (old new : Files) → AreTaken old taken → Places (map numbered_of all) (record_form (map entry_of all)) old new → Publishes files old new × StoresStand new
   publishes files files_are old new are p =
       let entries : List StoredFile = map entry_of all in
@@ -117,6 +121,7 @@ module _ (taken : List ℕ) (finished : Finished) (numbered : AreNumbered taken 
           output = ap output_of p.committed ∙ both.0;
           entries = entries;
           recorded = ap (λ t. file_at t record_path) p.committed ∙ file_at-record p.mid (record_form entries);
+          named = listed_are files files_are;
           taken = taken;
           are_taken = are;
           numbers = subst (AreLeast taken []) (sym (stores all)) numbered.numbers;
@@ -129,15 +134,6 @@ module _ (taken : List ℕ) (finished : Finished) (numbered : AreNumbered taken 
   stores_stand v old new are placed keeps stand = either_way v (StoresStand new)
       (λ done. (publishes numbered.published numbered.entries old new are (placed done)).1)
       (λ ne. keeps ne stand)
-
-  -- ---- the report
-
-  lines : (made : List Made) → map listed (map entry_of made) ≡ map (λ file. (file.0, length file.1)) (map file_of made)
-  lines [] = refl
-  lines (m ∷ made) = ap (λ ls. (m.path, length m.bytes) ∷ ls) (lines made)
-
-  pub listed_are : (files : Files) → map file_of all ≡ fin.entries files → map listed (map entry_of all) ≡ map (λ file. (file.0, length file.1)) (fin.entries files)
-  listed_are files files_are = lines all ∙ ap (map (λ file. (file.0, length file.1))) files_are
 
 -- ---- the clean build
 

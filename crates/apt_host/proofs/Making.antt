@@ -1,6 +1,5 @@
 -- From a clean run to what making the files of a build gives.
-use Rattle.std.proofs.Common.{◌≡◌, ◌≢◌, ◌⊎◌, ℕ, ◌+◌, ◌≤◌, Bool, true, false, List, [], ◌∷◌, ◌++◌, length, take, map, Option, None, Some, Result, Ok, Err, refl, sym, ap, ◌∙◌, subst, inl, inr, arith}
-use Rattle.apt_outside.specs.Count.{Rose}
+use Rattle.std.proofs.Common.{◌≡◌, ◌≢◌, ℕ, ◌+◌, true, false, List, [], ◌∷◌, ◌++◌, length, take, map, Option, None, Some, Result, Ok, Err, refl, sym, ap, ◌∙◌, subst, inl, inr, arith}
 use Rattle.apt_outside.specs.Child.{Says, Try, Known}
 use Rattle.round_engine.specs.declared.running.Finished.{Finished}
 use Rattle.round_engine.specs.declared.project.KeyProcessor.{KeyProcessor}
@@ -92,7 +91,7 @@ hosted_starts processors (Some t) (Err refusal) old new is starts =
     let n : length (take 1 processors) ≡ 1 = count_is processors (Some t) is in
     record { finished = λ done. absurd (let e : true ≡ false = sym done ∙ unfinished (of_run refusal) in cc); most = omega (arith, starts, n) }
 
-head_is : (p : KeyProcessor) (ps : List KeyProcessor) (t : Try) → IsKeyOf (p ∷ ps) (Some t) → try_of p ≡ t
+pub head_is : (p : KeyProcessor) (ps : List KeyProcessor) (t : Try) → IsKeyOf (p ∷ ps) (Some t) → try_of p ≡ t
 head_is p ps t is = let e : try_of p ∷ map try_of ps ≡ t ∷ [] = is in cc
 
 pub hosted_tries : (processors : List KeyProcessor) (processor : Option Try) (old new : List Try) → IsKeyOf processors processor → clean.Tries processors old new → Tries (Build processor) old new

@@ -1,6 +1,6 @@
 -- How units are entered one by one.
-use Rattle.std.proofs.Common.{◌≡◌, ℕ, suc, ◌+◌, ◌<◌, ◌≤◌, Bool, true, false, cond, List, ◌∷◌, drop, length, get_or, Option, None, Some, Result, Ok, Err, refl, sym, ap, ◌∙◌, drop-cons, add-one}
-use Rattle.std.specs.Prelude.{is_none, is_some, nat_lt, ◌&&◌}
+use Rattle.std.proofs.Common.{◌≡◌, ℕ, suc, ◌+◌, ◌<◌, ◌≤◌, Bool, true, false, cond, List, ◌∷◌, drop, length, get_or, Option, None, Some, Err, sym, ap, ◌∙◌, drop-cons, add-one}
+use Rattle.std.specs.Prelude.{is_none, is_some, ◌&&◌}
 use Rattle.std.specs.FinMap as fin
 use Rattle.std.proofs.lemmas.Bool.{lt-ltb, le-ltb}
 use Rattle.source_form.specs.declared.form.SourceForm.{SourceForm}

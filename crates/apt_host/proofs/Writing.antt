@@ -1,7 +1,6 @@
 -- What is written, by the verdict.
-use Rattle.std.proofs.Common.{◌≡◌, ◌≢◌, ◌⊎◌, ℕ, Bool, true, false, List, [], ◌++◌, length, take, refl, sym, ap, ◌∙◌, subst, inl, inr, append-nil, append_assoc, codes}
+use Rattle.std.proofs.Common.{◌≡◌, ◌≢◌, ◌⊎◌, ℕ, Bool, true, false, List, [], ◌++◌, length, refl, sym, ap, ◌∙◌, subst, inl, inr, append-nil, append_assoc}
 use Rattle.std.proofs.Math.Seq.{take-length}
-use Rattle.apt_outside.specs.Count.{Told}
 use Rattle.apt_outside.specs.Files.{Files}
 use Rattle.apt_outside.specs.Child.{Says}
 use Rattle.apt_host.specs.declared.status.Status.{Status}
@@ -12,7 +11,7 @@ use Rattle.apt_host.specs.Words.{Request, Build, Bad}
 use Rattle.apt_host.specs.CleanBuild.{Outcome, clean}
 use Rattle.apt_host.specs.CleanBuild as outcome
 use Rattle.apt_host.specs.Report.{report_of, errors_report}
-use Rattle.apt_host.specs.Verdicts.{Verdict, verdict, Done, Errors, BadWords, UnbuiltForm, UnbuiltTalk, TooManyQuestions, GeneratedDuplicate, TooManyRounds, TreeFault, SinkFault, ChildFault, Memory, OrFree, is_finished}
+use Rattle.apt_host.specs.Verdicts.{Verdict, verdict, Done, Errors, BadWords, UnbuiltForm, UnbuiltTalk, TooManyQuestions, GeneratedDuplicate, TooManyRounds, TreeFault, SinkFault, ChildFault, Memory, is_finished}
 use Rattle.apt_host.specs.Promises.{IsFront, IsLine, Reports, ReportsOf, Begins, Writes, Finishes, AddsLine}
 
 -- before the report nothing stands

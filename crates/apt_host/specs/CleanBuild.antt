@@ -1,6 +1,5 @@
 -- What a build over a project gives, from nothing: the rounds run anew, whatever an earlier build left.
-use Rattle.std.specs.Prelude.{ℕ, ◌+◌, List, [], ◌∷◌, length, Bool, true, false, Option, None, Some, Result, Ok, Err, if◌then◌else◌, ◌==◌}
-use Rattle.std.specs.FinMap as fin
+use Rattle.std.specs.Prelude.{ℕ, ◌+◌, List, [], length, Option, None, Some, Result, Ok, Err, if◌then◌else◌, ◌==◌}
 use Rattle.apt_outside.specs.Files.{Files}
 use Rattle.apt_outside.specs.Child.{Says, Try}
 use Rattle.round_engine.specs.declared.messages.Placed.{Placed}

@@ -1,5 +1,5 @@
 -- What `run` promises, by what its words ask for.
-use Rattle.std.specs.Prelude.{◌≡◌, ◌≢◌, ◌⊎◌, ℕ, ◌+◌, ◌≤◌, Bool, true, false, List, [], ◌∷◌, ◌++◌, map, length, take, Option, None, Some, Result, Ok, Err, IfOk}
+use Rattle.std.specs.Prelude.{◌≡◌, ◌≢◌, ◌⊎◌, ℕ, ◌+◌, ◌≤◌, Bool, true, false, List, [], ◌∷◌, ◌++◌, map, length, take, Option, None, Some, Ok, Err}
 use Rattle.std.specs.FinMap as fin
 use Rattle.apt_outside.specs.Count.{Rose, Told}
 use Rattle.apt_outside.specs.Files.{Files, file_at}
@@ -7,7 +7,7 @@ use Rattle.apt_outside.specs.Child.{Says, Try, Known}
 use Rattle.tree_store.specs.declared.record.StoredFile.{StoredFile}
 use Rattle.tree_store.specs.RecordFormat.{record_form}
 use Rattle.tree_store.specs.Output.{output_of, record_path, StoresStand}
-use Rattle.tree_store.specs.Storing.{AreTaken}
+use Rattle.tree_store.specs.Storing.{AreTaken, AddsToStore}
 use Rattle.round_engine.specs.Numbering.{AreLeast}
 use Rattle.round_engine.specs.Units.{Units}
 use Rattle.round_engine.specs.Run.{run_of}
@@ -17,8 +17,9 @@ use Rattle.apt_host.specs.Words.{Request, Build, Bad}
 use Rattle.apt_host.specs.Project.{units_of}
 use Rattle.apt_host.specs.CleanBuild.{Outcome, clean}
 use Rattle.apt_host.specs.CleanBuild as outcome
+use Rattle.apt_host.specs.Listed.{listed}
 use Rattle.apt_host.specs.Report.{report_of, errors_report}
-use Rattle.apt_host.specs.Verdicts.{Verdict, Done, Errors, BadWords, UnbuiltForm, UnbuiltTalk, TooManyQuestions, GeneratedDuplicate, TooManyRounds, TreeFault, SinkFault, ChildFault, Memory, OrFree, is_finished, verdict_of, refusal_of}
+use Rattle.apt_host.specs.Verdicts.{Verdict, Done, Errors, BadWords, UnbuiltForm, UnbuiltTalk, TooManyQuestions, GeneratedDuplicate, TooManyRounds, TreeFault, SinkFault, ChildFault, Memory, is_finished, verdict_of, refusal_of}
 
 -- ---- the answer
 
@@ -44,12 +45,13 @@ ChildrenRose TooManyRounds before now = Unit {0}
 
 -- ---- what is published
 
--- The output is these files: the record names each, and it stands in the store. The numbers of the store files are, in the
--- order of the record, the least that no file of the store and no earlier one has.
+-- The output is these files: the record names each and no other, and it stands in the store. The numbers of the store files
+-- are, in the order of the record, the least that no file of the store and no earlier one has.
 pub record Publishes (files old new : Files) : Type 0 where
   pub output : output_of new ≡ files
   pub entries : List StoredFile
   pub recorded : file_at new record_path ≡ Some (record_form entries)
+  pub named : map listed entries ≡ map (λ file. (file.0, length file.1)) (fin.entries files)
   pub taken : List ℕ
   pub are_taken : AreTaken old taken
   pub numbers : AreLeast taken [] (map (λ entry. entry.store) entries)
@@ -75,6 +77,32 @@ KeepsOutput old new v = v ≢ Done → StoresStand old → output_of new ≡ out
 -- where each store file that the record names stood, each still stands
 abbrev pub KeepsStores : Files → Files → Verdict → Type 0
 KeepsStores old new v = v ≢ Done → StoresStand old → StoresStand new
+
+-- ---- what the tree holds in the end
+
+-- the store gained files, and then the record was put in place
+pub record Commits (old new : Files) : Type 0 where
+  pub mid : Files
+  pub adds : AddsToStore old mid
+  pub bytes : List ℕ
+  pub committed : new ≡ fin.insert mid record_path bytes
+
+-- A build that is published adds files to the store and puts the record in place. Errors that were printed, and a refusal of
+-- the words, of what was read or of what a child did, leave the tree as it is. A fault of the tree or the sink, and want of
+-- memory, may leave more files in the store, which no record names.
+abbrev pub Leaves : Verdict → Files → Files → Type 0
+Leaves Done old new = Commits old new
+Leaves (Errors count) old new = new ≡ old
+Leaves (BadWords at) old new = new ≡ old
+Leaves (UnbuiltForm path) old new = new ≡ old
+Leaves (UnbuiltTalk processor) old new = new ≡ old
+Leaves (TooManyQuestions processor most) old new = new ≡ old
+Leaves (GeneratedDuplicate name) old new = new ≡ old
+Leaves TooManyRounds old new = new ≡ old
+Leaves (ChildFault processor) old new = new ≡ old
+Leaves TreeFault old new = AddsToStore old new
+Leaves SinkFault old new = AddsToStore old new
+Leaves Memory old new = AddsToStore old new
 
 -- ---- what is written
 
@@ -162,6 +190,27 @@ abbrev pub Tries : Request → List Try → List Try → Type 0
 Tries (Build (Some processor)) old new = (new ≡ old) ⊎ (new ≡ old ++ processor ∷ [])
 Tries (Build None) old new = new ≡ old
 Tries (Bad at) old new = new ≡ old
+
+-- where a source of the project is refused, no child is started
+abbrev pub StartsUnread : Request → Files → ℕ → ℕ → Type 0
+StartsUnread (Build processor) project before now = (path : List ℕ) → units_of project ≡ Err path → now ≡ before
+StartsUnread (Bad at) project before now = now ≡ before
+
+-- nor is a start of one tried
+abbrev pub TriesUnread : Request → Files → List Try → List Try → Type 0
+TriesUnread (Build processor) project old new = (path : List ℕ) → units_of project ≡ Err path → new ≡ old
+TriesUnread (Bad at) project old new = new ≡ old
+
+-- the processor that the words name, or none
+abbrev pub IsNamed : Option Try → List ℕ → Type 0
+IsNamed None name = ⊥
+IsNamed (Some processor) name = name ≡ processor.0
+
+-- a fault of the children is told under the name of the processor
+abbrev pub NamesChild : Request → Verdict → Type 0
+NamesChild (Build processor) (ChildFault name) = IsNamed processor name
+NamesChild (Bad at) (ChildFault name) = ⊥
+NamesChild request other = Unit {0}
 
 -- the answers that a run comes to
 abbrev pub is_run : Verdict → Bool

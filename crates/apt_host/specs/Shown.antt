@@ -1,5 +1,5 @@
 -- What the code has of the words of a call.
-use Rattle.std.specs.Prelude.{ℕ, List, map, string_bytes, Option, None, Some, option_map}
+use Rattle.std.specs.Prelude.{map, string_bytes, option_map}
 use Rattle.apt_outside.specs.Child.{Try}
 use Rattle.apt_host.specs.declared.words.Processor.{Processor}
 use Rattle.apt_host.specs.declared.words.Request as words

@@ -1,5 +1,5 @@
 -- A status as a value: its number, its line, and which come at any point.
-use Rattle.std.specs.Prelude.{◌≡◌, ◌≢◌, ℕ, Bool, true, false, List, [], ◌++◌, codes, decimal}
+use Rattle.std.specs.Prelude.{◌≡◌, ℕ, Bool, true, false, List, [], ◌++◌, codes, decimal}
 use Rattle.apt_host.specs.declared.status.Status.{Status}
 use Rattle.apt_host.specs.declared.status.Status.TheVariants as code
 use Rattle.apt_host.specs.CleanBuild as outcome

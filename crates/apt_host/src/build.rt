@@ -15,7 +15,7 @@ ghost use Rattle.apt_host.specs.Refusals.{ended, closed};
 ghost use Rattle.apt_host.specs.Making.{Makes, tries_of, name_of, concluded, concluding_report};
 ghost use Rattle.apt_host.specs.Entering.{IsConcluded};
 ghost use Rattle.apt_host.specs.Listed.{entry_of, numbered_of, Places};
-ghost use Rattle.apt_host.specs.Promises.{answer_of, ChildrenRose, PublishesClean, KeepsOutput, KeepsStores, AddsFront, Begins, Starts, Tries, ShowsRun};
+ghost use Rattle.apt_host.specs.Promises.{answer_of, ChildrenRose, PublishesClean, Leaves, KeepsOutput, KeepsStores, AddsFront, Begins, Starts, Tries, StartsUnread, TriesUnread, NamesChild, ShowsRun};
 
 use crate::project::read_units;
 use crate::publish::{publish, spell, tell_errors};
@@ -100,6 +100,7 @@ fn make<C: Children>(
     ensures starts { Starts (Build (option_map shown_processor processor.now)) (ended result) (C.starts children.old) (C.starts children.new) }
     ensures says { Told C.tells (C.says children.new ≡ C.says children.old) }
     ensures tried { Told C.tells (Tries (Build (option_map shown_processor processor.now)) (C.tried children.old) (C.tried children.new)) }
+    ensures named { NamesChild (Build (option_map shown_processor processor.now)) (ended result) }
     ensures numbered { IfOk result (λ finished. AreNumbered taken.now finished.files) }
     ensures made { Told C.tells (Makes (C.says children.old) (option_map shown_processor processor.now) (files_of units) (C.known children.new) result) }
 {
@@ -133,6 +134,7 @@ fn conclude<T: Tree, W: Sink>(
     ensures later_sink { W.faults output.old ≤ W.faults output.new }
     ensures answer { OrFree (concluded finished) (closed result) }
     ensures placed { Told T.tells (closed result ≡ Done → Places (map numbered_of finished.files) (record_form (map entry_of finished.files)) (T.files tree.old) (T.files tree.new)) }
+    ensures leaves { Told T.tells (Leaves (closed result) (T.files tree.old) (T.files tree.new)) }
     ensures kept { Told T.tells (KeepsOutput (T.files tree.old) (T.files tree.new) (closed result)) }
     ensures stand { Told T.tells (KeepsStores (T.files tree.old) (T.files tree.new) (closed result)) }
     ensures outside { Told T.tells (SameOutside (T.files tree.old) (T.files tree.new)) }
@@ -182,8 +184,12 @@ pub fn build<T: Tree, C: Children, W: Sink>(
     ensures starts { Starts (Build (option_map shown_processor processor.entry)) (closed result) (C.starts children.old) (C.starts children.new) }
     ensures says { Told C.tells (C.says children.new ≡ C.says children.old) }
     ensures tried { Told C.tells (Tries (Build (option_map shown_processor processor.entry)) (C.tried children.old) (C.tried children.new)) }
+    ensures starts_unread { Told T.tells (StartsUnread (Build (option_map shown_processor processor.entry)) (T.files tree.old) (C.starts children.old) (C.starts children.new)) }
+    ensures tries_unread { Told T.tells (Told C.tells (TriesUnread (Build (option_map shown_processor processor.entry)) (T.files tree.old) (C.tried children.old) (C.tried children.new))) }
+    ensures named { NamesChild (Build (option_map shown_processor processor.entry)) (closed result) }
     ensures answer { Told T.tells (Told C.tells (OrFree (answer_of (Build (option_map shown_processor processor.entry)) (C.says children.old) (T.files tree.old)) (closed result))) }
     ensures published { Told T.tells (Told C.tells (PublishesClean (Build (option_map shown_processor processor.entry)) (C.says children.old) (T.files tree.old) (T.files tree.new) (closed result))) }
+    ensures leaves { Told T.tells (Leaves (closed result) (T.files tree.old) (T.files tree.new)) }
     ensures kept { Told T.tells (KeepsOutput (T.files tree.old) (T.files tree.new) (closed result)) }
     ensures stand { Told T.tells (StoresStand (T.files tree.old) → StoresStand (T.files tree.new)) }
     ensures outside { Told T.tells (SameOutside (T.files tree.old) (T.files tree.new)) }

@@ -5,7 +5,7 @@ ghost use Rattle.tree_store.specs.Output.{StoresStand, SameOutside};
 ghost use Rattle.apt_host.specs.Words.{request_of, cut_at};
 ghost use Rattle.apt_host.specs.Verdicts.{verdict, Done, BadWords, TreeFault, SinkFault, Memory, OrFree, is_finished};
 ghost use Rattle.apt_host.specs.Refusals.{closed};
-ghost use Rattle.apt_host.specs.Promises.{answer_of, ChildrenRose, PublishesClean, KeepsOutput, Begins, Writes, Finishes, AddsLine, Starts, Tries, ShowsRun};
+ghost use Rattle.apt_host.specs.Promises.{answer_of, ChildrenRose, PublishesClean, Leaves, KeepsOutput, Begins, Writes, Finishes, AddsLine, Starts, Tries, StartsUnread, TriesUnread, NamesChild, ShowsRun};
 
 use crate::Status;
 use crate::build::{Ending, build};
@@ -43,8 +43,12 @@ fn work<T: Tree, C: Children, W: Sink>(
     ensures starts { Starts (request_of (map string_bytes words.now)) (verdict result) (C.starts children.old) (C.starts children.new) }
     ensures says { Told C.tells (C.says children.new ≡ C.says children.old) }
     ensures tried { Told C.tells (Tries (request_of (map string_bytes words.now)) (C.tried children.old) (C.tried children.new)) }
+    ensures starts_unread { Told T.tells (StartsUnread (request_of (map string_bytes words.now)) (T.files tree.old) (C.starts children.old) (C.starts children.new)) }
+    ensures tries_unread { Told T.tells (Told C.tells (TriesUnread (request_of (map string_bytes words.now)) (T.files tree.old) (C.tried children.old) (C.tried children.new))) }
+    ensures named { NamesChild (request_of (map string_bytes words.now)) (verdict result) }
     ensures answer { Told T.tells (Told C.tells (OrFree (answer_of (request_of (map string_bytes words.now)) (C.says children.old) (T.files tree.old)) (verdict result))) }
     ensures published { Told T.tells (Told C.tells (PublishesClean (request_of (map string_bytes words.now)) (C.says children.old) (T.files tree.old) (T.files tree.new) (verdict result))) }
+    ensures leaves { Told T.tells (Leaves (verdict result) (T.files tree.old) (T.files tree.new)) }
     ensures kept { Told T.tells (KeepsOutput (T.files tree.old) (T.files tree.new) (verdict result)) }
     ensures stand { Told T.tells (StoresStand (T.files tree.old) → StoresStand (T.files tree.new)) }
     ensures outside { Told T.tells (SameOutside (T.files tree.old) (T.files tree.new)) }
@@ -109,17 +113,24 @@ pub fn run<T: Tree, C: Children, R: Source, W: Sink>(
     ensures later_source { R.faults input.old ≤ R.faults input.new }
     ensures later_sink { W.faults output.old ≤ W.faults output.new }
 
-    // Every child that was started is stopped, and none but the processor's was tried.
+    // The source is not touched.
+    ensures input { input.new ≡ input.old }
+
+    // Every child that was started is stopped, and none but the processor's was tried; none where a source is refused.
     ensures live { C.live children.new ≡ C.live children.old }
     ensures starts { Starts (request_of (map string_bytes words.now)) (verdict result) (C.starts children.old) (C.starts children.new) }
     ensures says { Told C.tells (C.says children.new ≡ C.says children.old) }
     ensures tried { Told C.tells (Tries (request_of (map string_bytes words.now)) (C.tried children.old) (C.tried children.new)) }
+    ensures starts_unread { Told T.tells (StartsUnread (request_of (map string_bytes words.now)) (T.files tree.old) (C.starts children.old) (C.starts children.new)) }
+    ensures tries_unread { Told T.tells (Told C.tells (TriesUnread (request_of (map string_bytes words.now)) (T.files tree.old) (C.tried children.old) (C.tried children.new))) }
+    ensures named { NamesChild (request_of (map string_bytes words.now)) (verdict result) }
 
     // The answer is the clean build's, unless it is a fault or want of memory.
     ensures answer { Told T.tells (Told C.tells (OrFree (answer_of (request_of (map string_bytes words.now)) (C.says children.old) (T.files tree.old)) (verdict result))) }
 
-    // What is published is the clean build's; after any other answer the former output stands. Nothing outside `out` changes.
+    // What is published is the clean build's; after any other answer the former output stands. Of the tree nothing else changes.
     ensures published { Told T.tells (Told C.tells (PublishesClean (request_of (map string_bytes words.now)) (C.says children.old) (T.files tree.old) (T.files tree.new) (verdict result))) }
+    ensures leaves { Told T.tells (Leaves (verdict result) (T.files tree.old) (T.files tree.new)) }
     ensures kept { Told T.tells (KeepsOutput (T.files tree.old) (T.files tree.new) (verdict result)) }
     ensures stand { Told T.tells (StoresStand (T.files tree.old) → StoresStand (T.files tree.new)) }
     ensures outside { Told T.tells (SameOutside (T.files tree.old) (T.files tree.new)) }

@@ -10,7 +10,7 @@ ghost use Rattle.apt_host.specs.Refusals.{refused, ended, sink_verdict};
 ghost use Rattle.apt_host.specs.Entering.{IsUntouched};
 ghost use Rattle.apt_host.specs.Report.{errors_report};
 ghost use Rattle.apt_host.specs.Listed.{entry_of, entry_with, numbered_of, summary_of, Spells, Places};
-ghost use Rattle.apt_host.specs.Promises.{KeepsOutput, KeepsStores, AddsFront};
+ghost use Rattle.apt_host.specs.Promises.{Leaves, KeepsOutput, KeepsStores, AddsFront};
 
 use crate::refusal::Refusal;
 use crate::report::{Summary, errors_report, report};
@@ -24,7 +24,7 @@ use tree_store::{StoredFile, commit, encode_record, put_files};
 #[derive(Drop)]
 pub struct Written {
     stored: List<(u32, List<u8>)>,
-    record: List<u8>,
+    record_bytes: List<u8>,
     report: Vec<u8>,
 }
 
@@ -82,14 +82,14 @@ pub fn spell(
     requires count { length made < 2 ^ 32 }
     requires sizes { All (λ file. (file.store < 2 ^ 32) × (length file.path < 2 ^ 32) × (length file.bytes < 2 ^ 32)) made }
     requires texts { All (λ file. is_text file.path ≡ true) made }
-    ensures { IfOk result (λ written. Spells (summary_of processor.now summary.now) made written.stored written.record written.report.items) }
+    ensures { IfOk result (λ written. Spells (summary_of processor.now summary.now) made written.stored written.record_bytes written.report.items) }
 {
     let prepared = prepare(alloc, made)?;
     let report = report(alloc, processor, summary, prepared.entries.as_slice())?;
-    let record = encode_record(alloc, &prepared.entries)?;
+    let record_bytes = encode_record(alloc, &prepared.entries)?;
     Ok(Written {
         stored: prepared.stored,
-        record,
+        record_bytes,
         report,
     })
 }
@@ -139,7 +139,8 @@ pub fn publish<T: Tree, W: Sink>(
     ensures later { T.faults tree.old ≤ T.faults tree.new }
     ensures later_sink { W.faults output.old ≤ W.faults output.new }
     ensures free { OrFree Done (ended result) }
-    ensures placed { Told T.tells (ended result ≡ Done → Places written.now.stored written.now.record (T.files tree.old) (T.files tree.new)) }
+    ensures placed { Told T.tells (ended result ≡ Done → Places written.now.stored written.now.record_bytes (T.files tree.old) (T.files tree.new)) }
+    ensures leaves { Told T.tells (Leaves (ended result) (T.files tree.old) (T.files tree.new)) }
     ensures kept { Told T.tells (KeepsOutput (T.files tree.old) (T.files tree.new) (ended result)) }
     ensures stand { Told T.tells (KeepsStores (T.files tree.old) (T.files tree.new) (ended result)) }
     ensures outside { Told T.tells (SameOutside (T.files tree.old) (T.files tree.new)) }
@@ -149,7 +150,7 @@ pub fn publish<T: Tree, W: Sink>(
     if let Err(fault) = output.write_all(&written.report) {
         return Err(of_sink(fault));
     }
-    match commit(tree, &written.record) {
+    match commit(tree, &written.record_bytes) {
         Ok(()) => Ok(()),
         Err(fault) => Err(Refusal::from(fault)),
     }

@@ -1,6 +1,6 @@
 -- From the run of a processor to a clean run.
-use Rattle.std.proofs.Common.{◌≡◌, ◌⊎◌, ℕ, Bool, true, false, List, [], ◌∷◌, Result, Ok, Err, inl, inr, refl, sym, ap, ◌∙◌, subst}
-use Rattle.apt_outside.specs.Child.{Says, Try, Known}
+use Rattle.std.proofs.Common.{◌≡◌, ℕ, List, ◌∷◌, Ok, Err, inl, inr, refl, sym, ap, ◌∙◌, subst}
+use Rattle.apt_outside.specs.Child.{Says, Known}
 use Rattle.apt_filer.specs.Filing.{Filings}
 use Rattle.round_engine.specs.declared.fault.RunFault.{RunFault}
 use Rattle.round_engine.specs.declared.fault.RunFault.TheVariants as fault
@@ -11,8 +11,8 @@ use Rattle.round_engine.specs.declared.running.Finished as declared
 use Rattle.round_engine.specs.declared.project.KeyProcessor.{KeyProcessor}
 use Rattle.round_engine.specs.Units.{Units}
 use Rattle.round_engine.specs.Run.{Run, Finished, Refused, Fault, UnbuiltTalk, TooManyQuestions, UnbuiltForm, GeneratedDuplicate, TooManyRounds, run_of}
-use Rattle.round_engine.specs.Shown.{IsShown, RanAs, Runs}
-use Rattle.round_engine.specs.Clean.{try_of, refusal_of, RefusedAs, Has, frames_of, RefusesAs, is_free, FinishesAs, Cleans}
+use Rattle.round_engine.specs.Shown.{IsShown, Runs}
+use Rattle.round_engine.specs.Clean.{try_of, refusal_of, RefusedAs, Has, frames_of, Cleans, NamesProcessor}
 
 -- what a finished run has of the rounds
 pub record Counts (rounds : Rounds) (finished : declared.Finished) : Type 0 where
@@ -62,3 +62,17 @@ module _ (says : Says) (processor : KeyProcessor) (others : List KeyProcessor) (
   pub cleans_err : (f : RunFault) (refusal : Refusal) → Runs says (try_of processor) units filings known known' (Err f) → RefusedAs processor.name f refusal → Cleans (processor ∷ others) whole known' (Err refusal)
   cleans_err f refusal runs (inl is) = subst (λ r. Cleans (processor ∷ others) whole known' (Err r)) (sym is) (by_fault f runs)
   cleans_err f refusal runs (inr is) = subst (λ r. Cleans (processor ∷ others) whole known' (Err r)) (sym is) in_memory
+
+-- a refusal of a run of the processor names it, if any
+names_by_fault : (processor : KeyProcessor) (others : List KeyProcessor) (f : RunFault) → NamesProcessor (processor ∷ others) (Err (refusal_of processor.name f))
+names_by_fault processor others fault.Failed = refl
+names_by_fault processor others fault.UnbuiltTalk = refl
+names_by_fault processor others (fault.TooManyQuestions most) = refl
+names_by_fault processor others (fault.UnbuiltForm path) = tt
+names_by_fault processor others (fault.GeneratedDuplicate name) = tt
+names_by_fault processor others fault.TooManyRounds = tt
+names_by_fault processor others fault.Memory = tt
+
+pub names_processor : (processor : KeyProcessor) (others : List KeyProcessor) (f : RunFault) (refusal : Refusal) → RefusedAs processor.name f refusal → NamesProcessor (processor ∷ others) (Err refusal)
+names_processor processor others f refusal (inl is) = subst (λ r. NamesProcessor (processor ∷ others) (Err r)) (sym is) (names_by_fault processor others f)
+names_processor processor others f refusal (inr is) = subst (λ r. NamesProcessor (processor ∷ others) (Err r)) (sym is) tt

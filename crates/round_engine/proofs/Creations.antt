@@ -1,11 +1,11 @@
 -- What keeping a creation does.
-use Rattle.std.proofs.Common.{◌≡◌, ℕ, Bool, true, false, List, Option, None, Some, option_map, Result, Ok, Err, Vec, String, string_bytes, refl, sym, ap, ◌∙◌, subst}
+use Rattle.std.proofs.Common.{◌≡◌, ℕ, Bool, List, Option, None, Some, option_map, Vec, String, refl, sym, ap, ◌∙◌}
 use Rattle.std.specs.Prelude.{is_some}
 use Rattle.std.specs.Option.{option_copied}
 use denote.Ref.{Bor}
 use Rattle.std.specs.BTreeMap.{BTreeMap, get_by_text}
 use Rattle.std.specs.declared.alloc.Global.{Global}
-use Rattle.apt_outside.specs.Files.{Files, file_at}
+use Rattle.apt_outside.specs.Files.{file_at}
 use Rattle.apt_outside.specs.Held.{files_of}
 use Rattle.apt_outside.proofs.HeldLemmas.{file_at-files_of}
 

@@ -1,12 +1,12 @@
 -- Sources that are entered one after another.
-use Rattle.std.proofs.Common.{◌≡◌, ℕ, Bool, true, false, cond, List, ◌∷◌, Option, None, Some, Result, Ok, Err, refl, sym, ap, ◌∙◌}
+use Rattle.std.proofs.Common.{◌≡◌, ℕ, Bool, true, false, cond, List, ◌∷◌, Some, Result, Ok, Err, ap, ◌∙◌}
 use Rattle.std.specs.Prelude.{is_some, ◌||◌}
 use Rattle.std.specs.FinMap as fin
 use Rattle.source_form.specs.declared.form.SourceForm.{SourceForm}
 use Rattle.source_form.specs.Form.{form_of, canonical}
 use Rattle.round_engine.specs.declared.fault.RunFault.{RunFault}
 use Rattle.round_engine.specs.declared.fault.RunFault.TheVariants as code
-use Rattle.round_engine.specs.Units.{Units, Entered, SourceRefusal, IsUnbuilt, IsDuplicate, add_unit, has_unit, enter_form, enter_then, enter_all}
+use Rattle.round_engine.specs.Units.{Units, Entered, SourceRefusal, IsDuplicate, add_unit, enter_form, enter_then, enter_all}
 use Rattle.round_engine.specs.Entering.{entered, RefusesAs}
 
 module _ (initial created roots : Units) (path : List ℕ) (form : SourceForm) where

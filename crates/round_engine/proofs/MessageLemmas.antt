@@ -1,5 +1,5 @@
 -- Messages that are placed one after another.
-use Rattle.std.proofs.Common.{◌≡◌, ℕ, zero, suc, ◌+◌, List, [], ◌∷◌, ◌++◌, length, refl, sym, ap, ◌∙◌, arith}
+use Rattle.std.proofs.Common.{◌≡◌, ℕ, suc, ◌+◌, List, [], ◌∷◌, ◌++◌, length, sym, ap, ◌∙◌, arith}
 use Rattle.wire_frames.specs.declared.frame.Message.{Message}
 use Rattle.round_engine.specs.declared.messages.Placed.{Placed}
 use Rattle.round_engine.specs.Run.{place}

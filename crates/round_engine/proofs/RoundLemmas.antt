@@ -1,5 +1,5 @@
 -- How a run goes on from round to round, and what comes of it.
-use Rattle.std.proofs.Common.{◌≡◌, ℕ, zero, suc, Bool, true, false, cond, List, [], ◌∷◌, ◌++◌, length, drop, Option, None, Some, Result, Ok, Err, IfSome, IsSome, IsSomeAnd, refl, sym, ap, ◌∙◌, subst}
+use Rattle.std.proofs.Common.{◌≡◌, ℕ, suc, Bool, true, false, cond, List, [], ◌++◌, Option, None, Some, Result, Ok, Err, IfSome, IsSomeAnd, refl, sym, ap, ◌∙◌, subst}
 use Rattle.std.specs.Prelude.{◌||◌, not}
 use Rattle.std.specs.FinMap as fin
 use Rattle.apt_outside.specs.Files.{Files}
@@ -10,16 +10,15 @@ use Rattle.wire_frames.specs.declared.frame.Message.{Message}
 use Rattle.child_session.specs.declared.fault.SessionFault.{SessionFault}
 use Rattle.child_session.specs.declared.fault.SessionFault.TheVariants as session
 use Rattle.child_session.specs.Talk.{Stream, HasAnswered}
-use Rattle.child_session.specs.Round.{Act, Answered, Broken, Overasked, Comes, act_of, Shows, Shown}
+use Rattle.child_session.specs.Round.{Act, Answered, Comes, act_of, Shows, Shown}
 use Rattle.child_session.proofs.Rounds.{later, joined}
 use Rattle.round_engine.specs.declared.fault.RunFault.{RunFault}
 use Rattle.round_engine.specs.declared.fault.RunFault.TheVariants as code
 use Rattle.round_engine.specs.declared.rounds.Rounds.{Rounds}
-use Rattle.round_engine.specs.declared.messages.Placed.{Placed}
 use Rattle.round_engine.specs.Units.{Units, Table, Entered, SourceRefusal, enter_all}
 use Rattle.round_engine.specs.Entering.{RefusesAs}
 use Rattle.round_engine.specs.Faults.{of_session}
-use Rattle.round_engine.specs.Run.{Round, Progress, is_asked, limit, showing, act, place, progress, has_error, new_since, sources_among, unread_among, Run, Finished, Refused, UnbuiltTalk, TooManyQuestions, UnbuiltForm, GeneratedDuplicate, TooManyRounds, fault_of, creates_source, after_act, last_of, next_of, last_round, enter_next, after_round, with_table, round_then, rounds_from}
+use Rattle.round_engine.specs.Run.{Round, Progress, is_asked, limit, showing, place, progress, has_error, new_since, sources_among, unread_among, Run, Finished, Refused, TooManyQuestions, TooManyRounds, creates_source, after_act, last_of, next_of, last_round, enter_next, after_round, with_table, round_then, rounds_from}
 use Rattle.round_engine.specs.Shown.{Acted, Acts, Whole, Underway, GoesOn, ComesTo, Ended, Ends}
 
 abbrev Frames : Type 0

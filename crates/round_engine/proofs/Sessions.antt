@@ -1,5 +1,5 @@
 -- What came of a processor's child, from its start to its stop.
-use Rattle.std.proofs.Common.{◌≡◌, ℕ, List, Option, None, Some, Result, Ok, Err, IfSome, IsSome, IsSomeAnd, false, refl, sym, ap, ◌∙◌, subst}
+use Rattle.std.proofs.Common.{◌≡◌, ℕ, List, Option, None, Some, Result, Err, IfSome, IsSome, IsSomeAnd, refl, sym, ap, ◌∙◌, subst}
 use Rattle.apt_outside.specs.Child.{Says, Try, Child, Known, Changes, OthersKept, StaysSent}
 use Rattle.wire_frames.specs.declared.frame.Frame.{Frame}
 use Rattle.apt_filer.specs.Filing.{Filings}
@@ -8,8 +8,8 @@ use Rattle.round_engine.specs.declared.fault.RunFault.{RunFault}
 use Rattle.round_engine.specs.declared.fault.RunFault.TheVariants as code
 use Rattle.round_engine.specs.declared.rounds.Rounds.{Rounds}
 use Rattle.round_engine.specs.Units.{Units}
-use Rattle.round_engine.specs.Run.{Run, Refused, UnbuiltTalk, init_frame, pattern_of, after_hello, rounds_from, rounds_before_last, next_of, start, run_of}
-use Rattle.round_engine.specs.Shown.{begun, ComesTo, Ended, Ends, CameTo, Came, IsSent, IsShown, is_free, RanAs, Runs}
+use Rattle.round_engine.specs.Run.{Run, init_frame, pattern_of, after_hello, rounds_from, rounds_before_last, next_of, start, run_of}
+use Rattle.round_engine.specs.Shown.{begun, ComesTo, Ended, Ends, CameTo, IsSent, RanAs, Runs}
 
 -- ---- from Init on
 

@@ -62,6 +62,8 @@ pub record AreNumbered (taken : List ℕ) (files : List Made) : Type 0 where
   pub entries : map (λ (file : Made). (file.path, file.bytes)) files ≡ fin.entries published
   pub numbers : AreLeast taken [] (map (λ (file : Made). file.store) files)
   pub texts : All (λ (file : Made). is_text file.path ≡ true) files
+  -- each is to be written: none is left of an earlier build
+  pub written : All (λ (file : Made). file.written ≡ true) files
   pub count : length files < 2 ^ 32
   pub sizes : All (λ (file : Made). (file.store < 2 ^ 32) × (length file.path < 2 ^ 32) × (length file.bytes < 2 ^ 32)) files
 
@@ -85,6 +87,17 @@ ShowsAll (processor ∷ others) run known = (child : ℕ) × IsShown (try_of pro
 abbrev pub IsNamed : List KeyProcessor → List ℕ → Type 0
 IsNamed [] name = ⊥
 IsNamed (processor ∷ others) name = name ≡ processor.name
+
+-- a refusal that names a processor names this one
+abbrev pub NamesProcessor : List KeyProcessor → Result declared.Finished Refusal → Type 0
+NamesProcessor processors (Ok finished) = Unit {0}
+NamesProcessor processors (Err (code.ChildFault processor)) = IsNamed processors processor
+NamesProcessor processors (Err (code.UnbuiltTalk processor)) = IsNamed processors processor
+NamesProcessor processors (Err (code.TooManyQuestions processor most)) = IsNamed processors processor
+NamesProcessor processors (Err (code.UnbuiltForm path)) = Unit {0}
+NamesProcessor processors (Err (code.GeneratedDuplicate name)) = Unit {0}
+NamesProcessor processors (Err code.TooManyRounds) = Unit {0}
+NamesProcessor processors (Err code.Memory) = Unit {0}
 
 -- a refusal of the code is this run
 abbrev pub RefusesAs : List KeyProcessor → Run → Refusal → Type 0

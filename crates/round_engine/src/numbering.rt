@@ -101,6 +101,7 @@ pub fn number_files(
     ensures files { IfOk result (λ files. map (λ file. (file.path, file.bytes)) files ≡ fin.entries (files_of made)) }
     ensures numbers { IfOk result (λ files. AreLeast taken.now [] (map (λ file. file.store) files)) }
     ensures texts { IfOk result (All (λ file. is_text file.path ≡ true)) }
+    ensures written { IfOk result (All (λ file. file.written ≡ true)) }
     ensures sizes { IfOk result (λ files. (length files < 2 ^ 32)
         × All (λ file. (file.store < 2 ^ 32) × (length file.path < 2 ^ 32) × (length file.bytes < 2 ^ 32)) files) }
 {

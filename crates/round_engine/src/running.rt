@@ -3,7 +3,7 @@ ghost use Rattle.std.specs.Prelude.{◌≡◌, map, IfOk, string_bytes};
 ghost use Rattle.std.specs.List.Sorted.{IsStrictlyIncreasing};
 ghost use Rattle.apt_outside.specs.Count.{Told};
 ghost use Rattle.apt_outside.specs.Held.{files_of};
-ghost use Rattle.round_engine.specs.Clean.{clean_run, AreNumbered, Has, Cleans, Starts, Tries, HasReason};
+ghost use Rattle.round_engine.specs.Clean.{clean_run, AreNumbered, Has, Cleans, NamesProcessor, Starts, Tries, HasReason};
 
 use crate::child::run_processor;
 use crate::messages::{Placed, count_errors, count_warnings};
@@ -97,6 +97,7 @@ pub fn clean<C: Children>(
     ensures says { Told C.tells (C.says children.new ≡ C.says children.old) }
     ensures tried { Told C.tells (Tries project.now.key.processors (C.tried children.old) (C.tried children.new)) }
     ensures numbered { IfOk result (λ finished. AreNumbered taken.now finished.files) }
+    ensures named { NamesProcessor project.now.key.processors result }
     ensures cleans { Told C.tells (Cleans project.now.key.processors (clean_run (C.says children.old) project.now.key.processors (files_of project.now.initial)) (C.known children.new) result) }
 {
     let mut filer = Filer::new(alloc, &roots_of(alloc, &project.initial)?)?;

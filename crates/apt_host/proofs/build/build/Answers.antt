@@ -1,4 +1,4 @@
-use Rattle.std.proofs.Common.{◌≡◌, ap, sym, ◌∙◌, subst, option_map, map, string_bytes, rules}
+use Rattle.std.proofs.Common.{◌≡◌, ap, sym, ◌∙◌, subst, option_map, map}
 use Rattle.std.proofs.lemmas.Result.{err_from_is_err_and}
 use Rattle.apt_outside.specs.Held.{files_of}
 use Rattle.apt_outside.specs.Child.{Try}
@@ -7,7 +7,7 @@ use Rattle.tree_store.specs.Storing.{AreTaken}
 use Rattle.tree_store.specs.Output.{StoresStand}
 use Rattle.apt_host.specs.Shown.{shown_processor}
 use Rattle.apt_host.specs.CleanBuild.{clean}
-use Rattle.apt_host.specs.Verdicts.{OrFree, is_finished, verdict_of}
+use Rattle.apt_host.specs.Verdicts.{OrFree, is_finished}
 use Rattle.apt_host.specs.Refusals.{closed}
 use Rattle.apt_host.specs.Listed.{entry_of, numbered_of, Places}
 use Rattle.apt_host.specs.Making.{concluding_report}

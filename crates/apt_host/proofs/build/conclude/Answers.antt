@@ -1,7 +1,6 @@
-use Rattle.std.proofs.Common.{◌≡◌, [], map, refl, sym, subst, append-nil, rules}
-use Rattle.tree_store.specs.RecordFormat.{record_form}
+use Rattle.std.proofs.Common.{[], map, sym, subst, append-nil, rules}
 use Rattle.tree_store.specs.Storing.{AreAbsent}
-use Rattle.apt_host.specs.Listed.{entry_of, numbered_of, Places}
+use Rattle.apt_host.specs.Listed.{numbered_of, Places}
 use Rattle.apt_host.proofs.Writing.{nothing_yet}
 use Rattle.apt_host.proofs.build.conclude.Goals as goal
 
@@ -15,4 +14,4 @@ pub returns-clause-placed : goal.returns-clause-placed
 returns-clause-placed g c = λ told done.
     let T = g.T.Tree in
     subst (λ bytes. Places (map numbered_of c.args.finished.files) bytes (T.files c.args.tree.now) (T.files c.publish.new.tree)) c.in_ok-written.ensures.bytes_are
-    (subst (λ stored. Places stored c.in_ok-written.written.record (T.files c.args.tree.now) (T.files c.publish.new.tree)) c.in_ok-written.ensures.stored_is (c.publish.ensures.placed told (search rules)))
+    (subst (λ stored. Places stored c.in_ok-written.written.record_bytes (T.files c.args.tree.now) (T.files c.publish.new.tree)) c.in_ok-written.ensures.stored_is (c.publish.ensures.placed told (search rules)))

@@ -12,3 +12,11 @@ returns-in-Ok-clause-placed g c = λ told done. record {
   adds = c.put_files.ensures.adds told;
   committed = c.in-Ok.ensures.ok told;
 }
+
+pub returns-in-Ok-clause-leaves : goal.returns-in-Ok-clause-leaves
+returns-in-Ok-clause-leaves g c = λ told. record {
+  mid = g.T.Tree.files c.put_files.new.tree;
+  adds = c.put_files.ensures.adds told;
+  bytes = c.args.written.now.record_bytes;
+  committed = c.in-Ok.ensures.ok told;
+}

@@ -1,7 +1,7 @@
-use Rattle.std.proofs.Common.{◌≡◌, Some, None, Ok, Err, ap, sym, ◌∙◌, subst, rules}
+use Rattle.std.proofs.Common.{◌≡◌, sym, ◌∙◌, subst, rules}
 use Rattle.apt_outside.specs.Held.{files_of}
 use Rattle.child_session.specs.Talk.{Exchanges}
-use Rattle.round_engine.specs.Run.{init_frame, pattern_of, rounds_from, rounds_before_last, next_of, start}
+use Rattle.round_engine.specs.Run.{init_frame, rounds_from, rounds_before_last, next_of, start}
 use Rattle.round_engine.specs.Shown.{Ends}
 use Rattle.round_engine.proofs.Sessions.{came_unbuilt, came_on}
 use Rattle.round_engine.proofs.child.show_all.Goals as goal

@@ -40,6 +40,7 @@ loop-path-preserved c =
       files = rw pushed (shown_more files file (c.in-Some.path, c.in-Some.bytes) c.next.new.self _ (rw is refl) (rw is refl) (rw rest at c.loop-path.invariant.files));
       numbers = rw (pushed, map-append (λ (f : Made). f.store) files (file ∷ []), is, after) stands;
       texts = rw pushed (All-push (λ (f : Made). is_text f.path ≡ true) files file c.loop-path.invariant.texts c.in_ok-made_file.ensures.text);
+      written = rw pushed (All-push (λ (f : Made). f.written ≡ true) files file c.loop-path.invariant.written (rw is refl));
       sizes = rw pushed (All-push (λ (f : Made). (f.store < 2 ^ 32) × (length f.path < 2 ^ 32) × (length f.bytes < 2 ^ 32)) files file c.loop-path.invariant.sizes (rw is fits));
     }
 

@@ -11,5 +11,6 @@ invariant-loop-path l = record {
   files : map (λ (file : Made). (file.path, file.bytes)) l.files ++ map shown_file l.path-iterator ≡ map shown_file l.fn.made.entries;
   numbers : Stands l.taken (map (λ (file : Made). file.store) l.files) l.numbers.taken.now l.numbers.next;
   texts : All (λ (file : Made). is_text file.path ≡ true) l.files;
+  written : All (λ (file : Made). file.written ≡ true) l.files;
   sizes : All (λ (file : Made). (file.store < 2 ^ 32) × (length file.path < 2 ^ 32) × (length file.bytes < 2 ^ 32)) l.files;
 }

@@ -1,8 +1,8 @@
-use Rattle.std.proofs.Common.{◌≡◌, ◌++◌, true, Ok, Err, map, drop, length, refl, sym, ap, ◌∙◌, subst, rules}
+use Rattle.std.proofs.Common.{◌≡◌, ◌++◌, true, Ok, Err, map, drop, length, refl, ap, ◌∙◌, subst, rules}
 use Rattle.std.specs.FinMap as fin
 use Rattle.std.proofs.lemmas.Result.{err_from_is_err_and}
 use Rattle.apt_outside.specs.Held.{files_of, shown_file}
-use Rattle.round_engine.specs.Run.{last_of, place, unread_among, Round}
+use Rattle.round_engine.specs.Run.{last_of, place, unread_among}
 use Rattle.round_engine.specs.Shown.{shown_round, standing, Acts}
 use Rattle.round_engine.proofs.RoundLemmas.{finish_ok, finish_err}
 use Rattle.round_engine.proofs.rounds.finish.Goals as goal

@@ -1,11 +1,11 @@
-use Rattle.std.proofs.Common.{◌≡◌, ◌-◌, ◌+◌, ◌++◌, suc, Bool, true, false, Ok, Err, Some, List, length, drop, refl, sym, ap, ◌∙◌, subst, arith, rules}
+use Rattle.std.proofs.Common.{◌≡◌, ◌-◌, ◌+◌, ◌++◌, suc, true, false, Ok, Err, length, drop, sym, ap, ◌∙◌, subst, arith, rules}
 use Rattle.std.specs.Prelude.{◌||◌, not}
 use Rattle.std.specs.FinMap as fin
 use Rattle.std.proofs.lemmas.Result.{err_from_is_err_and}
 use Rattle.apt_outside.specs.Held.{files_of}
 use Rattle.child_session.proofs.Taking.{attends_then}
 use Rattle.round_engine.specs.Units.{Table, Units, enter_all}
-use Rattle.round_engine.specs.Run.{Run, Progress, Round, rounds_from, rounds_before_last, next_of, start, is_asked, place, progress, has_error, creates_source, new_since, sources_among, with_table, last_round}
+use Rattle.round_engine.specs.Run.{Progress, Round, rounds_from, rounds_before_last, next_of, start, is_asked, place, progress, has_error, creates_source, sources_among, with_table, last_round}
 use Rattle.round_engine.specs.Entering.{shown_roots, RefusesAs}
 use Rattle.round_engine.specs.Shown.{Whole, standing, Acts, Ends, GoesOn}
 use Rattle.round_engine.proofs.RoundLemmas.{way_refused, way_ends, way_goes, way_source_refused, way_is_full}

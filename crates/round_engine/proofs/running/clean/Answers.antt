@@ -1,8 +1,8 @@
-use Rattle.std.proofs.Common.{◌≡◌, ◌∷◌, Ok, Err, map, string_bytes, sym, ap, ◌∙◌, subst, rules}
+use Rattle.std.proofs.Common.{◌≡◌, ◌∷◌, Ok, Err, map, string_bytes, sym, subst, rules}
 use Rattle.apt_outside.specs.Held.{files_of}
 use Rattle.round_engine.specs.Shown.{Runs, TriedOnce}
-use Rattle.round_engine.specs.Clean.{clean_run, Has, Cleans, Tries}
-use Rattle.round_engine.proofs.CleanLemmas.{cleans_ok, cleans_err}
+use Rattle.round_engine.specs.Clean.{clean_run, Has, Cleans, NamesProcessor, Tries}
+use Rattle.round_engine.proofs.CleanLemmas.{cleans_ok, cleans_err, names_processor}
 use Rattle.round_engine.proofs.running.clean.Goals as goal
 
 pub returns-in-Err-clause-cleans : goal.returns-in-Err-clause-cleans
@@ -15,6 +15,12 @@ returns-in-Err-clause-cleans g c = λ told.
     let runs = subst (λ w. Runs (C.says c.args.children.now) (processor.name, w) units c.run_processor.new.filer (C.known c.args.children.now) (C.known c.run_processor.new.children) (Err c.in-Err.fault)) command_is (c.in-Err.ensures.runs told) in
     subst (λ l. Cleans l (clean_run (C.says c.args.children.now) l units) (C.known c.run_processor.new.children) (Err c.refusal_of.result)) (sym ps)
     (cleans_err (C.says c.args.children.now) processor c.in-Some.field-0-1.now units c.run_processor.new.filer (C.known c.args.children.now) (C.known c.run_processor.new.children) c.in-Err.fault c.refusal_of.result runs c.refusal_of.ensures)
+
+pub returns-in-Err-clause-named : goal.returns-in-Err-clause-named
+returns-in-Err-clause-named g c =
+    let processor = c.in-Some.processor.now in
+    let ps : c.args.project.now.key.processors ≡ processor ∷ c.in-Some.field-0-1.now = search rules in
+    subst (λ l. NamesProcessor l (Err c.refusal_of.result)) (sym ps) (names_processor processor c.in-Some.field-0-1.now c.in-Err.fault c.refusal_of.result c.refusal_of.ensures)
 
 pub returns-clause-tried : goal.returns-clause-tried
 returns-clause-tried g c = λ told.

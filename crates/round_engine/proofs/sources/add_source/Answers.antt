@@ -1,4 +1,4 @@
-use Rattle.std.proofs.Common.{◌≡◌, ap, sym, ◌∙◌, string_bytes, rules}
+use Rattle.std.proofs.Common.{◌≡◌, ap, ◌∙◌, string_bytes, rules}
 use Rattle.std.specs.FinMap as fin
 use Rattle.apt_outside.specs.Held.{files_of}
 use Rattle.apt_outside.proofs.HeldLemmas.{files_of-insert}

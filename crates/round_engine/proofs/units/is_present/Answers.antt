@@ -5,7 +5,7 @@ use Rattle.std.specs.BTreeMap.{values}
 use Rattle.std.specs.Map.Iter.{deref}
 use Rattle.std.proofs.lemmas.Map.Iter.{iter_end}
 use Rattle.apt_outside.proofs.HeldLemmas.{values-files_of}
-use Rattle.round_engine.proofs.Presence.{any_more, any_shown}
+use Rattle.round_engine.proofs.Presence.{any_shown}
 use Rattle.round_engine.proofs.units.is_present.Goals as goal
 
 pub returns : goal.returns
