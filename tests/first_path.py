@@ -129,6 +129,15 @@ def a_wrong_word_before_one_that_is_no_text(project):
     refused(project, ["biuld", b"\xff"], BAD_WORDS, "BadWords(0)")
 
 
+@case
+def long_words(project):
+    # A word is read whole, however much longer it is than the room that it is first read into.
+    for length in [255, 256, 257, 300, 511, 512, 513, 4000]:
+        name = "x" * length
+        refused(project, ["build", name], BAD_WORDS, "BadWords(2)")
+        refused(project, ["build", name, "no-such-program"], CHILD_FAULT, f"ChildFault({name})")
+
+
 # Children that do not do what they should.
 
 
@@ -324,6 +333,15 @@ def a_link_where_a_store_file_goes(project):
 
 
 @case
+def a_file_that_came_where_a_store_file_goes(project):
+    # The processor makes it, after the host has listed the store. What is there is never written over.
+    makes = ["/bin/sh", "-c", 'mkdir -p out/store; printf early >out/store/0; exec "$@"', "sh"]
+    refused_by_the_tree(project.run(["build", "maker", *makes, *project.scripted(CREATES)[2:]]))
+    expect("the file", project.read("out/store/0"), b"early")
+    expect("the files below out", sorted(os.listdir(project.path("out"))), ["store"])
+
+
+@case
 def the_record_is_a_folder(project):
     os.makedirs(project.path("out/record/below"))
     run = project.run(project.scripted(CREATES))
@@ -359,6 +377,17 @@ def a_source_of_a_gigabyte(project):
         file.truncate(1 << 30)
     small_memory = ["/bin/sh", "-c", 'ulimit -v 100000; exec "$@"', "sh"]
     refused(project, project.scripted(CREATES), UNBUILT_FORM, "UnbuiltForm(src/p/Big.java)", before=small_memory)
+
+
+@case
+def the_longest_source_that_is_read(project):
+    start, end = b"package p; @q.A.", b" class D {}\n"
+    project.write("src/p/D.java", start + b"x" * (4096 - len(start) - len(end)) + end)
+    run = project.run(["build"])
+    expect("the output", run.output, REPORT_WITHOUT_PROCESSOR)
+    expect("the status", run.status, DONE_STATUS)
+    project.write("src/p/D.java", start + b"x" * (4097 - len(start) - len(end)) + end)
+    refused(project, ["build"], UNBUILT_FORM, "UnbuiltForm(src/p/D.java)")
 
 
 @case

@@ -11,8 +11,6 @@ mod files;
 mod folders;
 mod pipe_children;
 mod standard;
-#[cfg(test)]
-mod tests;
 mod words;
 
 use apt_host::{Status, refuse_cut_words, run};

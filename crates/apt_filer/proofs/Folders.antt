@@ -1,7 +1,7 @@
 -- A name as folders, one part after another.
 use Rattle.std.proofs.Common.{◌≡◌, ℕ, zero, suc, false, eqb, List, [], ◌∷◌, ◌++◌, refl, sym, ap, ◌∙◌, append_assoc, arith}
 use Rattle.std.proofs.lemmas.Bool.{false_from_ne_true, eqb-true}
-use Rattle.decl_syntax.specs.Identifiers.{HasNoDot}
+use Rattle.apt_base.specs.Identifiers.{HasNoDot}
 use Rattle.apt_filer.specs.Filing.{folders_of}
 
 no_dot : (c : ℕ) (cs : List ℕ) → HasNoDot (c ∷ cs) → eqb c 46 ≡ false

@@ -2,7 +2,7 @@
 use Rattle.std.specs.Prelude.{ℕ, ◌-◌, Bool, not, ◌&&◌, ◌||◌, ◌==◌, nat_eq, nat_le, List, length, take, codes}
 use Rattle.std.specs.List.{list_all, slice_split, ends_with}
 use Rattle.std.specs.Str.{bytes_eq}
-use Rattle.decl_syntax.specs.Identifiers.{is_dotted}
+use Rattle.apt_base.specs.Identifiers.{is_dotted}
 use Rattle.wire_frames.specs.declared.frame.Creation.{Creation}
 use Rattle.wire_frames.specs.declared.frame.Creation.TheVariants.{Source, Resource, Class}
 

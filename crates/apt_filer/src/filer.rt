@@ -7,7 +7,7 @@ ghost use Rattle.wire_frames.specs.declared.frame.Created.TheVariants.{Accepted}
 use crate::names::is_well_named;
 use crate::paths::path_of;
 use crate::texts::Texts;
-use decl_syntax::{List, Name, NoMemory};
+use apt_base::{List, Name, NoMemory};
 use std::alloc::Global;
 use std::marker::Model;
 use wire_frames::{Created, Creation};
@@ -21,7 +21,7 @@ pub const MAX_TOTAL: usize = 67_108_864;
 /// What was created, beside the initial units and the stubs (JSR 269, `Filer`).
 ///
 /// Contracts see the names of the initial units and the stubs, and what was accepted, in order.
-#[derive(Debug, Drop)]
+#[derive(Drop)]
 pub struct Filer {
     alloc: Global,
     initial: List<Name>,

@@ -17,6 +17,3 @@ mod texts;
 pub use filer::{Filer, MAX_CONTENT, MAX_TOTAL};
 pub use names::{is_package_name, is_relative_name, is_type_name};
 pub use paths::path_of;
-
-#[cfg(test)]
-mod tests;

@@ -3,7 +3,7 @@ ghost use Rattle.std.specs.Prelude.{◌≡◌, ◌==◌};
 ghost use Rattle.std.specs.List.{list_all, slice_split};
 ghost use Rattle.apt_filer.specs.Names.{is_info_name, is_type_name, is_package_name, is_plain, is_segment, is_relative_name, is_well_named};
 
-use decl_syntax::is_dotted;
+use apt_base::is_dotted;
 use wire_frames::Creation;
 
 /// How many bytes a name has at most.

@@ -1,9 +1,9 @@
 // The paths of creations.
 ghost use Rattle.std.specs.Prelude.{◌≡◌, ◌∷◌, ◌++◌, codes, string_bytes, IfOk, OnOk, MatchOption};
-ghost use Rattle.decl_syntax.specs.Identifiers.{HasNoDot};
+ghost use Rattle.apt_base.specs.Identifiers.{HasNoDot};
 ghost use Rattle.apt_filer.specs.Filing.{folders_of, package_folders, location_folder, path_of};
 
-use decl_syntax::{Name, NoMemory};
+use apt_base::{Name, NoMemory};
 use std::alloc::Global;
 use wire_frames::Creation;
 

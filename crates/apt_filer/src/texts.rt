@@ -2,13 +2,13 @@
 ghost use Rattle.std.specs.Prelude.{◌≡◌, OnOk, OnErr};
 ghost use Rattle.std.specs.FinSet as set;
 
-use decl_syntax::NoMemory;
+use apt_base::NoMemory;
 use std::alloc::Global;
 use std::collections::BTreeSet;
 use std::marker::Model;
 
 /// A set of texts, which contracts see as that of their bytes. Each look-up takes logarithmic time.
-#[derive(Debug, Drop)]
+#[derive(Drop)]
 pub(crate) struct Texts {
     alloc: Global,
     texts: BTreeSet<String>,

@@ -7,7 +7,7 @@ use Rattle.std.proofs.lemmas.List.{length-map}
 use Rattle.apt_outside.specs.Files.{Files, file_at}
 use Rattle.apt_outside.specs.Child.{Says, Try, Known}
 use Rattle.tree_store.specs.declared.record.StoredFile.{StoredFile}
-use Rattle.decl_syntax.specs.Fields.{is_text}
+use Rattle.apt_base.specs.Fields.{is_text}
 use Rattle.tree_store.specs.RecordFormat.{record_form, IsEntry}
 use Rattle.tree_store.specs.Output.{store_path, record_path, output_of, StoresStand}
 use Rattle.tree_store.specs.Storing.{Numbered, paths_of, AreTaken, AreDistinct, AreAbsent, Holds}

@@ -5,7 +5,7 @@ ghost use Rattle.apt_outside.specs.Count.{Rose, Told};
 ghost use Rattle.apt_outside.specs.Held.{files_of};
 ghost use Rattle.round_engine.specs.Clean.{try_of, AreNumbered};
 ghost use Rattle.tree_store.specs.Output.{StoresStand, SameOutside};
-ghost use Rattle.decl_syntax.specs.Fields.{is_text};
+ghost use Rattle.apt_base.specs.Fields.{is_text};
 ghost use Rattle.tree_store.specs.RecordFormat.{record_form};
 ghost use Rattle.tree_store.specs.Storing.{AreDistinct, AreAbsent};
 ghost use Rattle.apt_host.specs.Words.{Build};
@@ -22,14 +22,12 @@ use crate::publish::{publish, spell, tell_errors};
 use crate::refusal::Refusal;
 use crate::report::Summary;
 use crate::words::Processor;
+use apt_base::{Kind, List, Name, NoMemory};
 use apt_outside::{Children, Sink, Tree};
-use decl_syntax::{Kind, List, Name, NoMemory};
-use round_engine::{Finished, Key, KeyProcessor, Project, clean};
+use round_engine::{Finished, Key, KeyProcessor, LEVEL, Project, clean};
 use std::alloc::Global;
 use std::collections::BTreeMap;
 use tree_store::taken_numbers;
-
-const LEVEL: u16 = 11;
 
 /// How a build ends that was not refused.
 #[derive(Clone, Copy, Debug, PartialEq, Eq)]

@@ -12,8 +12,6 @@ mod publish;
 mod refusal;
 mod report;
 mod status;
-#[cfg(test)]
-mod tests;
 mod words;
 
 pub use call::{refuse_cut_words, run};

@@ -10,8 +10,8 @@ ghost use Rattle.apt_host.specs.Project.{enter_form, enter_all, units_of};
 ghost use Rattle.apt_host.specs.Entering.{Enters, EntersAll, IsUntouched};
 
 use crate::refusal::Refusal;
+use apt_base::NoMemory;
 use apt_outside::Tree;
-use decl_syntax::NoMemory;
 use source_form::{MAX_SOURCE, SourceForm, read_form};
 use std::alloc::Global;
 use std::collections::BTreeMap;

@@ -1,6 +1,6 @@
 // Publishes what a run made.
 ghost use Rattle.std.specs.Prelude.{◌≡◌, ◌≢◌, ◌≤◌, ◌<◌, ◌^◌, All, IfOk, length, map, true, string_bytes};
-ghost use Rattle.decl_syntax.specs.Fields.{is_text};
+ghost use Rattle.apt_base.specs.Fields.{is_text};
 ghost use Rattle.apt_outside.specs.Count.{Rose, Told};
 ghost use Rattle.tree_store.specs.RecordFormat.{IsEntry};
 ghost use Rattle.tree_store.specs.Output.{SameOutside};
@@ -14,8 +14,8 @@ ghost use Rattle.apt_host.specs.Promises.{Leaves, KeepsOutput, KeepsStores, Adds
 
 use crate::refusal::Refusal;
 use crate::report::{Summary, errors_report, report};
+use apt_base::{List, Name, NoMemory};
 use apt_outside::{Fault, Sink, Tree};
-use decl_syntax::{List, Name, NoMemory};
 use round_engine::Made;
 use std::alloc::Global;
 use tree_store::{StoredFile, commit, encode_record, put_files};

@@ -5,12 +5,12 @@ ghost use Rattle.apt_host.specs.Verdicts.{verdict, Done};
 ghost use Rattle.apt_host.specs.Refusals.{refused, of_store, of_run};
 
 use crate::Status;
-use decl_syntax::{Name, NoMemory};
+use apt_base::{Name, NoMemory};
 use std::alloc::{AllocError, AllocFailed};
 use tree_store::StoreFault;
 
 /// Why a build was refused: each status but those of a build that ended with a report.
-#[derive(Debug, Drop)]
+#[derive(Drop)]
 pub enum Refusal {
     UnbuiltForm { path: Name },
     UnbuiltTalk { processor: Name },

@@ -6,13 +6,13 @@ ghost use Rattle.apt_host.specs.Verdicts.{verdict, refusal_of};
 ghost use Rattle.apt_host.specs.Listed.{listed, summary_of};
 
 use crate::Status;
-use decl_syntax::{List, Name};
+use apt_base::{List, Name};
 use round_engine::Placed;
 use std::alloc::{AllocError, Global};
 use tree_store::StoredFile;
 
 /// What a report says of a run, beside its processor's name and its files.
-#[derive(Debug, Drop)]
+#[derive(Drop)]
 pub struct Summary {
     /// How many children were started.
     pub started: u32,

@@ -2,10 +2,10 @@
 ghost use Rattle.std.specs.Prelude.{◌≡◌};
 ghost use Rattle.apt_host.specs.Verdicts.{verdict, code_of};
 
-use decl_syntax::Name;
+use apt_base::Name;
 
 /// How a call of `run` ends. A fault of the tree, the sink or the children comes only where its count rose in the call.
-#[derive(Debug, Drop)]
+#[derive(Drop)]
 pub enum Status {
     /// The build is published.
     Done,

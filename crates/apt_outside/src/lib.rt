@@ -21,8 +21,6 @@ mod script;
 mod script_children;
 mod scripting;
 mod stream;
-#[cfg(test)]
-mod tests;
 mod tree;
 
 pub use children::Children;

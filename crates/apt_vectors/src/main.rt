@@ -6,8 +6,6 @@
 #![tactic(auto)]
 
 mod case;
-#[cfg(test)]
-mod identifiers;
 mod table;
 mod token_cases;
 mod words;

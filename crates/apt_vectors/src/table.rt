@@ -8,7 +8,7 @@ use crate::token_cases::TOKEN_CASES;
 use std::alloc::{AllocError, Global};
 
 /// A table of cases.
-#[derive(Clone, Copy, Debug, PartialEq, Eq)]
+#[derive(Clone, Copy, PartialEq, Eq)]
 pub enum Table {
     /// The characters and tokens of files.
     Tokens,

@@ -3,7 +3,7 @@ use crate::case::{Case, Expected};
 use java_tokens::TokenKind;
 
 /// Files, and their characters or tokens.
-pub static TOKEN_CASES: [Case; 10] = [
+pub static TOKEN_CASES: [Case; 13] = [
     Case {
         file: b"a>>>=1_0L",
         expected: Expected::Tokens(&[
@@ -47,5 +47,17 @@ pub static TOKEN_CASES: [Case; 10] = [
     Case {
         file: b"\\u00g1",
         expected: Expected::NoCharacters(0),
+    },
+    Case {
+        file: b"int",
+        expected: Expected::Characters("int"),
+    },
+    Case {
+        file: b"a \"b",
+        expected: Expected::NoTokens(2),
+    },
+    Case {
+        file: b"a\\ud800",
+        expected: Expected::NoCharacters(1),
     },
 ];

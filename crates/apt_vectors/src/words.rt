@@ -7,7 +7,7 @@ use std::env::Env;
 use std::io;
 
 /// What the words ask for.
-#[derive(Clone, Copy, Debug, PartialEq, Eq)]
+#[derive(Clone, Copy, PartialEq, Eq)]
 pub enum Task {
     /// Each table in order.
     Each,

@@ -104,34 +104,3 @@ fn place_of(
     }
     None
 }
-
-#[cfg(test)]
-mod tests {
-    use super::*;
-    use std::test::Fail;
-
-    #[test]
-    fn finds_each_row_and_nothing_else(rt: HostRuntime) -> Result<(), Fail> {
-        let cases = Cases::new(&[("if", 3), ("", 9), ("import", 255), ("implements", 0)]).ok_or(
-            "a table",
-        )?;
-        assert_eq!(rt; cases.find(b"if"), Some(3));
-        assert_eq!(rt; cases.find(b""), Some(9));
-        assert_eq!(rt; cases.find(b"import"), Some(255));
-        assert_eq!(rt; cases.find(b"implements"), Some(0));
-        assert_eq!(rt; cases.find(b"i"), None);
-        assert_eq!(rt; cases.find(b"imports"), None);
-        assert_eq!(rt; cases.find(b"x"), None);
-        assert_eq!(rt; cases.text(255), Some("import"));
-        assert_eq!(rt; cases.text(9), Some(""));
-        assert_eq!(rt; cases.text(1), None);
-        Ok(())
-    }
-
-    #[test]
-    fn refuses_equal_texts_and_equal_numbers(rt: HostRuntime) {
-        assert!(rt; Cases::new(&[("a", 1), ("b", 1)]).is_none());
-        assert!(rt; Cases::new(&[("a", 1), ("b", 2), ("a", 3)]).is_none());
-        assert!(rt; Cases::new(&[]).is_some());
-    }
-}

@@ -4,8 +4,8 @@ use Rattle.std.specs.Prelude.{option_and_then, ◌&&◌, ◌==◌, not, nat_lt}
 use Rattle.std.specs.Int.{w32, from_be_bytes}
 use Rattle.std.proofs.lemmas.Bool.{lt-ltb, ne_eqb, eqb-true}
 use Rattle.std.proofs.lemmas.List.{take_at, drop_at, length-take, take-append-drop}
-use Rattle.decl_syntax.specs.Fields.{◌>>=◌, front_next}
-use Rattle.decl_syntax.proofs.Fields.{bind_some, front_next-again, front_next-grows}
+use Rattle.apt_base.specs.Fields.{◌>>=◌, front_next}
+use Rattle.apt_base.proofs.Fields.{bind_some, front_next-again, front_next-grows}
 use Rattle.wire_frames.specs.declared.frame.Frame.{Frame}
 use Rattle.wire_frames.specs.Frames.{frame_at, length_at, length_of, child_frame}
 use Rattle.child_session.specs.Talk.{rest_after}

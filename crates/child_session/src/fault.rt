@@ -4,8 +4,8 @@ ghost use Rattle.apt_outside.specs.declared.fault.Fault.TheVariants as outside;
 ghost use Rattle.child_session.specs.declared.fault.SessionFault.TheVariants.{Failed, Memory};
 ghost use Rattle.child_session.specs.Faults.{fault_of};
 
+use apt_base::NoMemory;
 use apt_outside::Fault;
-use decl_syntax::NoMemory;
 use std::alloc::{AllocError, AllocFailed};
 use wire_frames::FrameFault;
 

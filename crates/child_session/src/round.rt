@@ -9,14 +9,14 @@ ghost use Rattle.child_session.specs.Round.{turn_at, reply_to, reply_frame, file
 
 use crate::SessionFault;
 use crate::receiving::exchange;
+use apt_base::{List, NoMemory};
 use apt_filer::Filer;
 use apt_outside::Children;
-use decl_syntax::{List, NoMemory};
 use std::alloc::Global;
 use wire_frames::{Creation, Frame, Message, Reply, encode};
 
 /// What a child asks of the host in a round.
-#[derive(Debug, Drop)]
+#[derive(Drop)]
 pub enum Request {
     /// A file is to be created.
     Create(Creation),
@@ -25,7 +25,7 @@ pub enum Request {
 }
 
 /// What a child's frame means in a round.
-#[derive(Debug, Drop)]
+#[derive(Drop)]
 pub enum Turn {
     /// The child is done with the round.
     Ends,

@@ -1,27 +1,29 @@
 -- The readers of declarations and of units read their spellings.
 use Rattle.std.proofs.Common.{◌≡◌, ℕ, zero, suc, ◌-◌, arith, Bool, true, ◌&&◌, List, [], ◌∷◌, ◌++◌, Some, None, refl, sym, ap, subst, ◌∙◌}
-use Rattle.decl_syntax.specs.Fields.{text_next}
-use Rattle.decl_syntax.specs.Forms.{Reader, name_form, u16_form, list_form, opt_form, is_name, all_fit, fits_if_some, none_next, ◌>>◌, mapped, tagged, opt_next, list_next}
+use Rattle.apt_base.specs.Fields.{text_next}
+use Rattle.apt_base.specs.Forms.{Reader, name_form, u16_form, list_form, opt_form, is_name, all_fit, fits_if_some, none_next, ◌>>◌, mapped, tagged, opt_next, list_next}
 use Rattle.decl_syntax.specs.Numbers.{kind_number, kind_of, import_number, import_of}
-use Rattle.decl_syntax.specs.Shape.{type_form, annotation_form, type_param_form, field_form, method_form, constructor_form, constant_form, member_step, declaration_step, member_form, declaration_form, import_form, body_form, unit_form}
-use Rattle.decl_syntax.specs.Legal.{is_modifiers, is_legal_type, is_legal_annotation, is_legal_type_param, is_canonical, member_fits, declaration_fits, inside_declaration, is_legal_declaration, is_legal_import, is_legal_body, depth, is_legal}
-use Rattle.decl_syntax.specs.Reading.{annotation_next, field_next, method_next, constructor_next, constant_next, ends_in_time, canonical_next, member_choice, member_in, Head, head_next, members_start, declaration_of, declaration_is_small, declaration_in, inside_declaration_next, declaration_next, import_with, import_next, info_of, body_choice, body_next, front_of_unit_next, body_start, unit_of, unit_next}
-use Rattle.decl_syntax.specs.declared.member.FieldDecl.{FieldDecl}
-use Rattle.decl_syntax.specs.declared.member.MethodDecl.{MethodDecl}
-use Rattle.decl_syntax.specs.declared.member.ConstructorDecl.{ConstructorDecl}
-use Rattle.decl_syntax.specs.declared.member.ConstantDecl.{ConstantDecl}
-use Rattle.decl_syntax.specs.declared.declaration.Member.{Member, out-Member, roll-Member, roll-out-Member}
-use Rattle.decl_syntax.specs.declared.declaration.Member.TheVariants as member
-use Rattle.decl_syntax.specs.declared.declaration.Member.TheOpen.{Member-F}
-use Rattle.decl_syntax.specs.declared.declaration.Member.TheFolds.{fold-roll-Member, fold_out-TypeDecl}
-use Rattle.decl_syntax.specs.declared.declaration.TypeDecl.{TypeDecl}
-use Rattle.decl_syntax.specs.declared.compilation.Body.{Body}
-use Rattle.decl_syntax.specs.declared.compilation.Body.TheVariants.{Declared, Info}
+use Rattle.decl_syntax.specs.Shape.{type_form, annotation_form, type_param_form, field_form, method_form, constructor_form, constant_form, head_form, member_step, declaration_step, member_form, declaration_form, import_form, body_form, unit_form}
+use Rattle.decl_tree.specs.Legal.{is_modifiers, is_legal_type, is_legal_annotation, is_legal_type_param, is_canonical, member_fits, declaration_fits, inside_declaration, is_legal_declaration, is_legal_import, is_legal_body, depth, is_legal}
+use Rattle.decl_syntax.specs.Reading.{annotation_next, field_next, method_next, constructor_next, constant_next, ends_in_time, canonical_next, member_choice, member_in, type_heading_of, type_heading_next, head_of, head_next, members_start, declaration_of, declaration_is_small, declaration_in, inside_declaration_next, declaration_next, import_with, import_next, info_of, body_choice, body_next, front_of_unit_next, body_start, unit_of, unit_next}
+use Rattle.decl_tree.specs.declared.member.FieldDecl.{FieldDecl}
+use Rattle.decl_tree.specs.declared.member.MethodDecl.{MethodDecl}
+use Rattle.decl_tree.specs.declared.member.ConstructorDecl.{ConstructorDecl}
+use Rattle.decl_tree.specs.declared.member.ConstantDecl.{ConstantDecl}
+use Rattle.decl_tree.specs.declared.declaration.Member.{Member, out-Member, roll-Member, roll-out-Member}
+use Rattle.decl_tree.specs.declared.declaration.Member.TheVariants as member
+use Rattle.decl_tree.specs.declared.declaration.Member.TheOpen.{Member-F}
+use Rattle.decl_tree.specs.declared.declaration.Member.TheFolds.{fold-roll-Member, fold_out-TypeDecl}
+use Rattle.decl_tree.specs.declared.declaration.TypeDecl.{TypeDecl}
+use Rattle.decl_syntax.specs.declared.unit_reading.TypeHeading.{TypeHeading}
+use Rattle.decl_syntax.specs.declared.unit_reading.TypeHead.{TypeHead}
+use Rattle.decl_tree.specs.declared.compilation.Body.{Body}
+use Rattle.decl_tree.specs.declared.compilation.Body.TheVariants.{Declared, Info}
 use Rattle.decl_syntax.proofs.Numbers.{kind_back, kind_on, import_back, import_on}
 use Rattle.decl_syntax.proofs.Types.{list_form-spelled, Reads-type_next}
 use Rattle.decl_syntax.proofs.Values.{Reads-annotation_next}
 use Rattle.decl_syntax.proofs.Members.{Reads-modifiers, Reads-type_param, Reads-field, Reads-method, Reads-constructor, Reads-constant}
-use Rattle.decl_syntax.proofs.Readers.{Reads, Reads-none, Reads-then, Reads-numbered, Reads-text, Spells-none, Spells-or, variant, Reads-tagged, and_reads, opt_reads, list_reads, check_reads, map_reads, same_reads}
+use Rattle.apt_base.proofs.Readers.{Reads, Reads-none, Reads-then, Reads-numbered, Reads-text, Spells-none, Spells-or, variant, Reads-tagged, and_reads, opt_reads, list_reads, check_reads, map_reads, same_reads}
 
 -- ---- equations
 
@@ -45,13 +47,8 @@ pub member_form-Nested : (declaration : TypeDecl) → member_form (member.Nested
 unfolding member_form declaration_form
 member_form-Nested declaration = ap member_form (sym (member.rolls-Nested declaration)) ∙ fold-roll-Member (List ℕ) (List ℕ) member_step declaration_step (Member-F.Nested declaration)
 
--- the spelling of what stands before the members
-abbrev pub head_form : TypeDecl → List ℕ
-head_form d = (kind_number d.kind ∷ []) ++ name_form d.name ++ u16_form d.modifiers ++ list_form annotation_form d.annotations
-    ++ opt_form name_form d.doc ++ list_form type_param_form d.parameters ++ opt_form type_form d.superclass ++ list_form type_form d.interfaces
-
 pub declaration_form-is : (d : TypeDecl) → declaration_form d ≡ head_form d ++ list_form member_form d.members
-unfolding member_form declaration_form
+unfolding member_form declaration_form head_form
 declaration_form-is d = fold_out-TypeDecl (List ℕ) (List ℕ) member_step declaration_step d ∙ ap (λ (t : List ℕ). head_form d ++ t) (list_form-spelled member_form d.members)
 
 -- ---- cases
@@ -97,33 +94,48 @@ module _ (room : ℕ) (nested : Reader TypeDecl) (fits : TypeDecl → Bool) wher
       (Spells-none member_form test n))))))
 
 -- the parts of a declaration
-abbrev head_of : TypeDecl → Head
-head_of d = (((((((d.kind, d.name), d.modifiers), d.annotations), d.doc), d.parameters), d.superclass), d.interfaces)
+abbrev head_in : TypeDecl → TypeHead
+head_in d = record {
+  heading = record { kind = d.kind; name = d.name; modifiers = d.modifiers; annotations = d.annotations; doc = d.doc };
+  parameters = d.parameters;
+  superclass = d.superclass;
+  interfaces = d.interfaces;
+}
 
-abbrev head_parts_form : Head → List ℕ
-head_parts_form h = (kind_number h.0.0.0.0.0.0.0 ∷ []) ++ name_form h.0.0.0.0.0.0.1 ++ u16_form h.0.0.0.0.0.1 ++ list_form annotation_form h.0.0.0.0.1
-    ++ opt_form name_form h.0.0.0.1 ++ list_form type_param_form h.0.0.1 ++ opt_form type_form h.0.1 ++ list_form type_form h.1
+abbrev type_heading_form : TypeHeading → List ℕ
+type_heading_form h = (kind_number h.kind ∷ []) ++ name_form h.name ++ u16_form h.modifiers ++ list_form annotation_form h.annotations ++ opt_form name_form h.doc
 
-abbrev head_fits : ℕ → ℕ → Head → Bool
-head_fits room start h = is_canonical start h.0.0.0.0.0.0.1 && is_modifiers h.0.0.0.0.0.1 && all_fit (is_legal_annotation room) h.0.0.0.0.1
-    && fits_if_some is_name h.0.0.0.1 && all_fit (is_legal_type_param room) h.0.0.1 && fits_if_some (is_legal_type room) h.0.1 && all_fit (is_legal_type room) h.1
+abbrev type_heading_fits : ℕ → ℕ → TypeHeading → Bool
+type_heading_fits room start h = is_canonical start h.name && is_modifiers h.modifiers && all_fit (is_legal_annotation room) h.annotations && fits_if_some is_name h.doc
+
+Reads-type_heading : (room start : ℕ) → Reads (type_heading_next room start) type_heading_form (type_heading_fits room start)
+unfolding type_heading_next
+Reads-type_heading room start =
+    map_reads type_heading_of (λ h. ((((h.kind, h.name), h.modifiers), h.annotations), h.doc)) (λ h. refl) (λ x. refl)
+    (and_reads (and_reads (and_reads (and_reads (Reads-numbered kind_of kind_number kind_back kind_on) (Reads-canonical start)) Reads-modifiers) (list_reads (Reads-annotation_next room))) (opt_reads Reads-text))
+
+abbrev head_parts_form : TypeHead → List ℕ
+head_parts_form h = type_heading_form h.heading ++ list_form type_param_form h.parameters ++ opt_form type_form h.superclass ++ list_form type_form h.interfaces
+
+abbrev head_fits : ℕ → ℕ → TypeHead → Bool
+head_fits room start h = type_heading_fits room start h.heading && all_fit (is_legal_type_param room) h.parameters && fits_if_some (is_legal_type room) h.superclass && all_fit (is_legal_type room) h.interfaces
 
 Reads-head : (room start : ℕ) → Reads (head_next room start) head_parts_form (head_fits room start)
 unfolding head_next
 Reads-head room start =
-    and_reads (and_reads (and_reads (and_reads (and_reads (and_reads (and_reads (Reads-numbered kind_of kind_number kind_back kind_on) (Reads-canonical start)) Reads-modifiers)
-    (list_reads (Reads-annotation_next room))) (opt_reads Reads-text)) (list_reads (Reads-type_param room))) (opt_reads (Reads-type_next room))) (list_reads (Reads-type_next room))
+    map_reads head_of (λ h. (((h.heading, h.parameters), h.superclass), h.interfaces)) (λ h. refl) (λ x. refl)
+    (and_reads (and_reads (and_reads (Reads-type_heading room start) (list_reads (Reads-type_param room))) (opt_reads (Reads-type_next room))) (list_reads (Reads-type_next room)))
 
 module _ (nested : ℕ → Reader TypeDecl) (fits : ℕ → TypeDecl → Bool) where
   pub Reads-declaration : (room start : ℕ) → ((at : ℕ) → Reads (nested at) declaration_form (fits at)) → Reads (declaration_in nested room start) declaration_form (declaration_fits fits room start)
-  unfolding declaration_in
+  unfolding declaration_in head_form
   Reads-declaration room start r =
-      let members : (h : Head) → Reads (list_next (member_in room (nested (members_start start h)))) (list_form member_form) (all_fit (λ m. member_fits room (fits (members_start start h)) (out-Member m))) =
+      let members : (h : TypeHead) → Reads (list_next (member_in room (nested (members_start start h)))) (list_form member_form) (all_fit (λ m. member_fits room (fits (members_start start h)) (out-Member m))) =
       λ h. list_reads (Reads-member room (nested (members_start start h)) (fits (members_start start h)) (r (members_start start h))) in
       let parts = Reads-then (head_next room start) head_parts_form (head_fits room start) (λ h. list_next (member_in room (nested (members_start start h)))) (list_form member_form)
       (λ h. all_fit (λ m. member_fits room (fits (members_start start h)) (out-Member m))) (Reads-head room start) members in
       same_reads declaration_form (declaration_fits fits room start) (λ d. sym (declaration_form-is d)) (λ d. refl)
-      (check_reads declaration_is_small (map_reads declaration_of (λ d. (head_of d, d.members)) (λ d. refl) (λ x. refl) parts))
+      (check_reads declaration_is_small (map_reads declaration_of (λ d. (head_in d, d.members)) (λ d. refl) (λ x. refl) parts))
 
 pub Reads-inside_declaration : (room start : ℕ) → Reads (inside_declaration_next room start) declaration_form (inside_declaration room start)
 unfolding inside_declaration_next inside_declaration

@@ -1,39 +1,38 @@
 -- What is legal, by equations: one for each variant.
-use Rattle.std.proofs.Common.{◌≡◌, ℕ, suc, Bool, true, ◌&&◌, List, length, Option, ap}
+use Rattle.std.proofs.Common.{◌≡◌, ℕ, suc, Bool, true, ◌&&◌, List, length, ap, ◌∙◌}
 use Rattle.std.specs.Prelude.{nat_le}
-use Rattle.decl_syntax.specs.Forms.{is_name, all_fit, fits_if_some}
-use Rattle.decl_syntax.specs.Legal.{agrees, part_fits, type_fits, inside_type, is_legal_type, is_plain, plain_fits, value_fits, is_legal_value, is_legal_annotation, is_legal_field, is_legal_method, is_legal_constructor, is_legal_constant, member_fits}
-use Rattle.decl_syntax.specs.declared.type_text.PrimitiveKind.{PrimitiveKind}
-use Rattle.decl_syntax.specs.declared.type_text.WildcardKind.{WildcardKind}
-use Rattle.decl_syntax.specs.declared.type_text.TypeText.{TypeText}
-use Rattle.decl_syntax.specs.declared.type_text.TypeText.TheVariants as type
-use Rattle.decl_syntax.specs.declared.type_text.NamedPart.{NamedPart}
-use Rattle.decl_syntax.specs.declared.annotation.ValueText.{ValueText}
-use Rattle.decl_syntax.specs.declared.annotation.ValueText.TheVariants as value
-use Rattle.decl_syntax.specs.declared.annotation.AnnotationText.{AnnotationText}
-use Rattle.decl_syntax.specs.declared.member.FieldDecl.{FieldDecl}
-use Rattle.decl_syntax.specs.declared.member.MethodDecl.{MethodDecl}
-use Rattle.decl_syntax.specs.declared.member.ConstructorDecl.{ConstructorDecl}
-use Rattle.decl_syntax.specs.declared.member.ConstantDecl.{ConstantDecl}
-use Rattle.decl_syntax.specs.declared.declaration.TypeDecl.{TypeDecl}
-use Rattle.decl_syntax.specs.declared.declaration.Member.{out-Member}
-use Rattle.decl_syntax.specs.declared.declaration.Member.TheVariants as member
+use Rattle.apt_base.specs.Forms.{is_name, all_fit}
+use Rattle.decl_tree.specs.Legal.{part_fits, base_fits, inside_type, is_legal_type, is_plain, plain_fits, value_fits, is_legal_value, is_legal_annotation, is_legal_field, is_legal_method, is_legal_constructor, is_legal_constant, member_fits}
+use Rattle.decl_tree.specs.declared.type_text.PrimitiveKind.{PrimitiveKind}
+use Rattle.decl_tree.specs.declared.type_text.Around.{Around}
+use Rattle.decl_tree.specs.declared.type_text.BaseType.{BaseType, out-BaseType}
+use Rattle.decl_tree.specs.declared.type_text.BaseType.TheVariants as base
+use Rattle.decl_tree.specs.declared.type_text.TypeText.{TypeText, roll-TypeText, out-roll-TypeText}
+use Rattle.decl_tree.specs.declared.type_text.NamedPart.{NamedPart}
+use Rattle.decl_tree.specs.declared.annotation.ValueText.{ValueText}
+use Rattle.decl_tree.specs.declared.annotation.ValueText.TheVariants as value
+use Rattle.decl_tree.specs.declared.annotation.AnnotationText.{AnnotationText}
+use Rattle.decl_tree.specs.declared.member.FieldDecl.{FieldDecl}
+use Rattle.decl_tree.specs.declared.member.MethodDecl.{MethodDecl}
+use Rattle.decl_tree.specs.declared.member.ConstructorDecl.{ConstructorDecl}
+use Rattle.decl_tree.specs.declared.member.ConstantDecl.{ConstantDecl}
+use Rattle.decl_tree.specs.declared.declaration.TypeDecl.{TypeDecl}
+use Rattle.decl_tree.specs.declared.declaration.Member.{out-Member}
+use Rattle.decl_tree.specs.declared.declaration.Member.TheVariants as member
 
-pub is_legal_type-Primitive : (room : ℕ) (kind : PrimitiveKind) → is_legal_type room (type.Primitive kind) ≡ true
+-- of what stands around the base nothing is asked
+pub is_legal_type-at : (room : ℕ) (around : List Around) (of : BaseType) → is_legal_type room (roll-TypeText (record { around = around; base = of })) ≡ base_fits (inside_type room) (out-BaseType of)
 unfolding is_legal_type
-is_legal_type-Primitive room kind = ap (type_fits (inside_type room)) (type.outs-Primitive kind)
+is_legal_type-at room around of = ap (λ t. base_fits (inside_type room) (out-BaseType t.base)) (out-roll-TypeText (record { around = around; base = of }))
 
-pub is_legal_type-Named : (room : ℕ) (parts : List NamedPart) → is_legal_type room (type.Named parts) ≡ all_fit (part_fits (inside_type room)) parts
-unfolding is_legal_type
-is_legal_type-Named room parts = ap (type_fits (inside_type room)) (type.outs-Named parts)
+pub is_legal_type-Primitive : (room : ℕ) (around : List Around) (kind : PrimitiveKind) → is_legal_type room (roll-TypeText (record { around = around; base = base.Primitive kind })) ≡ true
+is_legal_type-Primitive room around kind = is_legal_type-at room around (base.Primitive kind) ∙ ap (base_fits (inside_type room)) (base.outs-Primitive kind)
 
-pub is_legal_type-Array : (room : ℕ) (item : TypeText) → is_legal_type room (type.Array item) ≡ inside_type room item
-unfolding is_legal_type
-is_legal_type-Array room item = ap (type_fits (inside_type room)) (type.outs-Array item)
+pub is_legal_type-Named : (room : ℕ) (around : List Around) (parts : List NamedPart) → is_legal_type room (roll-TypeText (record { around = around; base = base.Named parts })) ≡ all_fit (part_fits (inside_type room)) parts
+is_legal_type-Named room around parts = is_legal_type-at room around (base.Named parts) ∙ ap (base_fits (inside_type room)) (base.outs-Named parts)
 
-pub is_legal_type-Wildcard : (room : ℕ) (kind : WildcardKind) (bound : Option TypeText) → is_legal_type room (type.Wildcard kind bound) ≡ (fits_if_some (inside_type room) bound && agrees kind bound)
-unfolding is_legal_type
-is_legal_type-Wildcard room kind bound = ap (type_fits (inside_type room)) (type.outs-Wildcard kind bound)
+pub is_legal_type-Wildcard : (room : ℕ) (around : List Around) → is_legal_type room (roll-TypeText (record { around = around; base = base.Wildcard })) ≡ true
+is_legal_type-Wildcard room around = is_legal_type-at room around base.Wildcard ∙ ap (base_fits (inside_type room)) base.outs-Wildcard
 
 -- a type that opens one more is a legal one with one less
 pub inside_type-more : (room : ℕ) (text : TypeText) → inside_type (suc room) text ≡ is_legal_type room text

@@ -1,12 +1,8 @@
-pub mod Counted
 pub mod Declarations
-pub mod Dotted
-pub mod Fields
 pub mod Legality
 pub mod Members
 pub mod Numbers
-pub mod Readers
+pub mod Openings
 pub mod Spelled
 pub mod Types
 pub mod Values
-pub mod Written

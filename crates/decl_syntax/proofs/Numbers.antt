@@ -1,15 +1,13 @@
 -- The numbers of the small kinds: each kind has its own.
 use Rattle.std.proofs.Common.{◌≡◌, ℕ, Bool, true, false, cond, eqb, Option, Some, None, refl, ap, ◌∙◌}
 use Rattle.std.proofs.lemmas.Bool.{eqb-true}
-use Rattle.decl_syntax.specs.Numbers.{primitive_number, primitive_of, wildcard_number, wildcard_of, kind_number, kind_of, import_number, import_of}
-use Rattle.decl_syntax.specs.declared.type_text.PrimitiveKind.{PrimitiveKind}
-use Rattle.decl_syntax.specs.declared.type_text.PrimitiveKind.TheVariants as primitive
-use Rattle.decl_syntax.specs.declared.type_text.WildcardKind.{WildcardKind}
-use Rattle.decl_syntax.specs.declared.type_text.WildcardKind.TheVariants as wildcard
-use Rattle.decl_syntax.specs.declared.declaration.TypeKind.{TypeKind}
-use Rattle.decl_syntax.specs.declared.declaration.TypeKind.TheVariants as kind
-use Rattle.decl_syntax.specs.declared.compilation.ImportKind.{ImportKind}
-use Rattle.decl_syntax.specs.declared.compilation.ImportKind.TheVariants as import
+use Rattle.decl_syntax.specs.Numbers.{primitive_number, primitive_of, kind_number, kind_of, import_number, import_of}
+use Rattle.decl_tree.specs.declared.type_text.PrimitiveKind.{PrimitiveKind}
+use Rattle.decl_tree.specs.declared.type_text.PrimitiveKind.TheVariants as primitive
+use Rattle.decl_tree.specs.declared.declaration.TypeKind.{TypeKind}
+use Rattle.decl_tree.specs.declared.declaration.TypeKind.TheVariants as kind
+use Rattle.decl_tree.specs.declared.compilation.ImportKind.{ImportKind}
+use Rattle.decl_tree.specs.declared.compilation.ImportKind.TheVariants as import
 
 -- what a chain of tests gives has the number that was tested
 abbrev IsNumbered : {K : Type 0} → (K → ℕ) → ℕ → Option K → Type 0
@@ -44,16 +42,6 @@ primitive_on n =
     (or_else primitive_number n primitive.Int _ (or_else primitive_number n primitive.Long _ (or_else primitive_number n primitive.Char _
     (or_else primitive_number n primitive.Float _ (or_else primitive_number n primitive.Double _ (or_else primitive_number n primitive.Void _
     (or_none primitive_number n)))))))))
-
-pub wildcard_back : (k : WildcardKind) → wildcard_of (wildcard_number k) ≡ Some k
-wildcard_back wildcard.Unbounded = refl
-wildcard_back wildcard.Extends = refl
-wildcard_back wildcard.Super = refl
-
-pub wildcard_on : (n : ℕ) (k : WildcardKind) → wildcard_of n ≡ Some k → n ≡ wildcard_number k
-wildcard_on n =
-    or_else wildcard_number n wildcard.Unbounded _ (or_else wildcard_number n wildcard.Extends _ (or_else wildcard_number n wildcard.Super _
-    (or_none wildcard_number n)))
 
 pub kind_back : (k : TypeKind) → kind_of (kind_number k) ≡ Some k
 kind_back kind.Enum = refl

@@ -1,19 +1,19 @@
 -- The spelling of values and annotations, by equations, and that their readers read them.
 use Rattle.std.proofs.Common.{◌≡◌, ℕ, zero, suc, ◌-◌, arith, Bool, true, false, List, ◌∷◌, ◌++◌, Some, None, refl, sym, ap, subst, ◌∙◌}
-use Rattle.decl_syntax.specs.Fields.{text_next}
-use Rattle.decl_syntax.specs.Forms.{Reader, name_form, list_form, none_next, mapped, checked, tagged, list_next}
+use Rattle.apt_base.specs.Fields.{text_next}
+use Rattle.apt_base.specs.Forms.{Reader, name_form, list_form, none_next, mapped, checked, tagged, list_next}
 use Rattle.decl_syntax.specs.Shape.{value_step, annotation_step, pair_step, type_form, value_form, annotation_form, pair_form}
-use Rattle.decl_syntax.specs.Legal.{pair_fits, annotation_fits, plain_fits, is_plain, value_fits, is_legal_type, is_legal_value, is_legal_annotation}
+use Rattle.decl_tree.specs.Legal.{pair_fits, annotation_fits, plain_fits, is_plain, value_fits, is_legal_type, is_legal_value, is_legal_annotation}
 use Rattle.decl_syntax.specs.Reading.{pair_of, pair_in, annotation_of, annotation_in, plain_choice, plain_next, are_two, value_choice, value_in, type_next, value_next, annotation_next}
-use Rattle.decl_syntax.specs.declared.type_text.TypeText.{TypeText}
-use Rattle.decl_syntax.specs.declared.annotation.ValueText.{ValueText, out-ValueText, roll-ValueText, roll-out-ValueText}
-use Rattle.decl_syntax.specs.declared.annotation.ValueText.TheVariants as value
-use Rattle.decl_syntax.specs.declared.annotation.ValueText.TheOpen.{ValueText-F}
-use Rattle.decl_syntax.specs.declared.annotation.ValueText.TheFolds.{fold-roll-ValueText, fold_out-AnnotationText, fold_out-ElementValuePair}
-use Rattle.decl_syntax.specs.declared.annotation.AnnotationText.{AnnotationText, out-AnnotationText, roll-out-AnnotationText, out-roll-AnnotationText}
-use Rattle.decl_syntax.specs.declared.annotation.ElementValuePair.{ElementValuePair}
+use Rattle.decl_tree.specs.declared.type_text.TypeText.{TypeText}
+use Rattle.decl_tree.specs.declared.annotation.ValueText.{ValueText, out-ValueText, roll-ValueText, roll-out-ValueText}
+use Rattle.decl_tree.specs.declared.annotation.ValueText.TheVariants as value
+use Rattle.decl_tree.specs.declared.annotation.ValueText.TheOpen.{ValueText-F}
+use Rattle.decl_tree.specs.declared.annotation.ValueText.TheFolds.{fold-roll-ValueText, fold_out-AnnotationText, fold_out-ElementValuePair}
+use Rattle.decl_tree.specs.declared.annotation.AnnotationText.{AnnotationText, out-AnnotationText, roll-out-AnnotationText, out-roll-AnnotationText}
+use Rattle.decl_tree.specs.declared.annotation.ElementValuePair.{ElementValuePair}
 use Rattle.decl_syntax.proofs.Types.{list_form-spelled, Reads-type_next}
-use Rattle.decl_syntax.proofs.Readers.{Reads, Reads-none, Reads-text, Spells-none, Spells-or, variant, Reads-tagged, and_reads, list_reads, check_reads, map_reads, same_reads}
+use Rattle.apt_base.proofs.Readers.{Reads, Reads-none, Reads-text, Spells-none, Spells-or, variant, Reads-tagged, and_reads, list_reads, check_reads, map_reads, same_reads}
 
 -- ---- equations
 

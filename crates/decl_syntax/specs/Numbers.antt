@@ -1,13 +1,11 @@
 -- The numbers by which the small kinds are spelled.
 use Rattle.std.specs.Prelude.{ℕ, ◌==◌, Option, Some, None, if◌then◌else◌}
-use Rattle.decl_syntax.specs.declared.type_text.PrimitiveKind.{PrimitiveKind}
-use Rattle.decl_syntax.specs.declared.type_text.PrimitiveKind.TheVariants as primitive
-use Rattle.decl_syntax.specs.declared.type_text.WildcardKind.{WildcardKind}
-use Rattle.decl_syntax.specs.declared.type_text.WildcardKind.TheVariants as wildcard
-use Rattle.decl_syntax.specs.declared.declaration.TypeKind.{TypeKind}
-use Rattle.decl_syntax.specs.declared.declaration.TypeKind.TheVariants as kind
-use Rattle.decl_syntax.specs.declared.compilation.ImportKind.{ImportKind}
-use Rattle.decl_syntax.specs.declared.compilation.ImportKind.TheVariants as import
+use Rattle.decl_tree.specs.declared.type_text.PrimitiveKind.{PrimitiveKind}
+use Rattle.decl_tree.specs.declared.type_text.PrimitiveKind.TheVariants as primitive
+use Rattle.decl_tree.specs.declared.declaration.TypeKind.{TypeKind}
+use Rattle.decl_tree.specs.declared.declaration.TypeKind.TheVariants as kind
+use Rattle.decl_tree.specs.declared.compilation.ImportKind.{ImportKind}
+use Rattle.decl_tree.specs.declared.compilation.ImportKind.TheVariants as import
 
 abbrev pub primitive_number : PrimitiveKind → ℕ
 primitive_number primitive.Boolean = 0
@@ -25,15 +23,6 @@ primitive_of n =
     if n == 0 then Some primitive.Boolean else if n == 1 then Some primitive.Byte else if n == 2 then Some primitive.Short
     else if n == 3 then Some primitive.Int else if n == 4 then Some primitive.Long else if n == 5 then Some primitive.Char
     else if n == 6 then Some primitive.Float else if n == 7 then Some primitive.Double else if n == 8 then Some primitive.Void else None
-
-abbrev pub wildcard_number : WildcardKind → ℕ
-wildcard_number wildcard.Unbounded = 0
-wildcard_number wildcard.Extends = 1
-wildcard_number wildcard.Super = 2
-
-abbrev pub wildcard_of : ℕ → Option WildcardKind
-wildcard_of n =
-    if n == 0 then Some wildcard.Unbounded else if n == 1 then Some wildcard.Extends else if n == 2 then Some wildcard.Super else None
 
 abbrev pub kind_number : TypeKind → ℕ
 kind_number kind.Enum = 1

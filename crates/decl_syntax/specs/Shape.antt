@@ -1,31 +1,35 @@
 -- The one spelling of a unit in bytes: each form by cases, its fields in their order.
 use Rattle.std.specs.Prelude.{ℕ, List, [], ◌∷◌, ◌++◌}
-use Rattle.decl_syntax.specs.Fields.{bool_form}
-use Rattle.decl_syntax.specs.Forms.{name_form, u16_form, list_form, opt_form}
-use Rattle.decl_syntax.specs.Numbers.{primitive_number, wildcard_number, kind_number, import_number}
-use Rattle.decl_syntax.specs.declared.type_text.TypeText.{TypeText}
-use Rattle.decl_syntax.specs.declared.type_text.NamedPart.{NamedPart}
-use Rattle.decl_syntax.specs.declared.type_text.TypeText.TheOpen.{TypeText-F, NamedPart-F}
-use Rattle.decl_syntax.specs.declared.type_text.TypeText.TheFolds.{fold-TypeText, fold-NamedPart}
-use Rattle.decl_syntax.specs.declared.annotation.ValueText.{ValueText}
-use Rattle.decl_syntax.specs.declared.annotation.AnnotationText.{AnnotationText}
-use Rattle.decl_syntax.specs.declared.annotation.ElementValuePair.{ElementValuePair}
-use Rattle.decl_syntax.specs.declared.annotation.ValueText.TheOpen.{ValueText-F, AnnotationText-F, ElementValuePair-F}
-use Rattle.decl_syntax.specs.declared.annotation.ValueText.TheFolds.{fold-ValueText, fold-AnnotationText, fold-ElementValuePair}
-use Rattle.decl_syntax.specs.declared.member.TypeParam.{TypeParam}
-use Rattle.decl_syntax.specs.declared.member.Param.{Param}
-use Rattle.decl_syntax.specs.declared.member.FieldDecl.{FieldDecl}
-use Rattle.decl_syntax.specs.declared.member.MethodDecl.{MethodDecl}
-use Rattle.decl_syntax.specs.declared.member.ConstructorDecl.{ConstructorDecl}
-use Rattle.decl_syntax.specs.declared.member.ConstantDecl.{ConstantDecl}
-use Rattle.decl_syntax.specs.declared.declaration.Member.{Member}
-use Rattle.decl_syntax.specs.declared.declaration.TypeDecl.{TypeDecl}
-use Rattle.decl_syntax.specs.declared.declaration.Member.TheOpen.{Member-F, TypeDecl-F}
-use Rattle.decl_syntax.specs.declared.declaration.Member.TheFolds.{fold-Member, fold-TypeDecl}
-use Rattle.decl_syntax.specs.declared.compilation.Import.{Import}
-use Rattle.decl_syntax.specs.declared.compilation.Body.{Body}
-use Rattle.decl_syntax.specs.declared.compilation.Body.TheVariants.{Declared, Info}
-use Rattle.decl_syntax.specs.declared.compilation.Unit as compilation
+use Rattle.std.specs.List.{flat_map}
+use Rattle.apt_base.specs.Fields.{bool_form}
+use Rattle.apt_base.specs.Forms.{name_form, u16_form, list_form, opt_form}
+use Rattle.decl_syntax.specs.Numbers.{primitive_number, kind_number, import_number}
+use Rattle.decl_tree.specs.declared.type_text.Around.{Around}
+use Rattle.decl_tree.specs.declared.type_text.Around.TheVariants as around
+use Rattle.decl_tree.specs.declared.type_text.BaseType.{BaseType}
+use Rattle.decl_tree.specs.declared.type_text.NamedPart.{NamedPart}
+use Rattle.decl_tree.specs.declared.type_text.TypeText.{TypeText}
+use Rattle.decl_tree.specs.declared.type_text.BaseType.TheOpen.{BaseType-F, NamedPart-F, TypeText-F}
+use Rattle.decl_tree.specs.declared.type_text.BaseType.TheFolds.{fold-BaseType, fold-NamedPart, fold-TypeText}
+use Rattle.decl_tree.specs.declared.annotation.ValueText.{ValueText}
+use Rattle.decl_tree.specs.declared.annotation.AnnotationText.{AnnotationText}
+use Rattle.decl_tree.specs.declared.annotation.ElementValuePair.{ElementValuePair}
+use Rattle.decl_tree.specs.declared.annotation.ValueText.TheOpen.{ValueText-F, AnnotationText-F, ElementValuePair-F}
+use Rattle.decl_tree.specs.declared.annotation.ValueText.TheFolds.{fold-ValueText, fold-AnnotationText, fold-ElementValuePair}
+use Rattle.decl_tree.specs.declared.member.TypeParam.{TypeParam}
+use Rattle.decl_tree.specs.declared.member.Param.{Param}
+use Rattle.decl_tree.specs.declared.member.FieldDecl.{FieldDecl}
+use Rattle.decl_tree.specs.declared.member.MethodDecl.{MethodDecl}
+use Rattle.decl_tree.specs.declared.member.ConstructorDecl.{ConstructorDecl}
+use Rattle.decl_tree.specs.declared.member.ConstantDecl.{ConstantDecl}
+use Rattle.decl_tree.specs.declared.declaration.Member.{Member}
+use Rattle.decl_tree.specs.declared.declaration.TypeDecl.{TypeDecl}
+use Rattle.decl_tree.specs.declared.declaration.Member.TheOpen.{Member-F, TypeDecl-F}
+use Rattle.decl_tree.specs.declared.declaration.Member.TheFolds.{fold-Member, fold-TypeDecl}
+use Rattle.decl_tree.specs.declared.compilation.Import.{Import}
+use Rattle.decl_tree.specs.declared.compilation.Body.{Body}
+use Rattle.decl_tree.specs.declared.compilation.Body.TheVariants.{Declared, Info}
+use Rattle.decl_tree.specs.declared.compilation.UnitText.{UnitText}
 
 -- a part that is spelled already
 abbrev pub spelled : List ℕ → List ℕ
@@ -33,20 +37,32 @@ spelled bytes = bytes
 
 -- ---- types
 
-abbrev pub type_step : TypeText-F (List ℕ) (List ℕ) → List ℕ
-type_step (TypeText-F.Primitive kind) = 0 ∷ primitive_number kind ∷ []
-type_step (TypeText-F.Named parts) = 1 ∷ list_form spelled parts
-type_step (TypeText-F.Array item) = 2 ∷ item
-type_step (TypeText-F.Wildcard kind bound) = 3 ∷ wildcard_number kind ∷ opt_form spelled bound
+-- `[]`, `? extends` and `? super`
+abbrev pub around_form : Around → List ℕ
+around_form around.Array = 2 ∷ []
+around_form around.Extends = 3 ∷ 1 ∷ 1 ∷ []
+around_form around.Super = 3 ∷ 2 ∷ 1 ∷ []
 
-abbrev pub part_step : NamedPart-F (List ℕ) (List ℕ) → List ℕ
+abbrev pub base_step : BaseType-F (List ℕ) (List ℕ) (List ℕ) → List ℕ
+base_step (BaseType-F.Primitive kind) = 0 ∷ primitive_number kind ∷ []
+base_step (BaseType-F.Named parts) = 1 ∷ list_form spelled parts
+base_step BaseType-F.Wildcard = 3 ∷ 0 ∷ 0 ∷ []
+
+abbrev pub part_step : NamedPart-F (List ℕ) (List ℕ) (List ℕ) → List ℕ
 part_step part = name_form part.name ++ opt_form (list_form spelled) part.arguments
 
-unfoldable pub type_form : TypeText → List ℕ
-type_form = fold-TypeText (List ℕ) (List ℕ) type_step part_step
+-- what stands around the base, from the outside in, and the base
+abbrev pub type_step : TypeText-F (List ℕ) (List ℕ) (List ℕ) → List ℕ
+type_step text = flat_map around_form text.around ++ text.base
+
+unfoldable pub base_form : BaseType → List ℕ
+base_form = fold-BaseType (List ℕ) (List ℕ) (List ℕ) base_step part_step type_step
 
 unfoldable pub part_form : NamedPart → List ℕ
-part_form = fold-NamedPart (List ℕ) (List ℕ) type_step part_step
+part_form = fold-NamedPart (List ℕ) (List ℕ) (List ℕ) base_step part_step type_step
+
+unfoldable pub type_form : TypeText → List ℕ
+type_form = fold-TypeText (List ℕ) (List ℕ) (List ℕ) base_step part_step type_step
 
 -- ---- values and annotations
 
@@ -104,6 +120,12 @@ constant_form c = name_form c.name ++ list_form annotation_form c.annotations ++
 
 -- ---- declarations
 
+-- what stands before the members
+unfoldable pub head_form : TypeDecl → List ℕ
+head_form d =
+    (kind_number d.kind ∷ []) ++ name_form d.name ++ u16_form d.modifiers ++ list_form annotation_form d.annotations
+    ++ opt_form name_form d.doc ++ list_form type_param_form d.parameters ++ opt_form type_form d.superclass ++ list_form type_form d.interfaces
+
 abbrev pub member_step : Member-F (List ℕ) (List ℕ) → List ℕ
 member_step (Member-F.Field field) = 0 ∷ field_form field
 member_step (Member-F.Method method) = 1 ∷ method_form method
@@ -132,5 +154,5 @@ unfoldable pub body_form : Body → List ℕ
 body_form (Declared declaration) = 0 ∷ declaration_form declaration
 body_form (Info annotations doc) = 1 ∷ (list_form annotation_form annotations ++ opt_form name_form doc)
 
-unfoldable pub unit_form : compilation.Unit → List ℕ
+unfoldable pub unit_form : UnitText → List ℕ
 unit_form u = name_form u.package ++ list_form import_form u.imports ++ list_form name_form u.siblings ++ body_form u.body

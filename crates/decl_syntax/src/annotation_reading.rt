@@ -1,36 +1,36 @@
-ghost use Rattle.decl_syntax.specs.Forms.{checked, opt_next, list_next};
-ghost use Rattle.decl_syntax.specs.Reading.{Gives, type_next, pair_in, plain_next, are_two, value_in, value_next, annotation_next};
+// Values and annotations, read from their spelling.
+ghost use Rattle.apt_base.specs.Forms.{checked, list_next};
+ghost use Rattle.apt_base.specs.Readings.{Gives};
+ghost use Rattle.decl_syntax.specs.Reading.{type_next, pair_in, plain_next, are_two, value_in, value_next, annotation_next};
 
-use crate::annotation::{AnnotationText, ElementValuePair, ValueText};
-use crate::fault::ShapeFault;
-use crate::reading::{byte, count, flag, text};
 use crate::type_reading::type_text;
-use crate::{FieldReader, List};
+use apt_base::{FieldReader, FormFault, List, read_byte, read_count, read_text};
+use decl_tree::{AnnotationText, ElementValuePair, ValueText};
 use std::alloc::Global;
 
 // A literal or a chain of names.
 #[tactic(auto, unfolding(crate::specs::Reading::plain_next))]
-fn plain(alloc: Global, reader: &mut FieldReader) -> Result<ValueText, ShapeFault>
+fn plain(alloc: Global, reader: &mut FieldReader) -> Result<ValueText, FormFault>
     ensures { Gives result (plain_next reader.old) reader.new }
 {
-    match byte(reader)? {
+    match read_byte(reader)? {
         0 => {
-            let part = text(alloc, reader)?;
+            let part = read_text(alloc, reader)?;
             Ok(ValueText::Literal(part))
         }
         4 => {
-            let part = text(alloc, reader)?;
+            let part = read_text(alloc, reader)?;
             Ok(ValueText::Chain(part))
         }
-        _ => Err(ShapeFault::Bad),
+        _ => Err(FormFault::Bad),
     }
 }
 
-#[tactic(auto, unfolding(crate::specs::Forms::list_next))]
-fn plains(alloc: Global, reader: &mut FieldReader) -> Result<List<ValueText>, ShapeFault>
+#[tactic(auto, unfolding(apt_base::specs::Forms::list_next))]
+fn plains(alloc: Global, reader: &mut FieldReader) -> Result<List<ValueText>, FormFault>
     ensures { Gives result (list_next plain_next reader.old) reader.new }
 {
-    let count = count(reader)?;
+    let count = read_count(reader)?;
     let mut items = List::new(alloc);
     for _ in 0..count {
         let item = plain(alloc, reader)?;
@@ -40,12 +40,12 @@ fn plains(alloc: Global, reader: &mut FieldReader) -> Result<List<ValueText>, Sh
 }
 
 // The items that `+` joins, two or more.
-fn sum(alloc: Global, reader: &mut FieldReader) -> Result<List<ValueText>, ShapeFault>
+fn sum(alloc: Global, reader: &mut FieldReader) -> Result<List<ValueText>, FormFault>
     ensures { Gives result (checked are_two (list_next plain_next) reader.old) reader.new }
 {
     let items = plains(alloc, reader)?;
     if items.len() < 2 {
-        return Err(ShapeFault::Bad);
+        return Err(FormFault::Bad);
     }
     Ok(items)
 }
@@ -56,11 +56,11 @@ pub(crate) fn value(
     alloc: Global,
     reader: &mut FieldReader,
     room: u32,
-) -> Result<ValueText, ShapeFault>
+) -> Result<ValueText, FormFault>
     ensures { Gives result (value_next room reader.old) reader.new }
 {
     if room == 0 {
-        return Err(ShapeFault::Bad);
+        return Err(FormFault::Bad);
     }
     opened(alloc, reader, room - 1)
 }
@@ -68,16 +68,16 @@ pub(crate) fn value(
 // A value that is open already.
 #[cycle(annotation_reading)]
 #[tactic(auto, unfolding(crate::specs::Reading::value_in, crate::specs::Reading::annotation_next))]
-fn opened(alloc: Global, reader: &mut FieldReader, room: u32) -> Result<ValueText, ShapeFault>
+fn opened(alloc: Global, reader: &mut FieldReader, room: u32) -> Result<ValueText, FormFault>
     ensures { Gives result (value_in (type_next room) (value_next room) reader.old) reader.new }
 {
-    match byte(reader)? {
+    match read_byte(reader)? {
         0 => {
-            let part = text(alloc, reader)?;
+            let part = read_text(alloc, reader)?;
             Ok(ValueText::Literal(part))
         }
         1 => {
-            let part = text(alloc, reader)?;
+            let part = read_text(alloc, reader)?;
             Ok(ValueText::Negated(part))
         }
         2 => {
@@ -89,7 +89,7 @@ fn opened(alloc: Global, reader: &mut FieldReader, room: u32) -> Result<ValueTex
             Ok(ValueText::Class(part))
         }
         4 => {
-            let part = text(alloc, reader)?;
+            let part = read_text(alloc, reader)?;
             Ok(ValueText::Chain(part))
         }
         5 => {
@@ -101,10 +101,10 @@ fn opened(alloc: Global, reader: &mut FieldReader, room: u32) -> Result<ValueTex
             Ok(ValueText::Nested(part))
         }
         7 => {
-            let part = text(alloc, reader)?;
+            let part = read_text(alloc, reader)?;
             Ok(ValueText::Other(part))
         }
-        _ => Err(ShapeFault::Bad),
+        _ => Err(FormFault::Bad),
     }
 }
 
@@ -115,34 +115,34 @@ pub(crate) fn annotation(
     alloc: Global,
     reader: &mut FieldReader,
     room: u32,
-) -> Result<AnnotationText, ShapeFault>
+) -> Result<AnnotationText, FormFault>
     ensures { Gives result (annotation_next room reader.old) reader.new }
 {
-    let name = text(alloc, reader)?;
+    let name = read_text(alloc, reader)?;
     let values = pairs(alloc, reader, room)?;
     Ok(AnnotationText { name, values })
 }
 
 #[cycle(annotation_reading)]
 #[tactic(auto, unfolding(crate::specs::Reading::pair_in))]
-fn pair(alloc: Global, reader: &mut FieldReader, room: u32) -> Result<ElementValuePair, ShapeFault>
+fn pair(alloc: Global, reader: &mut FieldReader, room: u32) -> Result<ElementValuePair, FormFault>
     ensures { Gives result (pair_in (value_next room) reader.old) reader.new }
 {
-    let name = text(alloc, reader)?;
+    let name = read_text(alloc, reader)?;
     let value = value(alloc, reader, room)?;
     Ok(ElementValuePair { name, value })
 }
 
 #[cycle(annotation_reading)]
-#[tactic(auto, unfolding(crate::specs::Forms::list_next))]
+#[tactic(auto, unfolding(apt_base::specs::Forms::list_next))]
 fn pairs(
     alloc: Global,
     reader: &mut FieldReader,
     room: u32,
-) -> Result<List<ElementValuePair>, ShapeFault>
+) -> Result<List<ElementValuePair>, FormFault>
     ensures { Gives result (list_next (pair_in (value_next room)) reader.old) reader.new }
 {
-    let count = count(reader)?;
+    let count = read_count(reader)?;
     let mut items = List::new(alloc);
     for _ in 0..count {
         let item = pair(alloc, reader, room)?;
@@ -152,48 +152,15 @@ fn pairs(
 }
 
 #[cycle(annotation_reading)]
-#[tactic(auto, unfolding(crate::specs::Forms::list_next))]
-fn values(alloc: Global, reader: &mut FieldReader, room: u32) -> Result<List<ValueText>, ShapeFault>
+#[tactic(auto, unfolding(apt_base::specs::Forms::list_next))]
+fn values(alloc: Global, reader: &mut FieldReader, room: u32) -> Result<List<ValueText>, FormFault>
     ensures { Gives result (list_next (value_next room) reader.old) reader.new }
 {
-    let count = count(reader)?;
+    let count = read_count(reader)?;
     let mut items = List::new(alloc);
     for _ in 0..count {
         let item = value(alloc, reader, room)?;
         items.push(item)?;
     }
     Ok(items)
-}
-
-#[tactic(auto, unfolding(crate::specs::Forms::list_next))]
-pub(crate) fn annotations(
-    alloc: Global,
-    reader: &mut FieldReader,
-    room: u32,
-) -> Result<List<AnnotationText>, ShapeFault>
-    ensures { Gives result (list_next (annotation_next room) reader.old) reader.new }
-{
-    let count = count(reader)?;
-    let mut items = List::new(alloc);
-    for _ in 0..count {
-        let item = annotation(alloc, reader, room)?;
-        items.push(item)?;
-    }
-    Ok(items)
-}
-
-#[tactic(auto, unfolding(crate::specs::Forms::opt_next))]
-pub(crate) fn opt_value(
-    alloc: Global,
-    reader: &mut FieldReader,
-    room: u32,
-) -> Result<Option<ValueText>, ShapeFault>
-    ensures { Gives result (opt_next (value_next room) reader.old) reader.new }
-{
-    if flag(reader)? {
-        let value = value(alloc, reader, room)?;
-        Ok(Some(value))
-    } else {
-        Ok(None)
-    }
 }

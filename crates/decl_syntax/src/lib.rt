@@ -1,54 +1,32 @@
-//! The declarations of a compilation unit as a tree, and the one spelling of each unit in bytes, both ways.
+//! The one spelling of each unit of declarations in bytes, its shape, both ways.
 //!
-//! Names, lists and boxes are seen by contracts as bytes, lists and values (`Name`, `List`, `Boxed`), so that a unit is plain data and `≡` compares two of them.
-//! `specs/Shape` spells each form by cases, `specs/Legal` says which units are legal, and `specs/Shapes` what a shape is. `specs/Fields` has the fields of which all formats of the workspace are made, with the words on their readers; `proofs/Fields` has the lemmas for the crates above. `specs/Identifiers` says what identifiers and patterns are.
+//! `specs/Shape` spells each form by cases, and `specs/Shapes` says what a shape is; the tree and what is legal of it stand in `decl_tree`, the fields in `apt_base`, and both are handed on here. `shape` and `parse_shape` are inverse on all units, with no premise, since each `Unit` is legal by its type.
 //!
-//! A `Unit` that was made part by part may be illegal; what `parse_shape` gives is legal. Not promised: that a legal unit comes from a file, or that its texts are identifiers.
+//! Any number of brackets and wildcards is read and written without recursion; what nests is bounded by what is legal.
+//!
+//! Not promised: that memory is there.
 #![tactic(auto)]
 
-mod annotation;
 mod annotation_reading;
 mod annotation_writing;
-mod boxed;
-mod compilation;
-mod declaration;
-mod element;
-mod fault;
-mod field_reader;
-mod field_writer;
-mod identifier;
-mod kinds;
-mod list;
-mod member;
+mod import;
+mod in_unit;
 mod member_reading;
 mod member_writing;
-mod memory;
-mod name;
-mod reading;
+mod parameter;
 mod type_reading;
-mod type_text;
 mod type_writing;
 mod unit_reading;
 mod unit_writing;
-mod writing;
 
-pub use annotation::{AnnotationText, ElementValuePair, ValueText};
-pub use boxed::Boxed;
-pub use compilation::{Body, Import, ImportKind, Unit};
-pub use declaration::{Member, TypeDecl, TypeKind};
-pub use element::ElementRef;
-pub use fault::ShapeFault;
-pub use field_reader::FieldReader;
-pub use field_writer::FieldWriter;
-pub use identifier::{is_dotted, is_identifier, is_pattern};
-pub use kinds::{Claim, Kind, What};
-pub use list::List;
-pub use member::{ConstantDecl, ConstructorDecl, FieldDecl, MethodDecl, Param, TypeParam};
-pub use memory::NoMemory;
-pub use name::Name;
-pub use type_text::{NamedPart, PrimitiveKind, TypeText, WildcardKind};
+pub use apt_base::{
+    Boxed, Claim, ElementRef, FieldReader, FieldWriter, FormFault as ShapeFault, Kind, List, Name,
+    NoMemory, What, is_dotted, is_identifier, is_pattern,
+};
+pub use decl_tree::{
+    AnnotationText, Around, BaseType, Body, ConstantDecl, ConstructorDecl, ElementValuePair,
+    FieldDecl, Import, ImportKind, Member, MethodDecl, NamedPart, Param, PrimitiveKind, TypeDecl,
+    TypeKind, TypeParam, TypeText, Unit, UnitText, ValueText,
+};
 pub use unit_reading::parse_shape;
 pub use unit_writing::shape;
-
-#[cfg(test)]
-mod tests;

@@ -1,19 +1,39 @@
-ghost use Rattle.std.specs.Prelude.{◌≡◌};
-ghost use Rattle.decl_syntax.specs.Forms.{numbered, opt_next, list_next};
-ghost use Rattle.decl_syntax.specs.Legal.{is_bounded, agrees};
-ghost use Rattle.decl_syntax.specs.Numbers.{primitive_of, wildcard_of};
-ghost use Rattle.decl_syntax.specs.Reading.{Gives, part_in, wildcard_in, inside_next, type_next};
+// Types, read from their spelling.
+ghost use Rattle.apt_base.specs.Forms.{numbered, opt_next, list_next};
+ghost use Rattle.apt_base.specs.Readings.{Gives};
+ghost use Rattle.decl_syntax.specs.Numbers.{primitive_of};
+ghost use Rattle.decl_syntax.specs.Reading.{wildcard_next, step_next, opening_next, base_in, part_in, inside_next, type_next};
 
-use crate::fault::ShapeFault;
-use crate::reading::{byte, count, flag, text};
-use crate::type_text::{NamedPart, PrimitiveKind, TypeText, WildcardKind};
-use crate::{Boxed, FieldReader, List};
+use apt_base::{FieldReader, FormFault, List, read_byte, read_count, read_text, read_truth};
+use decl_tree::{Around, BaseType, NamedPart, PrimitiveKind, TypeText};
 use std::alloc::Global;
 
-fn primitive(reader: &mut FieldReader) -> Result<PrimitiveKind, ShapeFault>
+/// The kinds of a base.
+#[derive(Clone, Copy)]
+pub(crate) enum BaseKind {
+    Primitive,
+    Named,
+    Wildcard,
+}
+
+/// What stands next where a type is read: one more thing around its base, or the base.
+#[derive(Clone, Copy)]
+pub(crate) enum Step {
+    Around(Around),
+    Base(BaseKind),
+}
+
+/// How a type begins: what stands around its base, and the base's kind.
+#[derive(Drop)]
+pub(crate) struct Opening {
+    around: List<Around>,
+    kind: BaseKind,
+}
+
+fn primitive(reader: &mut FieldReader) -> Result<PrimitiveKind, FormFault>
     ensures { Gives result (numbered primitive_of reader.old) reader.new }
 {
-    match byte(reader)? {
+    match read_byte(reader)? {
         0 => Ok(PrimitiveKind::Boolean),
         1 => Ok(PrimitiveKind::Byte),
         2 => Ok(PrimitiveKind::Short),
@@ -23,37 +43,51 @@ fn primitive(reader: &mut FieldReader) -> Result<PrimitiveKind, ShapeFault>
         6 => Ok(PrimitiveKind::Float),
         7 => Ok(PrimitiveKind::Double),
         8 => Ok(PrimitiveKind::Void),
-        _ => Err(ShapeFault::Bad),
+        _ => Err(FormFault::Bad),
     }
 }
 
-fn wildcard_kind(reader: &mut FieldReader) -> Result<WildcardKind, ShapeFault>
-    ensures { Gives result (numbered wildcard_of reader.old) reader.new }
+// A wildcard by its number, and whether a bound follows.
+fn wildcard(reader: &mut FieldReader) -> Result<Step, FormFault>
+    ensures { Gives result (wildcard_next reader.old) reader.new }
 {
-    match byte(reader)? {
-        0 => Ok(WildcardKind::Unbounded),
-        1 => Ok(WildcardKind::Extends),
-        2 => Ok(WildcardKind::Super),
-        _ => Err(ShapeFault::Bad),
+    let number = read_byte(reader)?;
+    if read_truth(reader)? {
+        match number {
+            1 => Ok(Step::Around(Around::Extends)),
+            2 => Ok(Step::Around(Around::Super)),
+            _ => Err(FormFault::Bad),
+        }
+    } else {
+        match number {
+            0 => Ok(Step::Base(BaseKind::Wildcard)),
+            _ => Err(FormFault::Bad),
+        }
     }
 }
 
-fn is_bounded(kind: WildcardKind) -> bool
-    ensures { result ≡ is_bounded kind }
+#[tactic(auto, unfolding(crate::specs::Reading::step_next))]
+fn next_step(reader: &mut FieldReader) -> Result<Step, FormFault>
+    ensures { Gives result (step_next reader.old) reader.new }
 {
-    match kind {
-        WildcardKind::Unbounded => false,
-        WildcardKind::Extends => true,
-        WildcardKind::Super => true,
+    match read_byte(reader)? {
+        0 => Ok(Step::Base(BaseKind::Primitive)),
+        1 => Ok(Step::Base(BaseKind::Named)),
+        2 => Ok(Step::Around(Around::Array)),
+        3 => wildcard(reader),
+        _ => Err(FormFault::Bad),
     }
 }
 
-fn agrees(kind: WildcardKind, bound: &Option<Boxed<TypeText>>) -> bool
-    ensures { result ≡ agrees kind bound.now }
+fn read_opening(alloc: Global, reader: &mut FieldReader) -> Result<Opening, FormFault>
+    ensures { Gives result (opening_next reader.old) reader.new }
 {
-    match bound {
-        None => !is_bounded(kind),
-        Some(_) => is_bounded(kind),
+    let mut around = List::new(alloc);
+    loop {
+        match next_step(reader)? {
+            Step::Around(item) => around.push(item)?,
+            Step::Base(kind) => return Ok(Opening { around, kind }),
+        }
     }
 }
 
@@ -64,101 +98,43 @@ pub(crate) fn type_text(
     alloc: Global,
     reader: &mut FieldReader,
     room: u32,
-) -> Result<TypeText, ShapeFault>
+) -> Result<TypeText, FormFault>
     ensures { Gives result (type_next room reader.old) reader.new }
 {
-    match byte(reader)? {
-        0 => {
+    let Opening { around, kind } = read_opening(alloc, reader)?;
+    let base = base(alloc, reader, room, kind)?;
+    Ok(TypeText { around, base })
+}
+
+#[cycle(type_reading)]
+#[tactic(auto, unfolding(crate::specs::Reading::base_in))]
+fn base(
+    alloc: Global,
+    reader: &mut FieldReader,
+    room: u32,
+    kind: BaseKind,
+) -> Result<BaseType, FormFault>
+    ensures { Gives result (base_in (inside_next room) kind reader.old) reader.new }
+{
+    match kind {
+        BaseKind::Primitive => {
             let kind = primitive(reader)?;
-            Ok(TypeText::Primitive(kind))
+            Ok(BaseType::Primitive(kind))
         }
-        1 => {
-            let names = parts(alloc, reader, room)?;
-            Ok(TypeText::Named(names))
+        BaseKind::Named => {
+            let parts = parts(alloc, reader, room)?;
+            Ok(BaseType::Named(parts))
         }
-        2 => {
-            let item = inside(alloc, reader, room)?;
-            let item = Boxed::new(alloc, item)?;
-            Ok(TypeText::Array(item))
-        }
-        3 => wildcard(alloc, reader, room),
-        _ => Err(ShapeFault::Bad),
+        BaseKind::Wildcard => Ok(BaseType::Wildcard),
     }
 }
 
 #[cycle(type_reading)]
-fn inside(alloc: Global, reader: &mut FieldReader, room: u32) -> Result<TypeText, ShapeFault>
-    ensures { Gives result (inside_next room reader.old) reader.new }
-{
-    if room == 0 {
-        return Err(ShapeFault::Bad);
-    }
-    type_text(alloc, reader, room - 1)
-}
-
-#[cycle(type_reading)]
-fn wildcard(alloc: Global, reader: &mut FieldReader, room: u32) -> Result<TypeText, ShapeFault>
-    ensures { Gives result (wildcard_in (inside_next room) reader.old) reader.new }
-{
-    let kind = wildcard_kind(reader)?;
-    let bound = bound(alloc, reader, room)?;
-    if !agrees(kind, &bound) {
-        return Err(ShapeFault::Bad);
-    }
-    Ok(TypeText::Wildcard(kind, bound))
-}
-
-#[cycle(type_reading)]
-#[tactic(auto, unfolding(crate::specs::Forms::opt_next))]
-fn bound(
-    alloc: Global,
-    reader: &mut FieldReader,
-    room: u32,
-) -> Result<Option<Boxed<TypeText>>, ShapeFault>
-    ensures { Gives result (opt_next (inside_next room) reader.old) reader.new }
-{
-    if flag(reader)? {
-        let of = inside(alloc, reader, room)?;
-        let of = Boxed::new(alloc, of)?;
-        Ok(Some(of))
-    } else {
-        Ok(None)
-    }
-}
-
-#[cycle(type_reading)]
-#[tactic(auto, unfolding(crate::specs::Reading::part_in))]
-fn part(alloc: Global, reader: &mut FieldReader, room: u32) -> Result<NamedPart, ShapeFault>
-    ensures { Gives result (part_in (inside_next room) reader.old) reader.new }
-{
-    let name = text(alloc, reader)?;
-    let arguments = arguments(alloc, reader, room)?;
-    Ok(NamedPart { name, arguments })
-}
-
-#[cycle(type_reading)]
-#[tactic(auto, unfolding(crate::specs::Forms::opt_next))]
-fn arguments(
-    alloc: Global,
-    reader: &mut FieldReader,
-    room: u32,
-) -> Result<Option<List<TypeText>>, ShapeFault>
-    ensures { Gives result (opt_next (list_next (inside_next room)) reader.old) reader.new }
-{
-    if flag(reader)? {
-        let value = insides(alloc, reader, room)?;
-        Ok(Some(value))
-    } else {
-        Ok(None)
-    }
-}
-
-#[cycle(type_reading)]
-#[tactic(auto, unfolding(crate::specs::Forms::list_next))]
-fn parts(alloc: Global, reader: &mut FieldReader, room: u32) -> Result<List<NamedPart>, ShapeFault>
+#[tactic(auto, unfolding(apt_base::specs::Forms::list_next))]
+fn parts(alloc: Global, reader: &mut FieldReader, room: u32) -> Result<List<NamedPart>, FormFault>
     ensures { Gives result (list_next (part_in (inside_next room)) reader.old) reader.new }
 {
-    let count = count(reader)?;
+    let count = read_count(reader)?;
     let mut items = List::new(alloc);
     for _ in 0..count {
         let item = part(alloc, reader, room)?;
@@ -168,11 +144,38 @@ fn parts(alloc: Global, reader: &mut FieldReader, room: u32) -> Result<List<Name
 }
 
 #[cycle(type_reading)]
-#[tactic(auto, unfolding(crate::specs::Forms::list_next))]
-fn insides(alloc: Global, reader: &mut FieldReader, room: u32) -> Result<List<TypeText>, ShapeFault>
+#[tactic(auto, unfolding(crate::specs::Reading::part_in))]
+fn part(alloc: Global, reader: &mut FieldReader, room: u32) -> Result<NamedPart, FormFault>
+    ensures { Gives result (part_in (inside_next room) reader.old) reader.new }
+{
+    let name = read_text(alloc, reader)?;
+    let arguments = arguments(alloc, reader, room)?;
+    Ok(NamedPart { name, arguments })
+}
+
+#[cycle(type_reading)]
+#[tactic(auto, unfolding(apt_base::specs::Forms::opt_next))]
+fn arguments(
+    alloc: Global,
+    reader: &mut FieldReader,
+    room: u32,
+) -> Result<Option<List<TypeText>>, FormFault>
+    ensures { Gives result (opt_next (list_next (inside_next room)) reader.old) reader.new }
+{
+    if read_truth(reader)? {
+        let value = insides(alloc, reader, room)?;
+        Ok(Some(value))
+    } else {
+        Ok(None)
+    }
+}
+
+#[cycle(type_reading)]
+#[tactic(auto, unfolding(apt_base::specs::Forms::list_next))]
+fn insides(alloc: Global, reader: &mut FieldReader, room: u32) -> Result<List<TypeText>, FormFault>
     ensures { Gives result (list_next (inside_next room) reader.old) reader.new }
 {
-    let count = count(reader)?;
+    let count = read_count(reader)?;
     let mut items = List::new(alloc);
     for _ in 0..count {
         let item = inside(alloc, reader, room)?;
@@ -181,35 +184,12 @@ fn insides(alloc: Global, reader: &mut FieldReader, room: u32) -> Result<List<Ty
     Ok(items)
 }
 
-#[tactic(auto, unfolding(crate::specs::Forms::list_next))]
-pub(crate) fn types(
-    alloc: Global,
-    reader: &mut FieldReader,
-    room: u32,
-) -> Result<List<TypeText>, ShapeFault>
-    ensures { Gives result (list_next (type_next room) reader.old) reader.new }
+#[cycle(type_reading)]
+fn inside(alloc: Global, reader: &mut FieldReader, room: u32) -> Result<TypeText, FormFault>
+    ensures { Gives result (inside_next room reader.old) reader.new }
 {
-    let count = count(reader)?;
-    let mut items = List::new(alloc);
-    for _ in 0..count {
-        let item = type_text(alloc, reader, room)?;
-        items.push(item)?;
+    if room == 0 {
+        return Err(FormFault::Bad);
     }
-    Ok(items)
-}
-
-#[tactic(auto, unfolding(crate::specs::Forms::opt_next))]
-pub(crate) fn opt_type(
-    alloc: Global,
-    reader: &mut FieldReader,
-    room: u32,
-) -> Result<Option<TypeText>, ShapeFault>
-    ensures { Gives result (opt_next (type_next room) reader.old) reader.new }
-{
-    if flag(reader)? {
-        let value = type_text(alloc, reader, room)?;
-        Ok(Some(value))
-    } else {
-        Ok(None)
-    }
+    type_text(alloc, reader, room - 1)
 }

@@ -1,56 +1,67 @@
+// Declarations and units, read from their spelling.
 ghost use Rattle.std.specs.Prelude.{◌≡◌, ◌+◌, ◌≤◌, length, IfOk, Err};
 ghost use Rattle.std.specs.List.{list_any};
-ghost use Rattle.decl_syntax.specs.Forms.{numbered, list_next};
-ghost use Rattle.decl_syntax.specs.Legal.{are_few, default_constructors, enum_methods, constructs, package_start};
-ghost use Rattle.decl_syntax.specs.Numbers.{kind_of, import_of};
-ghost use Rattle.decl_syntax.specs.Reading.{Gives, canonical_next, member_in, inside_declaration_next, declaration_next, import_next, body_next, unit_next, whole_unit, GivesAll};
-ghost use Rattle.decl_syntax.specs.Shapes.{IsShapeOf, IsNoShape};
-ghost use Rattle.decl_syntax.specs.declared.fault.ShapeFault.TheVariants.{Bad};
-ghost use Rattle.decl_syntax.specs.declared.declaration.Member.{out-Member};
+ghost use Rattle.apt_base.specs.Forms.{numbered, list_next};
+ghost use Rattle.apt_base.specs.Readings.{Gives, GivesAll};
+ghost use Rattle.apt_base.specs.declared.fault.FormFault.TheVariants.{Bad};
+ghost use Rattle.decl_tree.specs.Legal.{are_few, default_constructors, enum_methods, constructs, package_start};
+ghost use Rattle.decl_tree.specs.declared.declaration.Member.{out-Member};
+ghost use Rattle.decl_syntax.specs.Numbers.{kind_of};
+ghost use Rattle.decl_syntax.specs.Reading.{canonical_next, type_heading_next, head_next, member_in, inside_declaration_next, declaration_next, body_next, unit_next, whole_unit};
+ghost use Rattle.decl_syntax.specs.Shape.{unit_form};
+ghost use Rattle.decl_syntax.specs.Shapes.{IsNoShape};
 
-use crate::annotation_reading::annotations;
-use crate::compilation::{Body, Import, ImportKind, Unit};
-use crate::declaration::{Member, TypeDecl, TypeKind};
-use crate::fault::ShapeFault;
-use crate::member_reading::{constant, constructor, field, method, type_params};
-use crate::reading::{byte, count, modifiers, opt_text, text, texts};
-use crate::type_reading::{opt_type, types};
-use crate::{FieldReader, List, Name};
+use crate::in_unit::{list_of, optional, read_modifiers};
+use crate::member_reading::{constant, constructor, field, method};
+use apt_base::{
+    FieldReader, FormFault, List, Name, read_byte, read_count, read_optional_text, read_text,
+    read_texts,
+};
+use decl_tree::{
+    AnnotationText, Body, Member, TypeDecl, TypeKind, TypeParam, TypeText, Unit, UnitText,
+};
 use std::alloc::Global;
 
-fn kind(reader: &mut FieldReader) -> Result<TypeKind, ShapeFault>
+/// How a declaration begins.
+#[derive(Drop)]
+pub(crate) struct TypeHeading {
+    kind: TypeKind,
+    name: Name,
+    modifiers: u16,
+    annotations: List<AnnotationText>,
+    doc: Option<Name>,
+}
+
+/// What stands before the members of a declaration.
+#[derive(Drop)]
+pub(crate) struct TypeHead {
+    heading: TypeHeading,
+    parameters: List<TypeParam>,
+    superclass: Option<TypeText>,
+    interfaces: List<TypeText>,
+}
+
+fn kind(reader: &mut FieldReader) -> Result<TypeKind, FormFault>
     ensures { Gives result (numbered kind_of reader.old) reader.new }
 {
-    match byte(reader)? {
+    match read_byte(reader)? {
         1 => Ok(TypeKind::Enum),
         2 => Ok(TypeKind::Class),
         3 => Ok(TypeKind::AnnotationType),
         4 => Ok(TypeKind::Interface),
-        _ => Err(ShapeFault::Bad),
-    }
-}
-
-fn import_kind(reader: &mut FieldReader) -> Result<ImportKind, ShapeFault>
-    ensures { Gives result (numbered import_of reader.old) reader.new }
-{
-    match byte(reader)? {
-        0 => Ok(ImportKind::Single),
-        1 => Ok(ImportKind::OnDemand),
-        2 => Ok(ImportKind::StaticSingle),
-        3 => Ok(ImportKind::StaticOnDemand),
-        _ => Err(ShapeFault::Bad),
+        _ => Err(FormFault::Bad),
     }
 }
 
 // The last part of a canonical name, before which so many bytes of it stand.
-fn canonical(alloc: Global, reader: &mut FieldReader, start: usize) -> Result<Name, ShapeFault>
+fn canonical(alloc: Global, reader: &mut FieldReader, start: usize) -> Result<Name, FormFault>
     requires { start ≤ 1025 }
     ensures gives { Gives result (canonical_next start reader.old) reader.new }
     ensures ends { IfOk result (λ name. start + length name ≤ 1024) }
 {
-    let name = text(alloc, reader)?;
+    let name = read_text(alloc, reader)?;
     if start > 1024 || name.as_str().len() > 1024 - start {
-        return Err(ShapeFault::Bad);
+        return Err(FormFault::Bad);
     }
     Ok(name)
 }
@@ -98,37 +109,84 @@ fn are_few(kind: TypeKind, parameters: usize, members: &[Member]) -> bool
         && parameters + members.len() + constructors + methods <= 65_535
 }
 
-/// A declaration in which so many more may open, and whose canonical name has so many bytes before its simple name.
-#[cycle(unit_reading)]
-#[tactic(auto, unfolding(crate::specs::Reading::declaration_next, crate::specs::Reading::declaration_in, crate::specs::Reading::head_next))]
-fn declaration(
+#[tactic(auto, unfolding(crate::specs::Reading::type_heading_next))]
+fn read_type_heading(
     alloc: Global,
     reader: &mut FieldReader,
     room: u32,
     start: usize,
-) -> Result<TypeDecl, ShapeFault>
+) -> Result<TypeHeading, FormFault>
     requires { start ≤ 1025 }
-    ensures { Gives result (declaration_next room start reader.old) reader.new }
+    ensures gives { Gives result (type_heading_next room start reader.old) reader.new }
+    ensures ends { IfOk result (λ heading. start + length heading.name ≤ 1024) }
 {
     let kind = kind(reader)?;
     let name = canonical(alloc, reader, start)?;
-    let modifiers = modifiers(reader)?;
-    let annotations = annotations(alloc, reader, room)?;
-    let doc = opt_text(alloc, reader)?;
-    let parameters = type_params(alloc, reader, room)?;
-    let superclass = opt_type(alloc, reader, room)?;
-    let interfaces = types(alloc, reader, room)?;
-    let inner = start + name.as_str().len() + 1;
-    let members = members(alloc, reader, room, inner)?;
-    if !are_few(kind, parameters.len(), members.as_slice()) {
-        return Err(ShapeFault::Bad);
-    }
-    Ok(TypeDecl {
+    let modifiers = read_modifiers(reader)?;
+    let annotations = list_of(alloc, reader, room)?;
+    let doc = read_optional_text(alloc, reader)?;
+    Ok(TypeHeading {
         kind,
         name,
         modifiers,
         annotations,
         doc,
+    })
+}
+
+#[tactic(auto, unfolding(crate::specs::Reading::head_next))]
+fn read_type_head(
+    alloc: Global,
+    reader: &mut FieldReader,
+    room: u32,
+    start: usize,
+) -> Result<TypeHead, FormFault>
+    requires { start ≤ 1025 }
+    ensures gives { Gives result (head_next room start reader.old) reader.new }
+    ensures ends { IfOk result (λ head. start + length head.heading.name ≤ 1024) }
+{
+    let heading = read_type_heading(alloc, reader, room, start)?;
+    let parameters = list_of(alloc, reader, room)?;
+    let superclass = optional(alloc, reader, room)?;
+    let interfaces = list_of(alloc, reader, room)?;
+    Ok(TypeHead {
+        heading,
+        parameters,
+        superclass,
+        interfaces,
+    })
+}
+
+/// A declaration in which so many more may open, and whose canonical name has so many bytes before its simple name.
+#[cycle(unit_reading)]
+#[tactic(auto, unfolding(crate::specs::Reading::declaration_next, crate::specs::Reading::declaration_in))]
+fn declaration(
+    alloc: Global,
+    reader: &mut FieldReader,
+    room: u32,
+    start: usize,
+) -> Result<TypeDecl, FormFault>
+    requires { start ≤ 1025 }
+    ensures { Gives result (declaration_next room start reader.old) reader.new }
+{
+    let head = read_type_head(alloc, reader, room, start)?;
+    let inner = start + head.heading.name.as_str().len() + 1;
+    let members = members(alloc, reader, room, inner)?;
+    if !are_few(head.heading.kind, head.parameters.len(), members.as_slice()) {
+        return Err(FormFault::Bad);
+    }
+    let TypeHead {
+        heading,
+        parameters,
+        superclass,
+        interfaces,
+    } = head;
+    Ok(TypeDecl {
+        kind: heading.kind,
+        name: heading.name,
+        modifiers: heading.modifiers,
+        annotations: heading.annotations,
+        doc: heading.doc,
         parameters,
         superclass,
         interfaces,
@@ -142,12 +200,12 @@ fn nested(
     reader: &mut FieldReader,
     room: u32,
     start: usize,
-) -> Result<TypeDecl, ShapeFault>
+) -> Result<TypeDecl, FormFault>
     requires { start ≤ 1025 }
     ensures { Gives result (inside_declaration_next room start reader.old) reader.new }
 {
     if room == 0 {
-        return Err(ShapeFault::Bad);
+        return Err(FormFault::Bad);
     }
     declaration(alloc, reader, room - 1, start)
 }
@@ -159,11 +217,11 @@ fn member(
     reader: &mut FieldReader,
     room: u32,
     start: usize,
-) -> Result<Member, ShapeFault>
+) -> Result<Member, FormFault>
     requires { start ≤ 1025 }
     ensures { Gives result (member_in room (inside_declaration_next room start) reader.old) reader.new }
 {
-    match byte(reader)? {
+    match read_byte(reader)? {
         0 => {
             let part = field(alloc, reader, room)?;
             Ok(Member::Field(part))
@@ -184,22 +242,22 @@ fn member(
             let part = nested(alloc, reader, room, start)?;
             Ok(Member::Nested(part))
         }
-        _ => Err(ShapeFault::Bad),
+        _ => Err(FormFault::Bad),
     }
 }
 
 #[cycle(unit_reading)]
-#[tactic(auto, unfolding(crate::specs::Forms::list_next))]
+#[tactic(auto, unfolding(apt_base::specs::Forms::list_next))]
 fn members(
     alloc: Global,
     reader: &mut FieldReader,
     room: u32,
     start: usize,
-) -> Result<List<Member>, ShapeFault>
+) -> Result<List<Member>, FormFault>
     requires { start ≤ 1025 }
     ensures { Gives result (list_next (member_in room (inside_declaration_next room start)) reader.old) reader.new }
 {
-    let count = count(reader)?;
+    let count = read_count(reader)?;
     let mut items = List::new(alloc);
     for _ in 0..count {
         let item = member(alloc, reader, room, start)?;
@@ -208,49 +266,22 @@ fn members(
     Ok(items)
 }
 
-#[tactic(auto, unfolding(crate::specs::Reading::import_next))]
-fn import(alloc: Global, reader: &mut FieldReader) -> Result<Import, ShapeFault>
-    ensures { Gives result (import_next reader.old) reader.new }
-{
-    let kind = import_kind(reader)?;
-    let name = text(alloc, reader)?;
-    Ok(Import { kind, name })
-}
-
-#[tactic(auto, unfolding(crate::specs::Forms::list_next))]
-fn imports(alloc: Global, reader: &mut FieldReader) -> Result<List<Import>, ShapeFault>
-    ensures { Gives result (list_next import_next reader.old) reader.new }
-{
-    let count = count(reader)?;
-    let mut items = List::new(alloc);
-    for _ in 0..count {
-        let item = import(alloc, reader)?;
-        items.push(item)?;
-    }
-    Ok(items)
-}
-
 #[tactic(auto, unfolding(crate::specs::Reading::body_next))]
-fn body(
-    alloc: Global,
-    reader: &mut FieldReader,
-    room: u32,
-    start: usize,
-) -> Result<Body, ShapeFault>
+fn body(alloc: Global, reader: &mut FieldReader, room: u32, start: usize) -> Result<Body, FormFault>
     requires { start ≤ 1025 }
     ensures { Gives result (body_next room start reader.old) reader.new }
 {
-    match byte(reader)? {
+    match read_byte(reader)? {
         0 => {
             let part = declaration(alloc, reader, room, start)?;
             Ok(Body::Declared(part))
         }
         1 => {
-            let all = annotations(alloc, reader, room)?;
-            let doc = opt_text(alloc, reader)?;
+            let all = list_of(alloc, reader, room)?;
+            let doc = read_optional_text(alloc, reader)?;
             Ok(Body::Info(all, doc))
         }
-        _ => Err(ShapeFault::Bad),
+        _ => Err(FormFault::Bad),
     }
 }
 
@@ -265,15 +296,15 @@ fn package_start(name: &str) -> usize
 
 /// A unit.
 #[tactic(auto, unfolding(crate::specs::Reading::unit_next, crate::specs::Reading::front_of_unit_next))]
-pub(crate) fn unit(alloc: Global, reader: &mut FieldReader) -> Result<Unit, ShapeFault>
+fn unit(alloc: Global, reader: &mut FieldReader) -> Result<UnitText, FormFault>
     ensures { Gives result (unit_next reader.old) reader.new }
 {
     let package = canonical(alloc, reader, 0)?;
-    let imports = imports(alloc, reader)?;
-    let siblings = texts(alloc, reader)?;
+    let imports = list_of(alloc, reader, 0)?;
+    let siblings = read_texts(alloc, reader)?;
     let start = package_start(package.as_str());
     let body = body(alloc, reader, 200, start)?;
-    Ok(Unit {
+    Ok(UnitText {
         package,
         imports,
         siblings,
@@ -283,21 +314,29 @@ pub(crate) fn unit(alloc: Global, reader: &mut FieldReader) -> Result<Unit, Shap
 
 // A unit that is all that the bytes hold.
 #[tactic(auto, unfolding(crate::specs::Reading::whole_unit))]
-fn whole(alloc: Global, bytes: &[u8]) -> Result<Unit, ShapeFault>
+fn whole(alloc: Global, bytes: &[u8]) -> Result<UnitText, FormFault>
     ensures { GivesAll result (whole_unit bytes.now) }
 {
     let mut reader = FieldReader::new(bytes);
-    let unit = unit(alloc, &mut reader)?;
-    if reader.left() > 0 {
-        return Err(ShapeFault::Bad);
+    match unit(alloc, &mut reader) {
+        Ok(unit) => {
+            if reader.left() > 0 {
+                Err(FormFault::Bad)
+            } else {
+                Ok(unit)
+            }
+        }
+        Err(fault) => Err(fault),
     }
-    Ok(unit)
 }
 
-/// The unit of which the bytes are the shape. It is `Bad` exactly where they are the shape of no legal unit, and `Memory` where memory ran out.
-pub fn parse_shape(alloc: Global, bytes: &[u8]) -> Result<Unit, ShapeFault>
-    ensures found { IfOk result (λ unit. IsShapeOf unit bytes.now) }
+/// The unit of which the bytes are the shape. It is `Bad` exactly where they are the shape of no unit, and `Memory` where memory ran out.
+pub fn parse_shape(alloc: Global, bytes: &[u8]) -> Result<Unit, FormFault>
+    ensures found { IfOk result (λ unit. bytes.now ≡ unit_form unit) }
     ensures bad { result ≡ Err Bad → IsNoShape bytes.now }
 {
-    whole(alloc, bytes)
+    match whole(alloc, bytes) {
+        Ok(text) => Ok(Unit::new(text)),
+        Err(fault) => Err(fault),
+    }
 }

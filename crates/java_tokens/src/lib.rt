@@ -12,8 +12,6 @@
 #![tactic(auto)]
 
 mod automaton;
-#[cfg(test)]
-mod cases;
 mod chars;
 mod escapes;
 mod fault;

@@ -4,7 +4,7 @@ ghost use Rattle.java_tokens.specs.CharsShown.{Ascend};
 ghost use Rattle.java_tokens.specs.CharsShown as spec;
 
 /// How far offsets in a file are beyond places in its text, from one place on.
-#[derive(Clone, Copy, Debug, PartialEq, Eq)]
+#[derive(Clone, Copy)]
 pub struct Shift {
     /// The place in the text from which it counts, in bytes of UTF-8 from 0.
     pub place: u32,

@@ -1,7 +1,7 @@
 // What tokens are.
 
 /// What a token is. Reserved words and operators have their numbers in the tables.
-#[derive(Clone, Copy, Debug, PartialEq, Eq)]
+#[derive(Clone, Copy, PartialEq, Eq)]
 pub enum TokenKind {
     /// An identifier.
     Identifier,
@@ -26,7 +26,7 @@ pub enum TokenKind {
 }
 
 /// A token, and where it stands.
-#[derive(Clone, Copy, Debug)]
+#[derive(Clone, Copy)]
 pub struct Token<'a> {
     /// What it is.
     pub kind: TokenKind,

@@ -144,22 +144,3 @@ pub fn operator_table<'a>(rows: &'a [(&'static str, u8)]) -> Cases<'a>
         None => unreachable!(),
     }
 }
-
-#[cfg(test)]
-mod tests {
-    use super::*;
-
-    #[test]
-    fn words_and_operators_have_their_numbers(rt: HostRuntime) {
-        let rows = reserved_words!();
-        let words = reserved_table(&rows);
-        assert_eq!(rt; words.find(b"int"), Some(26));
-        assert_eq!(rt; words.find(b"_"), Some(50));
-        assert_eq!(rt; words.find(b"true"), None);
-        let rows = operators!();
-        let operators = operator_table(&rows);
-        assert_eq!(rt; operators.find(b">>>="), Some(49));
-        assert_eq!(rt; operators.find(b"("), Some(0));
-        assert_eq!(rt; operators.find(b"=>"), None);
-    }
-}

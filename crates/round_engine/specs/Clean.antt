@@ -1,7 +1,7 @@
 -- The clean run over a project, from nothing.
 use Rattle.std.specs.Prelude.{◌≡◌, ◌⊎◌, ℕ, ◌==◌, ◌+◌, ◌≤◌, ◌<◌, ◌^◌, ◌||◌, Bool, true, false, List, [], ◌∷◌, length, take, map, filter, All, Result, Ok, Err}
 use Rattle.std.specs.FinMap as fin
-use Rattle.decl_syntax.specs.Fields.{is_text}
+use Rattle.apt_base.specs.Fields.{is_text}
 use Rattle.apt_outside.specs.Count.{Rose}
 use Rattle.apt_outside.specs.Files.{Files}
 use Rattle.apt_outside.specs.Child.{Says, Try, Known}

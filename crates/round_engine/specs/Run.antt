@@ -6,8 +6,8 @@ use Rattle.std.specs.FinMap as fin
 use Rattle.apt_outside.specs.Files.{Files}
 use Rattle.apt_outside.specs.Child.{Says, Try}
 use Rattle.source_form.specs.Form.{is_chain}
-use Rattle.decl_syntax.specs.declared.kinds.Claim.{Claim}
-use Rattle.decl_syntax.specs.declared.kinds.Claim.TheVariants.{Always}
+use Rattle.apt_base.specs.declared.kinds.Claim.{Claim}
+use Rattle.apt_base.specs.declared.kinds.Claim.TheVariants.{Always}
 use Rattle.wire_frames.specs.declared.frame.Frame.{Frame}
 use Rattle.wire_frames.specs.declared.frame.Frame.TheVariants as frame
 use Rattle.wire_frames.specs.declared.frame.Creation.{Creation}

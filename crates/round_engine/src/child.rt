@@ -10,10 +10,10 @@ ghost use Rattle.round_engine.specs.Shown.{Came, Runs, TriedOnce, StartedOnce};
 use crate::fault::RunFault;
 use crate::frames::{init_frame, pattern_of};
 use crate::rounds::{Rounds, show_rounds};
+use apt_base::Name;
 use apt_filer::Filer;
 use apt_outside::Children;
 use child_session::exchange;
-use decl_syntax::Name;
 use std::alloc::Global;
 use std::collections::BTreeMap;
 

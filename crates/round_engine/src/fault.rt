@@ -5,13 +5,13 @@ ghost use Rattle.apt_outside.specs.declared.fault.Fault.TheVariants as outside;
 ghost use Rattle.round_engine.specs.declared.fault.RunFault.TheVariants.{Memory};
 ghost use Rattle.round_engine.specs.Faults.{of_session, of_outside};
 
+use apt_base::{Name, NoMemory};
 use apt_outside::Fault;
 use child_session::SessionFault;
-use decl_syntax::{Name, NoMemory};
 use std::alloc::{AllocError, AllocFailed};
 
 /// Why the run of a processor was refused.
-#[derive(Debug, Drop)]
+#[derive(Drop)]
 pub enum RunFault {
     /// A call of the children failed, and their count of faults rose.
     Failed,

@@ -6,12 +6,13 @@ ghost use Rattle.wire_frames.specs.declared.frame.Frame.TheVariants as frames;
 ghost use Rattle.round_engine.specs.Run.{init_frame, one_pattern, pattern_of};
 
 use crate::rounds::Round;
-use decl_syntax::{Claim, List, Name, NoMemory};
+use apt_base::{Claim, List, Name, NoMemory};
 use source_form::is_chain;
 use std::alloc::Global;
 use wire_frames::{Frame, Hello, Init, encode};
 
-const LEVEL: u16 = 11;
+/// The source level of a build.
+pub const LEVEL: u16 = 11;
 
 // A frame's bytes. A frame past the limit of a frame is answered as want of memory.
 fn bytes_of(alloc: Global, frame: &Frame) -> Result<List<u8>, NoMemory>

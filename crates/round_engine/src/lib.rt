@@ -17,8 +17,9 @@ mod running;
 mod sources;
 mod units;
 
+pub use frames::LEVEL;
 pub use messages::Placed;
-pub use numbering::Made;
+pub use numbering::{Made, number_files};
 pub use project::{Key, KeyProcessor, Project};
 pub use refusal::Refusal;
 pub use running::{Finished, clean};

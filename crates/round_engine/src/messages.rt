@@ -3,11 +3,11 @@ ghost use Rattle.std.specs.Prelude.{◌≡◌, ◌++◌, OnOk};
 ghost use Rattle.round_engine.specs.Run.{place, has_error};
 ghost use Rattle.round_engine.specs.Clean.{is_error, is_warning, count_of};
 
-use decl_syntax::{List, NoMemory};
+use apt_base::{List, NoMemory};
 use wire_frames::Message;
 
 /// A message with its place in the order of a run's messages.
-#[derive(Debug, Drop)]
+#[derive(Drop)]
 pub struct Placed {
     /// The round in which it was printed, from 1.
     pub round: u32,

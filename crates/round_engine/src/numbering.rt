@@ -4,15 +4,15 @@ ghost use Rattle.std.specs.Bool.{OnTrue};
 ghost use Rattle.std.specs.FinMap as fin;
 ghost use Rattle.std.specs.List.Sorted.{IsStrictlyIncreasing};
 ghost use Rattle.apt_outside.specs.Held.{files_of};
-ghost use Rattle.decl_syntax.specs.Fields.{is_text};
+ghost use Rattle.apt_base.specs.Fields.{is_text};
 ghost use Rattle.round_engine.specs.Numbering.{AreLeast, AreAhead, IsNextFree, SameFrom};
 
-use decl_syntax::{List, Name, NoMemory};
+use apt_base::{List, Name, NoMemory};
 use std::alloc::Global;
 use std::collections::BTreeMap;
 
 /// A file that a run made: where it is published, and the number of its file in the store.
-#[derive(Debug, Drop)]
+#[derive(Drop)]
 pub struct Made {
     /// Its path in the output, as `CLASS_OUTPUT/x`.
     pub path: Name,
@@ -115,32 +115,4 @@ pub fn number_files(
         return Err(NoMemory);
     }
     Ok(files)
-}
-
-#[cfg(test)]
-mod tests {
-    use super::number_files;
-    use std::collections::BTreeMap;
-    use std::test::Fail;
-
-    #[test]
-    fn gives_the_least_free_numbers_in_order_of_paths(rt: HostRuntime) -> Result<(), Fail> {
-        let alloc = rt.alloc();
-        let mut made = BTreeMap::new(alloc);
-        made.insert(String::from_str(alloc, "c")?, b"last".to_vec(alloc)?)?;
-        made.insert(String::from_str(alloc, "a")?, b"first".to_vec(alloc)?)?;
-        made.insert(String::from_str(alloc, "b")?, b"".to_vec(alloc)?)?;
-        let files = number_files(alloc, &[0, 2, 3], made)?;
-        assert_eq!(rt; files.len(), 3);
-        for (at, (path, store, bytes)) in [("a", 1, "first"), ("b", 4, ""), ("c", 5, "last")]
-            .iter()
-            .enumerate()
-        {
-            let file = files.get(at).ok_or("absent")?;
-            assert_eq!(rt; file.path.as_str(), *path);
-            assert_eq!(rt; file.store, *store);
-            assert_eq!(rt; file.bytes.as_slice(), bytes.as_bytes());
-        }
-        Ok(())
-    }
 }

@@ -1,8 +1,8 @@
-use decl_syntax::{Kind, List, Name};
+use apt_base::{Kind, List, Name};
 use std::collections::BTreeMap;
 
 /// A processor of a project.
-#[derive(Debug, Drop)]
+#[derive(Drop)]
 pub struct KeyProcessor {
     /// Its name.
     pub name: Name,
@@ -15,7 +15,7 @@ pub struct KeyProcessor {
 }
 
 /// All on which a build depends, but for its sources.
-#[derive(Debug, Drop)]
+#[derive(Drop)]
 pub struct Key {
     /// The source level.
     pub level: u16,

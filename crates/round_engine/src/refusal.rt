@@ -4,10 +4,10 @@ ghost use Rattle.round_engine.specs.declared.refusal.Refusal.TheVariants as code
 ghost use Rattle.round_engine.specs.Clean.{RefusedAs};
 
 use crate::fault::RunFault;
-use decl_syntax::{Name, NoMemory};
+use apt_base::{Name, NoMemory};
 
 /// Why a run over a project was refused.
-#[derive(Debug, Drop)]
+#[derive(Drop)]
 pub enum Refusal {
     /// A call of the children failed, and their count of faults rose.
     ChildFault {

@@ -15,10 +15,10 @@ use crate::frames::round_bytes;
 use crate::messages::{Placed, has_error, place};
 use crate::sources::{creates_source, enter_all, sources_among, unread_among};
 use crate::units::{is_present, roots_of, roots_or};
+use apt_base::{List, Name, NoMemory};
 use apt_filer::Filer;
 use apt_outside::Children;
 use child_session::{SessionFault, show_round};
-use decl_syntax::{List, Name, NoMemory};
 use std::alloc::Global;
 use std::collections::BTreeMap;
 use wire_frames::{Creation, Message};
@@ -38,7 +38,7 @@ pub struct Round {
 }
 
 /// What the rounds of a run came to, beside the files that were made.
-#[derive(Debug, Drop)]
+#[derive(Drop)]
 pub struct Rounds {
     /// How many there were, the last included.
     pub count: u32,

@@ -13,14 +13,14 @@ use crate::refusal::{Refusal, refusal_of};
 use crate::rounds::Rounds;
 use crate::sources::files_among;
 use crate::units::roots_of;
+use apt_base::{List, Name, NoMemory};
 use apt_filer::Filer;
 use apt_outside::Children;
-use decl_syntax::{List, Name, NoMemory};
 use std::alloc::Global;
 use wire_frames::Creation;
 
 /// What a run came to that was not refused.
-#[derive(Debug, Drop)]
+#[derive(Drop)]
 pub struct Finished {
     /// How many errors were printed. Where there is one, nothing is published.
     pub errors: u64,

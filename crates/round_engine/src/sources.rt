@@ -10,8 +10,8 @@ ghost use Rattle.apt_filer.specs.Filing.{content_of};
 
 use crate::fault::RunFault;
 use crate::units::roots_of;
+use apt_base::{List, Name, NoMemory};
 use apt_filer::path_of;
-use decl_syntax::{List, Name, NoMemory};
 use source_form::{SourceForm, read_form};
 use std::alloc::Global;
 use std::collections::BTreeMap;

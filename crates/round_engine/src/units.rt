@@ -5,7 +5,7 @@ ghost use Rattle.apt_outside.specs.Held.{files_of};
 ghost use Rattle.round_engine.specs.Units.{is_present};
 ghost use Rattle.round_engine.specs.Entering.{shown_roots};
 
-use decl_syntax::{List, Name, NoMemory};
+use apt_base::{List, Name, NoMemory};
 use std::alloc::Global;
 use std::collections::BTreeMap;
 

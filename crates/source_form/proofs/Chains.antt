@@ -9,7 +9,8 @@ use Rattle.std.proofs.lemmas.List.Sums.{AllPass-from_list_all}
 use Rattle.std.proofs.lemmas.Str.{IsUtf8-from_ascii}
 use Rattle.std.proofs.lemmas.Str.Ascii.{IsAscii-from_all}
 use Rattle.source_form.specs.declared.form.SourceForm.{SourceForm}
-use Rattle.source_form.specs.Form.{is_letter, is_letter_or_digit, is_reserved, is_identifier, is_chain, is_word_byte, is_end, are_of_form}
+use Rattle.apt_base.specs.Identifiers.{is_reserved}
+use Rattle.source_form.specs.Form.{is_letter, is_letter_or_digit, is_identifier, is_chain, is_word_byte, is_end, are_of_form}
 
 pub both_from : (a b : Bool) → (a && b) ≡ true → (a ≡ true) × (b ≡ true)
 both_from true b e = (refl, e)

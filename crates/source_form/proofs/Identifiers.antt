@@ -2,7 +2,8 @@
 use Rattle.std.proofs.Common.{◌≡◌, ℕ, ◌-◌, ◌<◌, ◌≤◌, false, not, ◌&&◌, List, [], ◌∷◌, length, get_or, take, drop, refl, arith}
 use Rattle.std.specs.List.{list_all}
 use Rattle.std.proofs.lemmas.List.{take_all}
-use Rattle.source_form.specs.Form.{is_letter, is_letter_or_digit, is_reserved, is_identifier}
+use Rattle.apt_base.specs.Identifiers.{is_reserved}
+use Rattle.source_form.specs.Form.{is_letter, is_letter_or_digit, is_identifier}
 
 -- the bytes after the first, as a pattern on a slice binds them
 abbrev pub others_of : List ℕ → List ℕ

@@ -1,30 +1,13 @@
 -- The one form of a source file that is read so far: a package, and one class with one annotation.
 use Rattle.std.specs.Prelude.{◌≡◌, ℕ, ◌≤◌, Bool, false, not, ◌&&◌, ◌||◌, ◌==◌, IsTrue, nat_eq, nat_lt, if◌then◌else◌, List, [], ◌∷◌, ◌++◌, length, take, drop, Option, Some, None, codes, ◌⊎◌}
 use Rattle.std.specs.Char.{is_ascii_alphabetic, is_ascii_alphanumeric}
-use Rattle.std.specs.List.{list_any, list_all, slice_split, starts_with, prefix_len}
+use Rattle.std.specs.List.{list_all, slice_split, starts_with, prefix_len}
 use Rattle.std.specs.Str.{bytes_eq}
-use Rattle.decl_syntax.specs.Fields.{◌>>=◌}
+use Rattle.apt_base.specs.Fields.{◌>>=◌}
+use Rattle.apt_base.specs.Identifiers.{is_reserved}
 use Rattle.source_form.specs.declared.form.SourceForm.{SourceForm}
 
 -- ---- identifiers and chains of them
-
--- the reserved keywords that consist of letters (JLS 3.9), then the literals that are words (JLS 3.10)
-abbrev pub reserved_words : List (List ℕ)
-reserved_words =
-    codes "abstract" ∷ codes "assert" ∷ codes "boolean" ∷ codes "break" ∷ codes "byte" ∷
-    codes "case" ∷ codes "catch" ∷ codes "char" ∷ codes "class" ∷ codes "const" ∷
-    codes "continue" ∷ codes "default" ∷ codes "do" ∷ codes "double" ∷ codes "else" ∷
-    codes "enum" ∷ codes "extends" ∷ codes "final" ∷ codes "finally" ∷ codes "float" ∷
-    codes "for" ∷ codes "goto" ∷ codes "if" ∷ codes "implements" ∷ codes "import" ∷
-    codes "instanceof" ∷ codes "int" ∷ codes "interface" ∷ codes "long" ∷ codes "native" ∷
-    codes "new" ∷ codes "package" ∷ codes "private" ∷ codes "protected" ∷ codes "public" ∷
-    codes "return" ∷ codes "short" ∷ codes "static" ∷ codes "strictfp" ∷ codes "super" ∷
-    codes "switch" ∷ codes "synchronized" ∷ codes "this" ∷ codes "throw" ∷ codes "throws" ∷
-    codes "transient" ∷ codes "try" ∷ codes "void" ∷ codes "volatile" ∷ codes "while" ∷
-    codes "true" ∷ codes "false" ∷ codes "null" ∷ []
-
-unfoldable pub is_reserved : List ℕ → Bool
-is_reserved text = list_any (bytes_eq text) reserved_words
 
 abbrev pub is_letter : ℕ → Bool
 is_letter b = is_ascii_alphabetic b

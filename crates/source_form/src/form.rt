@@ -5,14 +5,14 @@ ghost use Rattle.source_form.specs.Form.{is_word_byte, word_at, word_after, word
 ghost use Rattle.source_form.specs.Reading.{shown};
 
 use crate::words::{is_chain, is_identifier};
-use decl_syntax::{Name, NoMemory};
+use apt_base::{Name, NoMemory};
 use std::alloc::Global;
 
 /// How many bytes a source file has at most.
 pub const MAX_SOURCE: usize = 4096;
 
 /// A source file of the form: a package with one class, which has one annotation.
-#[derive(Debug, Drop)]
+#[derive(Drop)]
 pub struct SourceForm {
     /// The name of the package.
     pub package: Name,

@@ -9,6 +9,3 @@ mod words;
 
 pub use form::{MAX_SOURCE, SourceForm, read_form};
 pub use words::is_chain;
-
-#[cfg(test)]
-mod tests;

@@ -1,69 +1,9 @@
+// Identifiers of ASCII letters and digits, and chains of them.
 ghost use Rattle.std.specs.Prelude.{◌≡◌};
 ghost use Rattle.std.specs.List.{list_all};
-ghost use Rattle.source_form.specs.Form.{is_letter_or_digit, is_reserved, is_identifier, is_chain};
+ghost use Rattle.source_form.specs.Form.{is_letter_or_digit, is_identifier, is_chain};
 
-// The reserved keywords that consist of letters (JLS 3.9), then the literals that are words (JLS 3.10).
-const RESERVED_WORDS: [&[u8]; 53] = [
-    b"abstract",
-    b"assert",
-    b"boolean",
-    b"break",
-    b"byte",
-    b"case",
-    b"catch",
-    b"char",
-    b"class",
-    b"const",
-    b"continue",
-    b"default",
-    b"do",
-    b"double",
-    b"else",
-    b"enum",
-    b"extends",
-    b"final",
-    b"finally",
-    b"float",
-    b"for",
-    b"goto",
-    b"if",
-    b"implements",
-    b"import",
-    b"instanceof",
-    b"int",
-    b"interface",
-    b"long",
-    b"native",
-    b"new",
-    b"package",
-    b"private",
-    b"protected",
-    b"public",
-    b"return",
-    b"short",
-    b"static",
-    b"strictfp",
-    b"super",
-    b"switch",
-    b"synchronized",
-    b"this",
-    b"throw",
-    b"throws",
-    b"transient",
-    b"try",
-    b"void",
-    b"volatile",
-    b"while",
-    b"true",
-    b"false",
-    b"null",
-];
-
-fn is_reserved(text: &[u8]) -> bool
-    ensures { result ≡ is_reserved text.now }
-{
-    RESERVED_WORDS.iter().any(|word| text == *word)
-}
+use apt_base::is_reserved;
 
 fn has_letters_and_digits_only(text: &[u8]) -> bool
     ensures { result ≡ list_all is_letter_or_digit text.now }

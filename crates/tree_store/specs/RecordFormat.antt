@@ -6,7 +6,7 @@ use Rattle.std.specs.Int.{w16, w32, to_be_bytes}
 use Rattle.std.specs.Ordering.{nat_cmp}
 use Rattle.std.specs.Cmp.Lexicographic.{slice_cmp}
 use Rattle.std.specs.FinMap as fin
-use Rattle.decl_syntax.specs.Fields.{◌>>=◌, text_form, front_next, u32_next, text_next, is_text}
+use Rattle.apt_base.specs.Fields.{◌>>=◌, text_form, front_next, u32_next, text_next, is_text}
 use Rattle.tree_store.specs.declared.record.StoredFile.{StoredFile}
 
 -- ---- spelling

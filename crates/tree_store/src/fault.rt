@@ -3,8 +3,8 @@ ghost use Rattle.std.specs.Prelude.{◌≡◌};
 ghost use Rattle.tree_store.specs.declared.fault.StoreFault.TheVariants.{Memory};
 ghost use Rattle.tree_store.specs.Cause.{as_store_fault};
 
+use apt_base::NoMemory;
 use apt_outside::Fault;
-use decl_syntax::NoMemory;
 use std::alloc::{AllocError, AllocFailed};
 
 /// Why a call of the store was refused.

@@ -10,6 +10,3 @@ pub use fault::StoreFault;
 pub use record::{StoredFile, encode_record};
 pub use sources::{RawSource, read_sources};
 pub use store::{commit, put_files, taken_numbers};
-
-#[cfg(test)]
-mod tests;

@@ -3,7 +3,7 @@ ghost use Rattle.std.specs.Prelude.{◌≡◌, ◌++◌, ◌<◌, ◌^◌, lengt
 ghost use Rattle.std.specs.Int.{w32, to_be_bytes};
 ghost use Rattle.tree_store.specs.RecordFormat.{Fits, IsEntry, ascends, record_head, entry_form, record_form, read_record};
 
-use decl_syntax::{FieldWriter, List, Name, NoMemory};
+use apt_base::{FieldWriter, List, Name, NoMemory};
 use std::alloc::Global;
 
 /// `APTR`, with which a record begins.
@@ -13,7 +13,7 @@ const MAGIC: u32 = 0x4150_5452;
 const FORMAT: u16 = 0;
 
 /// A file of the published output.
-#[derive(Debug, Drop)]
+#[derive(Drop)]
 pub struct StoredFile {
     /// Its path in the output, as `CLASS_OUTPUT/x`.
     pub path: Name,

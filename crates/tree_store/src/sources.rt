@@ -5,12 +5,12 @@ ghost use Rattle.tree_store.specs.Cause.{HasStoreCause};
 ghost use Rattle.tree_store.specs.Sources.{source_at, sources_of};
 
 use crate::StoreFault;
+use apt_base::{List, Name};
 use apt_outside::Tree;
-use decl_syntax::{List, Name};
 use std::alloc::Global;
 
 /// A source file as it stands in the tree, its bytes cut off past a limit.
-#[derive(Debug, Drop)]
+#[derive(Drop)]
 pub struct RawSource {
     /// Its path in the tree.
     pub path: Name,

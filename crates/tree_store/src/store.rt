@@ -11,8 +11,8 @@ ghost use Rattle.tree_store.specs.Storing.{AreTaken, AreDistinct, AreAbsent, Are
 ghost use Rattle.tree_store.specs.declared.record.StoredFile.{StoredFile};
 
 use crate::StoreFault;
+use apt_base::List;
 use apt_outside::Tree;
-use decl_syntax::List;
 use std::alloc::Global;
 
 // Without a sign and without a zero before other digits.

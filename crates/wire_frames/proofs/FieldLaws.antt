@@ -4,12 +4,12 @@ use Rattle.std.specs.List.{flat_map, AllByRecursion}
 use Rattle.std.specs.Int.{w32, to_be_bytes}
 use Rattle.std.proofs.lemmas.Bool.{eqb-true, ltb-true, lt-ltb}
 use Rattle.std.proofs.lemmas.List.{length-append}
-use Rattle.decl_syntax.specs.Fields.{◌>>=◌, bool_form, bytes_form, text_form, is_text, u8_next, u32_next, bool_next, bytes_next, text_next}
-use Rattle.decl_syntax.specs.Forms.{count_form, opt_form}
-use Rattle.decl_syntax.proofs.Fields.{IsBytes, IsBytes-rest, bind_some, some_is, u8_next-again, u8_next-spelled, u32_next-again, u32_next-spelled, bool_next-again, bool_next-spelled, bytes_next-again, bytes_next-spelled, text_next-again, text_next-spelled}
-use Rattle.decl_syntax.specs.declared.kinds.Claim.{Claim}
-use Rattle.decl_syntax.specs.declared.kinds.Claim.TheVariants.{Always, Never, Varies}
-use Rattle.decl_syntax.specs.declared.element.ElementRef.{ElementRef}
+use Rattle.apt_base.specs.Fields.{◌>>=◌, bool_form, bytes_form, text_form, is_text, u8_next, u32_next, bool_next, bytes_next, text_next}
+use Rattle.apt_base.specs.Forms.{count_form, opt_form}
+use Rattle.apt_base.proofs.Fields.{IsBytes, IsBytes-rest, bind_some, some_is, u8_next-again, u8_next-spelled, u32_next-again, u32_next-spelled, bool_next-again, bool_next-spelled, bytes_next-again, bytes_next-spelled, text_next-again, text_next-spelled}
+use Rattle.apt_base.specs.declared.kinds.Claim.{Claim}
+use Rattle.apt_base.specs.declared.kinds.Claim.TheVariants.{Always, Never, Varies}
+use Rattle.apt_base.specs.declared.element.ElementRef.{ElementRef}
 use Rattle.wire_frames.specs.declared.frame.Creation.{Creation}
 use Rattle.wire_frames.specs.declared.frame.Creation.TheVariants.{Resource}
 use Rattle.wire_frames.specs.declared.frame.Hello.{Hello}

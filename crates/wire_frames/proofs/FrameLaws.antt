@@ -5,9 +5,9 @@ use Rattle.std.specs.Int.{w32, to_be_bytes, from_be_bytes}
 use Rattle.std.proofs.lemmas.Bool.{false≢true, eqb-true, eq-eqb, ne_eqb, ltb-false, le-ltb, lt-ltb}
 use Rattle.std.proofs.lemmas.List.{append-nil, nil_from_length, take_at, drop_at, take-append-drop, length-take}
 use Rattle.std.proofs.lemmas.Nat.{be_bytes_4, from_be_bytes-to_be_bytes_4}
-use Rattle.decl_syntax.specs.Fields.{◌>>=◌, bool_form, front_next, u8_next}
-use Rattle.decl_syntax.specs.declared.memory.NoMemory.{NoMemory}
-use Rattle.decl_syntax.proofs.Fields.{IsBytes, IsBytes-front, IsBytes-rest, bind_some, some_is, front_next-again, front_next-takes, u8_next-again, u8_next-spelled}
+use Rattle.apt_base.specs.Fields.{◌>>=◌, bool_form, front_next, u8_next}
+use Rattle.apt_base.specs.declared.memory.NoMemory.{NoMemory}
+use Rattle.apt_base.proofs.Fields.{IsBytes, IsBytes-front, IsBytes-rest, bind_some, some_is, front_next-again, front_next-takes, u8_next-again, u8_next-spelled}
 use Rattle.wire_frames.specs.declared.frame.Creation.TheVariants.{Source, Resource, Class}
 use Rattle.wire_frames.specs.declared.frame.Reply.TheVariants as replies
 use Rattle.wire_frames.specs.declared.frame.Frame.{Frame}

@@ -4,9 +4,9 @@ use Rattle.std.specs.List.{flat_map, AllByRecursion}
 use Rattle.std.specs.Int.{w16, w32, to_be_bytes}
 use Rattle.std.proofs.lemmas.List.{length-append}
 use Rattle.std.proofs.lemmas.List.Folds.{length-flat_map-take}
-use Rattle.decl_syntax.specs.Fields.{text_form, bool_form}
-use Rattle.decl_syntax.specs.Forms.{u16_form, count_form, list_form}
-use Rattle.decl_syntax.specs.declared.element.ElementRef.{ElementRef}
+use Rattle.apt_base.specs.Fields.{text_form, bool_form}
+use Rattle.apt_base.specs.Forms.{u16_form, count_form, list_form}
+use Rattle.apt_base.specs.declared.element.ElementRef.{ElementRef}
 use Rattle.wire_frames.specs.declared.frame.Init.{Init}
 use Rattle.wire_frames.specs.declared.frame.Created.{Created}
 use Rattle.wire_frames.specs.declared.frame.Reply.TheVariants as replies

@@ -14,7 +14,7 @@ use Rattle.std.proofs.lemmas.Cmp.{on_total, nat_list_cmp_total}
 use Rattle.std.proofs.lemmas.Map.Made.{distinct_count-le}
 use Rattle.std.proofs.lemmas.Map.Text.{is_eq-slice_cmp}
 use Rattle.std.proofs.lemmas.Map.Views.{btree_set_len-from_list}
-use Rattle.decl_syntax.specs.Fields.{◌>>=◌, text_next}
+use Rattle.apt_base.specs.Fields.{◌>>=◌, text_next}
 use Rattle.wire_frames.specs.Frames.{texts_next, are_distinct}
 
 -- what was read before, and what is still read

@@ -6,11 +6,11 @@ use Rattle.std.specs.Prelude.{◌≡◌, ℕ, zero, suc, ◌<◌, ◌≤◌, Boo
 use Rattle.std.specs.List.{flat_map, list_any, AllByRecursion}
 use Rattle.std.specs.Int.{w16, w32, to_be_bytes, from_be_bytes}
 use Rattle.std.specs.Str.{bytes_eq}
-use Rattle.decl_syntax.specs.Fields.{◌>>=◌, bool_form, bytes_form, text_form, is_text, front_next, u8_next, u32_next, bool_next, bytes_next, text_next}
-use Rattle.decl_syntax.specs.Forms.{u16_form, list_form, opt_form}
-use Rattle.decl_syntax.specs.declared.element.ElementRef.{ElementRef}
-use Rattle.decl_syntax.specs.declared.kinds.Claim.{Claim}
-use Rattle.decl_syntax.specs.declared.kinds.Claim.TheVariants.{Always, Never, Varies}
+use Rattle.apt_base.specs.Fields.{◌>>=◌, bool_form, bytes_form, text_form, is_text, front_next, u8_next, u32_next, bool_next, bytes_next, text_next}
+use Rattle.apt_base.specs.Forms.{u16_form, list_form, opt_form}
+use Rattle.apt_base.specs.declared.element.ElementRef.{ElementRef}
+use Rattle.apt_base.specs.declared.kinds.Claim.{Claim}
+use Rattle.apt_base.specs.declared.kinds.Claim.TheVariants.{Always, Never, Varies}
 use Rattle.wire_frames.specs.declared.frame.Created.{Created}
 use Rattle.wire_frames.specs.declared.frame.Created.TheVariants.{Accepted, Exists, Unsupported, BadName, TooLarge}
 use Rattle.wire_frames.specs.declared.frame.Creation.{Creation}
@@ -21,6 +21,10 @@ use Rattle.wire_frames.specs.declared.frame.Init.{Init}
 use Rattle.wire_frames.specs.declared.frame.Message.{Message}
 use Rattle.wire_frames.specs.declared.frame.Frame.{Frame}
 use Rattle.wire_frames.specs.declared.frame.Frame.TheVariants as frames
+
+-- the most bytes of a tag with its fields: the frame limit of 134,217,728 bytes less the four of the length
+abbrev pub most_fields : ℕ
+most_fields = 134217724
 
 -- ---- spellings
 
@@ -135,7 +139,7 @@ IsFromChild (frames.Message message) = IsPrintedByChild message
 
 -- a child's frame that is no longer than a frame may be
 abbrev pub MaySend : Frame → Type 0
-MaySend frame = IsFromChild frame × (length (fields_of frame) ≤ 134217724)
+MaySend frame = IsFromChild frame × (length (fields_of frame) ≤ most_fields)
 
 -- ---- reading: what stands next, and the bytes after it
 
@@ -231,7 +235,7 @@ child_frame bytes = do
 
 -- the length that four bytes spell, where a frame may have it
 unfoldable pub length_of : List ℕ → Option ℕ
-length_of head = if length head == 4 && not (from_be_bytes w32 head == 0) && not (nat_lt 134217724 (from_be_bytes w32 head)) then Some (from_be_bytes w32 head) else None
+length_of head = if length head == 4 && not (from_be_bytes w32 head == 0) && not (nat_lt most_fields (from_be_bytes w32 head)) then Some (from_be_bytes w32 head) else None
 
 -- the length at the front, and the bytes after it
 abbrev pub length_at : List ℕ → Option (ℕ × List ℕ)

@@ -1,7 +1,7 @@
-use decl_syntax::{Claim, ElementRef, List, Name};
+use apt_base::{Claim, ElementRef, List, Name};
 
 /// What the host says of itself to a child, first.
-#[derive(Debug, Drop)]
+#[derive(Drop)]
 pub struct Init {
     /// The processor's name.
     pub name: Name,
@@ -12,7 +12,7 @@ pub struct Init {
 }
 
 /// What a child says of its processor, first.
-#[derive(Debug, Drop)]
+#[derive(Drop)]
 pub struct Hello {
     /// The annotation names that it supports, as patterns.
     pub patterns: List<Name>,
@@ -38,7 +38,7 @@ pub enum Created {
 }
 
 /// The host's answer to a child's frame in a round.
-#[derive(Debug, Drop)]
+#[derive(Drop)]
 pub enum Reply {
     /// To a creation.
     Created(Created),
@@ -47,7 +47,7 @@ pub enum Reply {
 }
 
 /// A file that a child creates (JSR 269, `Filer`).
-#[derive(Debug, Drop)]
+#[derive(Drop)]
 pub enum Creation {
     /// A source file.
     Source {
@@ -83,7 +83,7 @@ pub enum Creation {
 }
 
 /// What a child prints (JSR 269, `Messager`).
-#[derive(Debug, Drop)]
+#[derive(Drop)]
 pub struct Message {
     /// 0 for an error, 1 for a warning, 2 for a mandatory warning, 3 for a note, 4 for any other kind.
     pub kind: u8,
@@ -94,7 +94,7 @@ pub struct Message {
 }
 
 /// What the host and a child send each other, one at a time.
-#[derive(Debug, Drop)]
+#[derive(Drop)]
 pub enum Frame {
     /// The host's first.
     Init(Init),

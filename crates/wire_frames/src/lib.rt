@@ -18,6 +18,3 @@ mod writing;
 pub use frame::{Created, Creation, Frame, Hello, Init, Message, Reply};
 pub use reading::{frame_length, read_child_frame};
 pub use writing::{FrameFault, MAX_FRAME, encode};
-
-#[cfg(test)]
-mod tests;

@@ -1,45 +1,26 @@
 ghost use Rattle.std.specs.Prelude.{◌≡◌, ℕ, true, map, length, IfOk, IfSome, Some};
 ghost use Rattle.wire_frames.specs.Frames.{are_distinct, texts_next, distinct_next, claim_of, hello_next, done_next, below_next, origins_next, file_next, resource_next, element_next, message_next, creation_next, fields_next, child_frame, length_of, fields_of, IsFromChild, MaySend};
 ghost use Rattle.wire_frames.specs.declared.frame.Creation.TheVariants as creations;
-ghost use Rattle.decl_syntax.specs.Fields.{text_next, bytes_next};
-ghost use Rattle.wire_frames.specs.Reading.{Gives, GivesAll};
+ghost use Rattle.apt_base.specs.Fields.{text_next, bytes_next};
+ghost use Rattle.apt_base.specs.Readings.{Gives, GivesAll};
 
 use crate::frame::{Creation, Frame, Hello, Message};
 use crate::tags::{CLASS, DONE, HELLO, MESSAGE, RESOURCE, SOURCE};
 use crate::writing::MAX_FRAME;
-use decl_syntax::{Claim, ElementRef, FieldReader, List, Name, NoMemory};
+use apt_base::{Claim, ElementRef, FieldReader, FormFault, List, Name, NoMemory, read_text};
 use std::alloc::Global;
 use std::collections::BTreeSet;
-
-/// Why no frame was read.
-#[derive(Clone, Copy, Debug, PartialEq, Eq)]
-pub enum Flaw {
-    /// The bytes are not of the form that is read.
-    Bad,
-    /// Want of memory.
-    Memory,
-}
-
-impl From<NoMemory> for Flaw {
-    ghost use Rattle.wire_frames.specs.declared.reading.Flaw.TheVariants as flaws;
-
-    ghost from_gives = { λ _ flaw. flaw ≡ flaws.Memory };
-
-    fn from(_: NoMemory) -> Flaw {
-        Flaw::Memory
-    }
-}
 
 // ---- fields
 
 #[tactic(auto, unfolding(crate::specs::Frames::texts_next))]
-fn texts(alloc: Global, count: u32, reader: &mut FieldReader<'_>) -> Result<List<Name>, Flaw>
-    ensures { Gives (texts_next count) reader.old reader.new result }
+fn texts(alloc: Global, count: u32, reader: &mut FieldReader<'_>) -> Result<List<Name>, FormFault>
+    ensures { Gives result (texts_next count reader.old) reader.new }
 {
     let mut texts = List::new(alloc);
     for _ in 0..count {
         let Some(text) = reader.text() else {
-            return Err(Flaw::Bad);
+            return Err(FormFault::Bad);
         };
         texts.push(Name::new(alloc, text)?)?;
     }
@@ -54,15 +35,15 @@ fn are_distinct(alloc: Global, texts: &[Name]) -> Result<bool, NoMemory>
 }
 
 #[tactic(auto, unfolding(crate::specs::Frames::distinct_next))]
-fn distinct_texts(alloc: Global, reader: &mut FieldReader<'_>) -> Result<List<Name>, Flaw>
-    ensures { Gives distinct_next reader.old reader.new result }
+fn distinct_texts(alloc: Global, reader: &mut FieldReader<'_>) -> Result<List<Name>, FormFault>
+    ensures { Gives result (distinct_next reader.old) reader.new }
 {
     let Some(count) = reader.u32() else {
-        return Err(Flaw::Bad);
+        return Err(FormFault::Bad);
     };
     let texts = texts(alloc, count, reader)?;
     if !are_distinct(alloc, texts.as_slice())? {
-        return Err(Flaw::Bad);
+        return Err(FormFault::Bad);
     }
     Ok(texts)
 }
@@ -81,16 +62,16 @@ fn claim_of(number: u8) -> Option<Claim>
 // ---- frames
 
 #[tactic(auto, unfolding(crate::specs::Frames::hello_next))]
-fn hello(alloc: Global, reader: &mut FieldReader<'_>) -> Result<Frame, Flaw>
-    ensures { Gives hello_next reader.old reader.new result }
+fn hello(alloc: Global, reader: &mut FieldReader<'_>) -> Result<Frame, FormFault>
+    ensures { Gives result (hello_next reader.old) reader.new }
 {
     let patterns = distinct_texts(alloc, reader)?;
     let options = distinct_texts(alloc, reader)?;
     let Some(number) = reader.u8() else {
-        return Err(Flaw::Bad);
+        return Err(FormFault::Bad);
     };
     let Some(claim) = claim_of(number) else {
-        return Err(Flaw::Bad);
+        return Err(FormFault::Bad);
     };
     Ok(Frame::Hello(Hello {
         patterns,
@@ -100,67 +81,58 @@ fn hello(alloc: Global, reader: &mut FieldReader<'_>) -> Result<Frame, Flaw>
 }
 
 #[tactic(auto, unfolding(crate::specs::Frames::done_next))]
-fn done(reader: &mut FieldReader<'_>) -> Result<Frame, Flaw>
-    ensures { Gives done_next reader.old reader.new result }
+fn done(reader: &mut FieldReader<'_>) -> Result<Frame, FormFault>
+    ensures { Gives result (done_next reader.old) reader.new }
 {
     match reader.bool() {
         Some(claimed) => Ok(Frame::Done { claimed }),
-        None => Err(Flaw::Bad),
+        None => Err(FormFault::Bad),
     }
 }
 
-fn name(alloc: Global, reader: &mut FieldReader<'_>) -> Result<Name, Flaw>
-    ensures { Gives text_next reader.old reader.new result }
-{
-    let Some(text) = reader.text() else {
-        return Err(Flaw::Bad);
-    };
-    Ok(Name::new(alloc, text)?)
-}
-
-fn content(alloc: Global, reader: &mut FieldReader<'_>) -> Result<List<u8>, Flaw>
-    ensures { Gives bytes_next reader.old reader.new result }
+fn content(alloc: Global, reader: &mut FieldReader<'_>) -> Result<List<u8>, FormFault>
+    ensures { Gives result (bytes_next reader.old) reader.new }
 {
     let Some(bytes) = reader.bytes() else {
-        return Err(Flaw::Bad);
+        return Err(FormFault::Bad);
     };
     match bytes.to_vec(alloc) {
         Ok(bytes) => Ok(List::from_vec(bytes)),
-        Err(_) => Err(Flaw::Memory),
+        Err(_) => Err(FormFault::Memory),
     }
 }
 
 #[tactic(auto, unfolding(crate::specs::Frames::below_next))]
-fn below(bound: u8, reader: &mut FieldReader<'_>) -> Result<u8, Flaw>
-    ensures { Gives (below_next bound) reader.old reader.new result }
+fn below(bound: u8, reader: &mut FieldReader<'_>) -> Result<u8, FormFault>
+    ensures { Gives result (below_next bound reader.old) reader.new }
 {
     match reader.u8() {
         Some(number) => {
             if number < bound {
                 Ok(number)
             } else {
-                Err(Flaw::Bad)
+                Err(FormFault::Bad)
             }
         }
-        None => Err(Flaw::Bad),
+        None => Err(FormFault::Bad),
     }
 }
 
 #[tactic(auto, unfolding(crate::specs::Frames::origins_next))]
-fn origins(alloc: Global, reader: &mut FieldReader<'_>) -> Result<List<ElementRef>, Flaw>
-    ensures { Gives origins_next reader.old reader.new result }
+fn origins(alloc: Global, reader: &mut FieldReader<'_>) -> Result<List<ElementRef>, FormFault>
+    ensures { Gives result (origins_next reader.old) reader.new }
 {
     match reader.u32() {
         Some(0) => Ok(List::new(alloc)),
-        _ => Err(Flaw::Bad),
+        _ => Err(FormFault::Bad),
     }
 }
 
 #[tactic(auto, unfolding(crate::specs::Frames::file_next))]
-fn source(alloc: Global, reader: &mut FieldReader<'_>) -> Result<Frame, Flaw>
-    ensures { Gives (file_next creations.Source) reader.old reader.new result }
+fn source(alloc: Global, reader: &mut FieldReader<'_>) -> Result<Frame, FormFault>
+    ensures { Gives result (file_next creations.Source reader.old) reader.new }
 {
-    let name = name(alloc, reader)?;
+    let name = read_text(alloc, reader)?;
     let content = content(alloc, reader)?;
     let origins = origins(alloc, reader)?;
     Ok(Frame::Create(Creation::Source {
@@ -171,12 +143,12 @@ fn source(alloc: Global, reader: &mut FieldReader<'_>) -> Result<Frame, Flaw>
 }
 
 #[tactic(auto, unfolding(crate::specs::Frames::resource_next))]
-fn resource(alloc: Global, reader: &mut FieldReader<'_>) -> Result<Frame, Flaw>
-    ensures { Gives resource_next reader.old reader.new result }
+fn resource(alloc: Global, reader: &mut FieldReader<'_>) -> Result<Frame, FormFault>
+    ensures { Gives result (resource_next reader.old) reader.new }
 {
     let location = below(3, reader)?;
-    let package = name(alloc, reader)?;
-    let relative = name(alloc, reader)?;
+    let package = read_text(alloc, reader)?;
+    let relative = read_text(alloc, reader)?;
     let content = content(alloc, reader)?;
     let origins = origins(alloc, reader)?;
     Ok(Frame::Create(Creation::Resource {
@@ -189,10 +161,10 @@ fn resource(alloc: Global, reader: &mut FieldReader<'_>) -> Result<Frame, Flaw>
 }
 
 #[tactic(auto, unfolding(crate::specs::Frames::file_next))]
-fn class(alloc: Global, reader: &mut FieldReader<'_>) -> Result<Frame, Flaw>
-    ensures { Gives (file_next creations.Class) reader.old reader.new result }
+fn class(alloc: Global, reader: &mut FieldReader<'_>) -> Result<Frame, FormFault>
+    ensures { Gives result (file_next creations.Class reader.old) reader.new }
 {
-    let name = name(alloc, reader)?;
+    let name = read_text(alloc, reader)?;
     let content = content(alloc, reader)?;
     let origins = origins(alloc, reader)?;
     Ok(Frame::Create(Creation::Class {
@@ -203,22 +175,22 @@ fn class(alloc: Global, reader: &mut FieldReader<'_>) -> Result<Frame, Flaw>
 }
 
 #[tactic(auto, unfolding(crate::specs::Frames::element_next))]
-fn element(reader: &mut FieldReader<'_>) -> Result<Option<ElementRef>, Flaw>
-    ensures { Gives element_next reader.old reader.new result }
+fn element(reader: &mut FieldReader<'_>) -> Result<Option<ElementRef>, FormFault>
+    ensures { Gives result (element_next reader.old) reader.new }
 {
     match reader.bool() {
         Some(false) => Ok(None),
-        _ => Err(Flaw::Bad),
+        _ => Err(FormFault::Bad),
     }
 }
 
 #[tactic(auto, unfolding(crate::specs::Frames::message_next))]
-fn message(alloc: Global, reader: &mut FieldReader<'_>) -> Result<Frame, Flaw>
-    ensures { Gives message_next reader.old reader.new result }
+fn message(alloc: Global, reader: &mut FieldReader<'_>) -> Result<Frame, FormFault>
+    ensures { Gives result (message_next reader.old) reader.new }
 {
     let kind = below(5, reader)?;
     let element = element(reader)?;
-    let text = name(alloc, reader)?;
+    let text = read_text(alloc, reader)?;
     Ok(Frame::Message(Message {
         kind,
         element,
@@ -226,19 +198,19 @@ fn message(alloc: Global, reader: &mut FieldReader<'_>) -> Result<Frame, Flaw>
     }))
 }
 
-fn creation(alloc: Global, tag: u8, reader: &mut FieldReader<'_>) -> Result<Frame, Flaw>
-    ensures { Gives (creation_next tag) reader.old reader.new result }
+fn creation(alloc: Global, tag: u8, reader: &mut FieldReader<'_>) -> Result<Frame, FormFault>
+    ensures { Gives result (creation_next tag reader.old) reader.new }
 {
     match tag {
         SOURCE => source(alloc, reader),
         RESOURCE => resource(alloc, reader),
         CLASS => class(alloc, reader),
-        _ => Err(Flaw::Bad),
+        _ => Err(FormFault::Bad),
     }
 }
 
-fn fields(alloc: Global, tag: u8, reader: &mut FieldReader<'_>) -> Result<Frame, Flaw>
-    ensures { Gives (fields_next tag) reader.old reader.new result }
+fn fields(alloc: Global, tag: u8, reader: &mut FieldReader<'_>) -> Result<Frame, FormFault>
+    ensures { Gives result (fields_next tag reader.old) reader.new }
 {
     match tag {
         HELLO => hello(alloc, reader),
@@ -249,16 +221,16 @@ fn fields(alloc: Global, tag: u8, reader: &mut FieldReader<'_>) -> Result<Frame,
 }
 
 #[tactic(auto, unfolding(crate::specs::Frames::child_frame))]
-fn frame_of(alloc: Global, bytes: &[u8]) -> Result<Frame, Flaw>
-    ensures { GivesAll (child_frame bytes.now) result }
+fn frame_of(alloc: Global, bytes: &[u8]) -> Result<Frame, FormFault>
+    ensures { GivesAll result (child_frame bytes.now) }
 {
     let mut reader = FieldReader::new(bytes);
     let Some(tag) = reader.u8() else {
-        return Err(Flaw::Bad);
+        return Err(FormFault::Bad);
     };
     let frame = fields(alloc, tag, &mut reader)?;
     if reader.left() > 0 {
-        return Err(Flaw::Bad);
+        return Err(FormFault::Bad);
     }
     Ok(frame)
 }
@@ -285,8 +257,8 @@ fn child_frame(alloc: Global, bytes: &[u8]) -> Result<Option<Frame>, NoMemory>
 {
     match frame_of(alloc, bytes) {
         Ok(frame) => Ok(Some(frame)),
-        Err(Flaw::Bad) => Ok(None),
-        Err(Flaw::Memory) => Err(NoMemory),
+        Err(FormFault::Bad) => Ok(None),
+        Err(FormFault::Memory) => Err(NoMemory),
     }
 }
 

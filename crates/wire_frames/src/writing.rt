@@ -1,13 +1,13 @@
 ghost use Rattle.std.specs.Prelude.{◌≡◌, ℕ, Bool, ◌+◌, ◌≤◌, ◌<◌, ◌++◌, length, IfOk, OnOk, IsErrOf};
-ghost use Rattle.decl_syntax.specs.Fields.{text_form, bytes_form};
-ghost use Rattle.decl_syntax.specs.Forms.{u16_form, list_form, opt_form};
-ghost use Rattle.wire_frames.specs.Frames.{option_form, texts_form, options_form, claim_number, created_number, init_form, round_form, created_form, noted_form, hello_form, done_form, ref_form, origins_form, file_form, resource_form, creation_form, message_form, fields_of, spelling};
+ghost use Rattle.apt_base.specs.Fields.{text_form, bytes_form};
+ghost use Rattle.apt_base.specs.Forms.{u16_form, list_form, opt_form};
+ghost use Rattle.wire_frames.specs.Frames.{most_fields, option_form, texts_form, options_form, claim_number, created_number, init_form, round_form, created_form, noted_form, hello_form, done_form, ref_form, origins_form, file_form, resource_form, creation_form, message_form, fields_of, spelling};
 ghost use Rattle.wire_frames.specs.Sizes.{capped};
 ghost use Rattle.wire_frames.specs.declared.writing.FrameFault.TheVariants as faults;
 
 use crate::frame::{Created, Creation, Frame, Hello, Init, Message, Reply};
 use crate::tags::{CLASS, CREATED, DONE, HELLO, INIT, MESSAGE, NOTED, RESOURCE, ROUND, SOURCE};
-use decl_syntax::{ElementRef, FieldWriter, List, Name, NoMemory};
+use apt_base::{ElementRef, FieldWriter, List, Name, NoMemory};
 use std::alloc::Global;
 
 /// How many bytes a frame has at most, its length among them.
@@ -109,7 +109,7 @@ fn opt_ref_size(element: &Option<ElementRef>) -> usize
     }
 }
 
-#[tactic(auto, unfolding(decl_syntax::specs::Forms::count_form))]
+#[tactic(auto, unfolding(apt_base::specs::Forms::count_form))]
 fn origins_size(origins: &[ElementRef]) -> usize
     ensures { result ≡ capped (length (origins_form origins.now)) }
 {
@@ -197,7 +197,7 @@ fn size_of(frame: &Frame) -> usize
 // ---- writing
 
 fn put_texts(writer: &mut FieldWriter, texts: &[Name]) -> Result<(), NoMemory>
-    requires { length (texts_form texts.now) ≤ 134217724 }
+    requires { length (texts_form texts.now) ≤ most_fields }
     ensures { OnOk result (writer.new ≡ writer.old ++ texts_form texts.now) }
 {
     writer.u32(texts.len() as u32)?;
@@ -208,7 +208,7 @@ fn put_texts(writer: &mut FieldWriter, texts: &[Name]) -> Result<(), NoMemory>
 }
 
 fn put_options(writer: &mut FieldWriter, options: &[(Name, Name)]) -> Result<(), NoMemory>
-    requires { length (options_form options.now) ≤ 134217724 }
+    requires { length (options_form options.now) ≤ most_fields }
     ensures { OnOk result (writer.new ≡ writer.old ++ options_form options.now) }
 {
     writer.u32(options.len() as u32)?;
@@ -220,7 +220,7 @@ fn put_options(writer: &mut FieldWriter, options: &[(Name, Name)]) -> Result<(),
 }
 
 fn put_init(writer: &mut FieldWriter, init: &Init) -> Result<(), NoMemory>
-    requires { length (init_form init.now) ≤ 134217724 }
+    requires { length (init_form init.now) ≤ most_fields }
     ensures { OnOk result (writer.new ≡ writer.old ++ init_form init.now) }
 {
     writer.u8(INIT)?;
@@ -230,7 +230,7 @@ fn put_init(writer: &mut FieldWriter, init: &Init) -> Result<(), NoMemory>
 }
 
 fn put_hello(writer: &mut FieldWriter, hello: &Hello) -> Result<(), NoMemory>
-    requires { length (hello_form hello.now) ≤ 134217724 }
+    requires { length (hello_form hello.now) ≤ most_fields }
     ensures { OnOk result (writer.new ≡ writer.old ++ hello_form hello.now) }
 {
     writer.u8(HELLO)?;
@@ -239,9 +239,9 @@ fn put_hello(writer: &mut FieldWriter, hello: &Hello) -> Result<(), NoMemory>
     writer.u8(hello.claim as u8)
 }
 
-#[tactic(auto, unfolding(decl_syntax::specs::Forms::count_form, decl_syntax::specs::Forms::u16_form))]
+#[tactic(auto, unfolding(apt_base::specs::Forms::count_form, apt_base::specs::Forms::u16_form))]
 fn put_path(writer: &mut FieldWriter, path: &[u16]) -> Result<(), NoMemory>
-    requires { length (list_form u16_form path.now) ≤ 134217724 }
+    requires { length (list_form u16_form path.now) ≤ most_fields }
     ensures { OnOk result (writer.new ≡ writer.old ++ list_form u16_form path.now) }
 {
     writer.u32(path.len() as u32)?;
@@ -252,7 +252,7 @@ fn put_path(writer: &mut FieldWriter, path: &[u16]) -> Result<(), NoMemory>
 }
 
 fn put_ref(writer: &mut FieldWriter, element: &ElementRef) -> Result<(), NoMemory>
-    requires { length (ref_form element.now) ≤ 134217724 }
+    requires { length (ref_form element.now) ≤ most_fields }
     ensures { OnOk result (writer.new ≡ writer.old ++ ref_form element.now) }
 {
     writer.text(element.unit.as_str())?;
@@ -260,7 +260,7 @@ fn put_ref(writer: &mut FieldWriter, element: &ElementRef) -> Result<(), NoMemor
 }
 
 fn put_opt_ref(writer: &mut FieldWriter, element: &Option<ElementRef>) -> Result<(), NoMemory>
-    requires { length (opt_form ref_form element.now) ≤ 134217724 }
+    requires { length (opt_form ref_form element.now) ≤ most_fields }
     ensures { OnOk result (writer.new ≡ writer.old ++ opt_form ref_form element.now) }
 {
     match element {
@@ -272,9 +272,9 @@ fn put_opt_ref(writer: &mut FieldWriter, element: &Option<ElementRef>) -> Result
     }
 }
 
-#[tactic(auto, unfolding(decl_syntax::specs::Forms::count_form))]
+#[tactic(auto, unfolding(apt_base::specs::Forms::count_form))]
 fn put_origins(writer: &mut FieldWriter, origins: &[ElementRef]) -> Result<(), NoMemory>
-    requires { length (origins_form origins.now) ≤ 134217724 }
+    requires { length (origins_form origins.now) ≤ most_fields }
     ensures { OnOk result (writer.new ≡ writer.old ++ origins_form origins.now) }
 {
     writer.u32(origins.len() as u32)?;
@@ -291,7 +291,7 @@ fn put_file(
     content: &List<u8>,
     origins: &List<ElementRef>,
 ) -> Result<(), NoMemory>
-    requires { length (file_form tag name.now content.now origins.now) ≤ 134217724 }
+    requires { length (file_form tag name.now content.now origins.now) ≤ most_fields }
     ensures { OnOk result (writer.new ≡ writer.old ++ file_form tag name.now content.now origins.now) }
 {
     writer.u8(tag)?;
@@ -308,7 +308,7 @@ fn put_resource(
     content: &List<u8>,
     origins: &List<ElementRef>,
 ) -> Result<(), NoMemory>
-    requires { length (resource_form location folder.now relative.now content.now origins.now) ≤ 134217724 }
+    requires { length (resource_form location folder.now relative.now content.now origins.now) ≤ most_fields }
     ensures { OnOk result (writer.new ≡ writer.old ++ resource_form location folder.now relative.now content.now origins.now) }
 {
     writer.u8(RESOURCE)?;
@@ -320,7 +320,7 @@ fn put_resource(
 }
 
 fn put_creation(writer: &mut FieldWriter, creation: &Creation) -> Result<(), NoMemory>
-    requires { length (creation_form creation.now) ≤ 134217724 }
+    requires { length (creation_form creation.now) ≤ most_fields }
     ensures { OnOk result (writer.new ≡ writer.old ++ creation_form creation.now) }
 {
     match creation {
@@ -345,7 +345,7 @@ fn put_creation(writer: &mut FieldWriter, creation: &Creation) -> Result<(), NoM
 }
 
 fn put_message(writer: &mut FieldWriter, message: &Message) -> Result<(), NoMemory>
-    requires { length (message_form message.now) ≤ 134217724 }
+    requires { length (message_form message.now) ≤ most_fields }
     ensures { OnOk result (writer.new ≡ writer.old ++ message_form message.now) }
 {
     writer.u8(MESSAGE)?;
@@ -362,7 +362,7 @@ fn put_round(
     offered: &List<Name>,
     roots: &List<Name>,
 ) -> Result<(), NoMemory>
-    requires { length (round_form number over error offered.now roots.now) ≤ 134217724 }
+    requires { length (round_form number over error offered.now roots.now) ≤ most_fields }
     ensures { OnOk result (writer.new ≡ writer.old ++ round_form number over error offered.now roots.now) }
 {
     writer.u8(ROUND)?;
@@ -375,7 +375,7 @@ fn put_round(
 
 #[tactic(auto, unfolding(crate::specs::Frames::fields_of))]
 fn put_fields(writer: &mut FieldWriter, frame: &Frame) -> Result<(), NoMemory>
-    requires { length (fields_of frame.now) ≤ 134217724 }
+    requires { length (fields_of frame.now) ≤ most_fields }
     ensures { OnOk result (writer.new ≡ writer.old ++ fields_of frame.now) }
 {
     match frame {

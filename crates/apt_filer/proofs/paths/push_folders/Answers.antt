@@ -1,5 +1,5 @@
 use Rattle.std.proofs.Common.{[], ◌∷◌, ◌++◌, string_bytes, lit<, ap, ◌∙◌, sym}
-use Rattle.decl_syntax.proofs.Dotted.{utf8_after}
+use Rattle.apt_base.proofs.Dotted.{utf8_after}
 use Rattle.apt_filer.proofs.Folders.{folders_of-without, one_folder_more}
 use Rattle.apt_filer.proofs.paths.push_folders.Goals as goal
 

@@ -1,7 +1,7 @@
 use Rattle.std.proofs.Common.{◌≡◌, ◌-◌, ◌+◌, ◌*◌}
-use Rattle.decl_syntax.specs.Forms.{items_next}
+use Rattle.apt_base.specs.Forms.{items_next}
 use Rattle.decl_syntax.specs.Reading.{pair_in, value_next}
-use Rattle.decl_syntax.proofs.Counted.{with_front}
+use Rattle.apt_base.proofs.Counted.{with_front}
 use Rattle.decl_syntax.proofs.annotation_reading.+annotation_reading.Given as goal
 
 -- what was read, and what is left to read, are all

@@ -1,19 +1,19 @@
 use Rattle.std.proofs.lemmas.Result.{err_from_is_err_and}
-use Rattle.decl_syntax.specs.Forms.{items_next}
+use Rattle.apt_base.specs.Forms.{items_next}
 use Rattle.decl_syntax.specs.Reading.{plain_next}
-use Rattle.decl_syntax.proofs.Counted.{goes_on, list_ends, list_is_done}
+use Rattle.apt_base.proofs.Counted.{goes_on, list_ends, list_is_done}
 use Rattle.decl_syntax.proofs.annotation_reading.plains.Goals as goal
 
 pub returns-in_err-item : goal.returns-in_err-item
 returns-in_err-item c =
     let p = err_from_is_err_and c.from_residual-in_err-item.result c.from_residual-in_err-item.ensures.1 in
-    rw (p.1, p.2) (list_ends plain_next c.in_err-item.field-0.0 c.loop.items c.in_ok-count.count c.loop.counter c.loop.reader c.args.reader.now c.count.new.reader c.plain.new.reader
+    rw (p.1, p.2) (list_ends plain_next c.in_err-item.field-0.0 c.loop.items c.in_ok-count.count c.loop.counter c.loop.reader c.args.reader.now c.read_count.new.reader c.plain.new.reader
     c.in_ok-count.ensures c.loop-test.true c.in_err-item.ensures c.loop.invariant)
 
 pub loop-preserved : goal.loop-preserved
 loop-preserved c =
-    rw c.in_ok-push.ensures.ok (goes_on plain_next c.loop.items c.in_ok-count.count c.loop.counter c.loop.reader c.in_ok-item.item c.plain.new.reader (items_next plain_next c.in_ok-count.count c.count.new.reader)
+    rw c.in_ok-push.ensures.ok (goes_on plain_next c.loop.items c.in_ok-count.count c.loop.counter c.loop.reader c.in_ok-item.item c.plain.new.reader (items_next plain_next c.in_ok-count.count c.read_count.new.reader)
     c.loop-test.true c.in_ok-item.ensures c.loop.invariant)
 
 pub returns : goal.returns
-returns c = list_is_done plain_next c.loop.items c.in_ok-count.count c.loop.counter c.loop.reader c.args.reader.now c.count.new.reader c.in_ok-count.ensures c.loop-test.false c.loop.invariant
+returns c = list_is_done plain_next c.loop.items c.in_ok-count.count c.loop.counter c.loop.reader c.args.reader.now c.read_count.new.reader c.in_ok-count.ensures c.loop-test.false c.loop.invariant

@@ -1,9 +1,14 @@
-use Rattle.std.proofs.Common.{arith}
-use Rattle.decl_syntax.proofs.Spelled.{is_found, is_none}
+use Rattle.std.proofs.Common.{arith, ◌∙◌, sym, ap}
+use Rattle.decl_syntax.specs.Shape.{unit_form}
+use Rattle.decl_syntax.proofs.Spelled.{whole_unit-spelled, is_none}
 use Rattle.decl_syntax.proofs.unit_reading.parse_shape.Goals as goal
 
-pub returns-clause-found : goal.returns-clause-found
-returns-clause-found c = is_found c.args.bytes.now c.whole.result (λ i. omega (arith, c.type_inv.bytes i)) c.whole.ensures
+pub new-requires : goal.new-requires
+new-requires c = (whole_unit-spelled c.args.bytes.now c.in-Ok.text (λ i. omega (arith, c.type_inv.bytes i)) c.in-Ok.ensures).0
 
-pub returns-clause-bad : goal.returns-clause-bad
-returns-clause-bad c = is_none c.args.bytes.now c.whole.result c.whole.ensures
+pub returns-in-Ok-clause-found : goal.returns-in-Ok-clause-found
+returns-in-Ok-clause-found c =
+    (whole_unit-spelled c.args.bytes.now c.in-Ok.text (λ i. omega (arith, c.type_inv.bytes i)) c.in-Ok.ensures).1 ∙ ap unit_form (sym c.new.ensures)
+
+pub returns-in-Err-clause-bad : goal.returns-in-Err-clause-bad
+returns-in-Err-clause-bad c = is_none c.args.bytes.now c.in-Err.fault c.in-Err.ensures

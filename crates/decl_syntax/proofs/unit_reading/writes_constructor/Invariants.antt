@@ -1,7 +1,7 @@
 use Rattle.std.proofs.Common.{◌≡◌, false, take}
 use Rattle.std.specs.List.{list_any}
-use Rattle.decl_syntax.specs.Legal.{constructs}
-use Rattle.decl_syntax.specs.declared.declaration.Member.{out-Member}
+use Rattle.decl_tree.specs.Legal.{constructs}
+use Rattle.decl_tree.specs.declared.declaration.Member.{out-Member}
 use Rattle.decl_syntax.proofs.unit_reading.writes_constructor.Given as goal
 
 -- none of the members so far is one

@@ -4,7 +4,7 @@ use Rattle.std.specs.String.{string_cmp}
 use Rattle.std.specs.declared.alloc.Global.{Global}
 use Rattle.std.proofs.lemmas.List.{map-append}
 use Rattle.std.proofs.lemmas.List.Elements.{All-push}
-use Rattle.decl_syntax.specs.Fields.{is_text}
+use Rattle.apt_base.specs.Fields.{is_text}
 use Rattle.apt_outside.specs.Held.{shown_file}
 use Rattle.apt_outside.proofs.HeldLemmas.{entries-files_of}
 use Rattle.round_engine.specs.Numbering.{IsNextFree, AreAhead, SameFrom}

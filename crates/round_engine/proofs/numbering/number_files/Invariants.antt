@@ -1,5 +1,5 @@
 use Rattle.std.proofs.Common.{◌≡◌, ◌<◌, ◌^◌, ◌++◌, All, length, map, true}
-use Rattle.decl_syntax.specs.Fields.{is_text}
+use Rattle.apt_base.specs.Fields.{is_text}
 use Rattle.apt_outside.specs.Held.{shown_file}
 use Rattle.round_engine.specs.declared.numbering.Made.{Made}
 use Rattle.round_engine.proofs.NumberLemmas.{Stands}

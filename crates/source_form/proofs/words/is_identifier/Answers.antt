@@ -1,6 +1,7 @@
 use Rattle.std.proofs.Common.{◌≡◌, true, false, sym, ◌∙◌, refl, get_or}
 use Rattle.std.specs.List.{list_all}
-use Rattle.source_form.specs.Form.{is_letter, is_letter_or_digit, is_reserved}
+use Rattle.apt_base.specs.Identifiers.{is_reserved}
+use Rattle.source_form.specs.Form.{is_letter, is_letter_or_digit}
 use Rattle.source_form.proofs.Identifiers.{others_of, is_identifier-parts}
 use Rattle.source_form.proofs.words.is_identifier.Goals as goal
 use Rattle.source_form.proofs.words.is_identifier.Goals.{then-is_ascii_alphabetic, else-is_ascii_alphabetic}

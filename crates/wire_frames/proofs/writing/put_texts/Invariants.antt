@@ -1,7 +1,7 @@
 use Rattle.std.proofs.Common.{◌≡◌, ◌++◌, length, take}
 use Rattle.std.specs.List.{flat_map}
 use Rattle.std.specs.Int.{w32, to_be_bytes}
-use Rattle.decl_syntax.specs.Fields.{text_form}
+use Rattle.apt_base.specs.Fields.{text_form}
 use Rattle.wire_frames.proofs.writing.put_texts.Given as goal
 
 abbrev pub invariant-loop-text : goal.invariant-loop-text

@@ -1,6 +1,6 @@
 use Rattle.std.proofs.Common.{◌≡◌, ◌+◌, length, take}
 use Rattle.std.specs.List.{flat_map}
-use Rattle.decl_syntax.specs.Fields.{text_form}
+use Rattle.apt_base.specs.Fields.{text_form}
 use Rattle.wire_frames.specs.Sizes.{capped}
 use Rattle.wire_frames.proofs.writing.texts_size.Given as goal
 

@@ -1,0 +1,5 @@
+pub mod Fields
+pub mod Forms
+pub mod Identifiers
+pub mod Readings
+pub mod formers

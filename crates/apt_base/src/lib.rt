@@ -1,0 +1,32 @@
+//! What every crate above stands on: names, lists and boxes that contracts see as bytes, lists and values, references of elements, the small enums, and the fields of which all formats are made.
+//!
+//! `specs/Fields` has the fields, with the words on their readers, `specs/Forms` the forms that are made of other forms, and `specs/Readings` what a function that reads is to return; `proofs/Fields`, `proofs/Readers` and `proofs/Counted` have the lemmas for the crates above. `specs/Identifiers` says what identifiers and patterns are.
+//!
+//! Not promised: that memory is there. What takes memory says so by `NoMemory`, and what it was called on is then as it was.
+#![tactic(auto)]
+
+mod boxed;
+mod element;
+mod fault;
+mod field_reader;
+mod field_writer;
+mod identifier;
+mod kinds;
+mod list;
+mod memory;
+mod name;
+mod reading;
+mod writing;
+
+pub use boxed::Boxed;
+pub use element::ElementRef;
+pub use fault::FormFault;
+pub use field_reader::FieldReader;
+pub use field_writer::FieldWriter;
+pub use identifier::{is_dotted, is_identifier, is_pattern, is_reserved};
+pub use kinds::{Claim, Kind, What};
+pub use list::List;
+pub use memory::NoMemory;
+pub use name::{Name, copy_names, copy_optional_name};
+pub use reading::{read_byte, read_count, read_optional_text, read_text, read_texts, read_truth};
+pub use writing::{write_count, write_optional_text, write_text, write_texts};

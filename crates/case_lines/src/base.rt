@@ -1,0 +1,2 @@
+// Names and lists.
+pub use apt_base::{List, Name, NoMemory};

@@ -1,6 +1,0 @@
-use Rattle.std.proofs.Common.{◌≡◌, take}
-use Rattle.decl_syntax.proofs.declaration.+copy_declaration.Given as goal
-
--- the copies so far are the items so far
-abbrev pub invariant-copy_members-loop-each : goal.invariant-copy_members-loop-each
-invariant-copy_members-loop-each l = l.copies ≡ take l.each-index l.items

@@ -1,8 +1,0 @@
-use Rattle.std.proofs.Common.{◌≡◌, ◌++◌, take}
-use Rattle.std.specs.List.{flat_map}
-use Rattle.decl_syntax.specs.Shape.{type_param_form}
-use Rattle.decl_syntax.proofs.member_writing.type_params.Given as goal
-
--- the items so far are written
-abbrev pub invariant-loop-each : goal.invariant-loop-each
-invariant-loop-each l = l.writer ≡ l.initial.writer ++ flat_map type_param_form (take l.each-index l.items)

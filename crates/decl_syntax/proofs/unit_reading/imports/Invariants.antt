@@ -1,9 +1,0 @@
-use Rattle.std.proofs.Common.{◌≡◌, ◌-◌}
-use Rattle.decl_syntax.specs.Forms.{items_next}
-use Rattle.decl_syntax.specs.Reading.{import_next}
-use Rattle.decl_syntax.proofs.Counted.{with_front}
-use Rattle.decl_syntax.proofs.unit_reading.imports.Given as goal
-
--- what was read, and what is left to read, are all
-abbrev pub invariant-loop : goal.invariant-loop
-invariant-loop l = with_front l.items (items_next import_next (l.count - l.counter) l.reader) ≡ items_next import_next l.count l.initial.reader

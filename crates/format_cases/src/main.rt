@@ -1,0 +1,87 @@
+//! Prints a table of calls of the formats with what each gives.
+//!
+//! The calls are those of names and fields, of the frames between the host and a child, of the form of a source file, and of the
+//! record of an output. The library `case_lines` says how texts, bytes and lists are written.
+#![tactic(auto)]
+
+mod base;
+mod fields;
+mod frame_read;
+mod frame_shown;
+mod records;
+mod sources;
+
+use base::{is_dotted, is_identifier, is_pattern};
+use case_lines::{Calls, CaseFault, hex_bytes, hex_digits, run, text, yes_or_no};
+use std::alloc::Global;
+use std::process::ExitCode;
+use wire_frames::{FrameFault, encode, frame_length, read_child_frame};
+
+/// The calls of the formats.
+#[derive(Drop)]
+struct Formats;
+
+impl Calls for Formats {
+    fn call(&mut self, alloc: Global, words: &[&str]) -> Result<String, CaseFault> {
+        match words {
+            ["encode", frame @ ..] => encoded(alloc, frame),
+            ["read", bytes] => child_frame(alloc, bytes),
+            ["length", head] => length(alloc, head),
+            ["write_fields", fields @ ..] => fields::written(alloc, fields),
+            ["read_fields", bytes, kinds @ ..] => fields::read(alloc, bytes, kinds),
+            ["record"] => records::empty_record(alloc),
+            ["record", path, store, length] => records::record(alloc, [path, store, length]),
+            [call, word] => one_word(alloc, call, word),
+            _ => Err(CaseFault::NotACase),
+        }
+    }
+}
+
+// The calls of one word, most of them tests.
+fn one_word(alloc: Global, call: &str, word: &str) -> Result<String, CaseFault> {
+    match call {
+        "copy_element" => base::element_copy(alloc, word),
+        "form" => sources::form(alloc, word),
+        _ => {
+            let holds = is_so(call, text(alloc, word)?.as_str(), alloc)?;
+            Ok(String::from_str(alloc, yes_or_no(holds))?)
+        }
+    }
+}
+
+fn is_so(call: &str, text: &str, alloc: Global) -> Result<bool, CaseFault> {
+    match call {
+        "is_identifier" => Ok(is_identifier(text)),
+        "is_dotted" => Ok(is_dotted(text)),
+        "is_pattern" => Ok(is_pattern(text)),
+        "is_chain" => Ok(source_form::is_chain(text.as_bytes())),
+        "has_form" => sources::has_form(alloc, text),
+        _ => Err(CaseFault::NotACase),
+    }
+}
+
+fn encoded(alloc: Global, words: &[&str]) -> Result<String, CaseFault> {
+    match encode(alloc, &frame_read::frame(alloc, words)?) {
+        Ok(bytes) => hex_digits(alloc, bytes.as_slice()),
+        Err(FrameFault::TooLarge) => Ok(String::from_str(alloc, "TooLarge")?),
+        Err(FrameFault::Memory) => Err(CaseFault::Memory),
+    }
+}
+
+fn child_frame(alloc: Global, word: &str) -> Result<String, CaseFault> {
+    match read_child_frame(alloc, &hex_bytes(alloc, word)?)? {
+        Some(frame) => frame_shown::frame(alloc, &frame),
+        None => Ok(String::from_str(alloc, "none")?),
+    }
+}
+
+fn length(alloc: Global, word: &str) -> Result<String, CaseFault> {
+    match frame_length(&hex_bytes(alloc, word)?) {
+        Some(length) => Ok(format!(in alloc; "{length}")?),
+        None => Ok(String::from_str(alloc, "none")?),
+    }
+}
+
+fn main(rt: HostRuntime) -> ExitCode {
+    run(&rt, &mut Formats)
+}

@@ -1,0 +1,108 @@
+// Calls of the store, over the tree.
+ghost use Rattle.std.specs.Prelude.{◌≢◌, IfOk};
+ghost use Rattle.tree_store.specs.Storing.{AreDistinct};
+
+use crate::Outside;
+use crate::answers::{done, fault_of, refused};
+use crate::base::List;
+use apt_outside::MemoryTree;
+use case_lines::{CaseFault, escaped, joined, numbers, text_bytes};
+use std::alloc::Global;
+use tree_store::{RawSource, commit, put_files, read_sources, taken_numbers};
+
+fn bytes_of(alloc: Global, word: &str) -> Result<List<u8>, CaseFault> {
+    Ok(List::from_vec(text_bytes(alloc, word)?))
+}
+
+// Two files with their numbers, which differ.
+fn two_files(
+    alloc: Global,
+    first: (u32, List<u8>),
+    second: (u32, List<u8>),
+) -> Result<List<(u32, List<u8>)>, CaseFault>
+    requires { first.0 ≢ second.0 }
+    ensures { IfOk result AreDistinct }
+{
+    let mut files = List::new(alloc);
+    files.push(first)?;
+    files.push(second)?;
+    Ok(files)
+}
+
+fn sources_word(alloc: Global, sources: &List<RawSource>) -> Result<String, CaseFault> {
+    let mut words = Vec::new(alloc);
+    for source in sources.as_slice() {
+        let path = escaped(alloc, source.path.as_str().as_bytes())?;
+        let bytes = escaped(alloc, source.bytes.as_slice())?;
+        words.push(format!(in alloc; "{path}:{bytes}")?)?;
+    }
+    joined(alloc, &words)
+}
+
+fn numbers_word(alloc: Global, numbers: &[u32]) -> Result<String, CaseFault> {
+    let mut words = Vec::new(alloc);
+    for number in numbers {
+        words.push(format!(in alloc; "{number}")?)?;
+    }
+    joined(alloc, &words)
+}
+
+impl Outside {
+    pub fn call_store(&mut self, alloc: Global, words: &[&str]) -> Result<String, CaseFault> {
+        match *words {
+            ["read_sources", limit] => self.read_sources(alloc, limit),
+            ["taken_numbers"] => self.taken_numbers(alloc),
+            [
+                "put_files_anew",
+                one,
+                one_bytes,
+                other,
+                other_bytes,
+                ref failing @ ..,
+            ] => {
+                let one = (one.parse::<u32>()?, bytes_of(alloc, one_bytes)?);
+                let other = (other.parse::<u32>()?, bytes_of(alloc, other_bytes)?);
+                self.put_files_anew(alloc, one, other, numbers(alloc, failing)?)
+            }
+            ["commit", bytes] => self.commit(alloc, bytes),
+            _ => Err(CaseFault::NotACase),
+        }
+    }
+
+    fn read_sources(&mut self, alloc: Global, limit: &str) -> Result<String, CaseFault> {
+        match read_sources(alloc, &mut self.tree, limit.parse::<usize>()?) {
+            Ok(sources) => sources_word(alloc, &sources),
+            Err(fault) => refused(alloc, fault_of(fault)),
+        }
+    }
+
+    fn taken_numbers(&mut self, alloc: Global) -> Result<String, CaseFault> {
+        match taken_numbers(alloc, &mut self.tree) {
+            Ok(numbers) => numbers_word(alloc, numbers.as_slice()),
+            Err(fault) => refused(alloc, fault_of(fault)),
+        }
+    }
+
+    // Puts two files into the store of a fresh tree, some of whose calls are to fail. One number for both is no case.
+    fn put_files_anew(
+        &mut self,
+        alloc: Global,
+        one: (u32, List<u8>),
+        other: (u32, List<u8>),
+        failing: Vec<u32>,
+    ) -> Result<String, CaseFault> {
+        if one.0 == other.0 {
+            return Err(CaseFault::NotACase);
+        }
+        let files = two_files(alloc, one, other)?;
+        let mut tree = MemoryTree::new(alloc, failing);
+        let put = put_files(alloc, &mut tree, &files);
+        self.tree = tree;
+        done(alloc, put.map_err(fault_of))
+    }
+
+    fn commit(&mut self, alloc: Global, bytes: &str) -> Result<String, CaseFault> {
+        let bytes = bytes_of(alloc, bytes)?;
+        done(alloc, commit(&mut self.tree, &bytes).map_err(fault_of))
+    }
+}
