@@ -3,7 +3,7 @@
 
     bench/shapes.py [PROGRAM]
 
-PROGRAM is crates/shape_bench/out/shape_bench where it is left out. The time of a round is the processor time of a run with
+PROGRAM is the one that bench/measured.py builds where it is left out. The time of a round is the processor time of a run with
 many rounds less that of a run with few, so that what a run does once is not in it; memory that a round gave back is kept for
 the next, so that the system's handing out of pages is not in it either. It prints the medians in MB/s, how often
 the copy's time a step takes, the time for ten times the members as a ratio, and the peak memory of the process. Nothing
@@ -13,8 +13,9 @@ import os
 import statistics
 import sys
 
-HERE = os.path.dirname(os.path.abspath(__file__))
-PROGRAM = os.path.join(HERE, "..", "crates", "shape_bench", "out", "shape_bench")
+import measured
+
+PROGRAM = None
 SMALL, LARGE, TURNS, FEW = 6_500, 65_000, 7, 2
 
 # How many rounds more the longer run has at LARGE; at SMALL ten times as many, so that both take about as long.
@@ -30,7 +31,7 @@ def run(step, members, rounds):
     child = os.fork()
     if child == 0:
         os.dup2(writing, 1)
-        os.execve(PROGRAM, [PROGRAM, step, str(members), str(rounds)], SETTINGS)
+        os.execve(PROGRAM, [PROGRAM, "shapes", step, str(members), str(rounds)], SETTINGS)
     os.close(writing)
     with os.fdopen(reading, encoding="ascii") as output:
         line = output.read()
@@ -49,7 +50,7 @@ def seconds_of_round(step, members):
 
 def main():
     global PROGRAM
-    PROGRAM = os.path.abspath(sys.argv[1] if len(sys.argv) > 1 else PROGRAM)
+    PROGRAM = os.path.abspath(sys.argv[1]) if len(sys.argv) > 1 else measured.program()
     taken = {(step, members): [] for step in MORE for members in (SMALL, LARGE)}
     peaks, lengths = {}, {}
     for _ in range(TURNS):

@@ -4,7 +4,7 @@ beside the scanner and the parser of a JDK over the same text, in turn in one ru
 
     bench/tokens.py [PROGRAM]
 
-PROGRAM is crates/token_bench/out/token_bench where it is left out. The time of a round is the processor
+PROGRAM is the one that bench/measured.py builds where it is left out. The time of a round is the processor
 time of a run with many rounds less that of a run with few, so that what a run does once is not in it;
 memory that a round gave back is kept for the next. The JDK's are warm: rounds before the measured ones are
 not counted, and only the processor time of the thread that reads is. Both get the bytes of the text. Each
@@ -18,8 +18,10 @@ import subprocess
 import sys
 import tempfile
 
+import measured
+
 HERE = os.path.dirname(os.path.abspath(__file__))
-PROGRAM = os.path.join(HERE, "..", "crates", "token_bench", "out", "token_bench")
+PROGRAM = None
 SMALL, LARGE, TURNS, FEW = 1_000, 10_000, 3, 1
 
 # How many rounds more the longer run has at LARGE; at SMALL ten times as many, so that both take as long.
@@ -42,7 +44,7 @@ def run(step, methods, rounds, settings):
     child = os.fork()
     if child == 0:
         os.dup2(writing, 1)
-        os.execve(PROGRAM, [PROGRAM, step, str(methods), str(rounds)], settings)
+        os.execve(PROGRAM, [PROGRAM, "tokens", step, str(methods), str(rounds)], settings)
     os.close(writing)
     with os.fdopen(reading, encoding="ascii") as output:
         line = output.read()
@@ -125,11 +127,11 @@ def report(median, length):
 
 def main():
     global PROGRAM
-    PROGRAM = os.path.abspath(sys.argv[1] if len(sys.argv) > 1 else PROGRAM)
+    PROGRAM = os.path.abspath(sys.argv[1]) if len(sys.argv) > 1 else measured.program()
     with tempfile.TemporaryDirectory(prefix="apt-bench-tokens-") as folder:
         file = os.path.join(folder, "Sample.java")
         with open(file, "wb") as output:
-            subprocess.run([PROGRAM, "text", str(LARGE)], stdout=output, check=True)
+            subprocess.run([PROGRAM, "tokens", "text", str(LARGE)], stdout=output, check=True)
         length, tokens = run("tokens", LARGE, 1, os.environ)[2:]
         jdk = start_jdk(folder, file)
         if jdk is None:

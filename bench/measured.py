@@ -1,0 +1,116 @@
+#!/usr/bin/env python3
+"""Builds the program that shapes.py and tokens.py measure, where it is not built yet, and prints its path.
+
+    bench/measured.py
+
+The program measures the library and is no part of it, so its sources stand in bench/measured and not among the crates:
+the gate proves and builds what stands there, and takes no other file of the language, so these end in .rattle. To build
+the program, a temporary repository gets copies of it and of the crates below it, and `rt run` is called there. The first
+time, that proves the program and each of these crates of which no proof is kept on this machine, which takes minutes.
+
+The built program is kept in bench/built until a file that it is made of changes.
+"""
+import hashlib
+import os
+import shutil
+import subprocess
+import sys
+import tempfile
+
+HERE = os.path.dirname(os.path.abspath(__file__))
+ROOT = os.path.dirname(HERE)
+SOURCES = os.path.join(HERE, "measured")
+BUILT = os.path.join(HERE, "built")
+NAME = "measured"
+
+# The crates that the program names.
+USED = ["decl_syntax", "java_tokens"]
+
+
+def listed_crates():
+    """Each crate of the repository with its line and the crates and libraries that it uses."""
+    crates = {}
+    with open(os.path.join(ROOT, "crates.txt"), encoding="utf-8") as file:
+        for line in file:
+            line = line.partition("#")[0].strip()
+            if line:
+                called, _, uses = line.partition(":")
+                crates[called.split()[0]] = line, uses.split()
+    return crates
+
+
+def crates_below():
+    """The lines of the crates that the program stands on, by their names."""
+    listed, below, left = listed_crates(), {}, list(USED)
+    while left:
+        name = left.pop()
+        if name in listed and name not in below:
+            below[name], uses = listed[name]
+            left.extend(uses)
+    return below
+
+
+def lay_out(folder):
+    """Makes a repository of the program and the crates below it, and gives the folder of the program's crate."""
+    below = crates_below()
+    for name in below:
+        unused = shutil.ignore_patterns("out", "must-fail")
+        shutil.copytree(os.path.join(ROOT, "crates", name), os.path.join(folder, "crates", name), ignore=unused)
+    with open(os.path.join(folder, "crates.txt"), "w", encoding="utf-8") as file:
+        file.writelines(f"{line}\n" for line in [*below.values(), f"{NAME}: {' '.join(USED)}"])
+    shutil.copy(os.path.join(ROOT, "HANDLES"), folder)
+    crate = os.path.join(folder, "crates", NAME)
+    os.makedirs(os.path.join(crate, "src"))
+    for source in os.listdir(SOURCES):
+        called, _ = os.path.splitext(source)
+        shutil.copy(os.path.join(SOURCES, source), os.path.join(crate, "src", called + ".rt"))
+    return crate
+
+
+def checksum(folder):
+    """A checksum of all files below a folder, with their paths."""
+    total = hashlib.sha256()
+    for where, folders, files in os.walk(folder):
+        folders.sort()
+        for name in sorted(files):
+            path = os.path.join(where, name)
+            with open(path, "rb") as file:
+                total.update(f"{os.path.relpath(path, folder)} {hashlib.sha256(file.read()).hexdigest()}\n".encode())
+    return total.hexdigest()
+
+
+def kept_checksum():
+    """The checksum of what the built program was made of; None where there is no such program."""
+    try:
+        with open(os.path.join(BUILT, NAME + ".checksum"), encoding="ascii") as file:
+            return file.read()
+    except FileNotFoundError:
+        return None
+
+
+def build(crate, made_of):
+    run = subprocess.run(["rt", "run"], cwd=crate, stdout=subprocess.PIPE, check=False)
+    if run.returncode != 0:
+        sys.exit(f"bench/measured was not built, or did not run: rt ended with status {run.returncode}")
+    os.makedirs(BUILT, exist_ok=True)
+    shutil.copy(os.path.join(crate, "out", NAME), BUILT)
+    with open(os.path.join(BUILT, NAME + ".checksum"), "w", encoding="ascii") as file:
+        file.write(made_of)
+
+
+def program():
+    """The path of the built program."""
+    with tempfile.TemporaryDirectory(prefix="apt-bench-measured-") as folder:
+        crate = lay_out(folder)
+        made_of = checksum(folder)
+        if made_of != kept_checksum():
+            build(crate, made_of)
+    return os.path.join(BUILT, NAME)
+
+
+def main():
+    print(program())
+
+
+if __name__ == "__main__":
+    main()

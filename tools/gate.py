@@ -1,0 +1,138 @@
+#!/usr/bin/env python3
+"""Runs the gate and says where its time goes, crate by crate.
+
+    tools/gate.py [WORD..]          runs `rt ci WORD..` at the top of the repository; with no words the whole gate
+    tools/gate.py --functions NAME  checks the crate NAME from nothing on one processor, and names its slowest functions
+
+Each line that the gate prints is written to `gate.log` in the current folder with the seconds since the start before it. At the end a table is
+printed: for each crate its lines of src, specs and proofs, the processor minutes of its proof, of the proof of its tests and of its edits, and
+the minutes by the clock from the first of them to the last. Processor time is read once a second from /proc, so the last second of each process is not
+counted, and neither is what the linker and the programs themselves use. What was kept by an earlier run on the machine takes no time: a
+measurement of the whole wants a machine where nothing is kept, or the word `--anew`.
+"""
+import os
+import shutil
+import subprocess
+import sys
+import tempfile
+import threading
+import time
+from pathlib import Path
+
+TOP = Path(__file__).resolve().parent.parent
+TICKS = os.sysconf("SC_CLK_TCK")
+PROOF, TESTS, EDITS = "proof", "tests", "edits"
+
+
+def lines_of(crate):
+    """The lines of src, specs and proofs of a crate."""
+    folders = [TOP / "crates" / crate / part for part in ("src", "specs", "proofs")]
+    files = [path for folder in folders for path in folder.rglob("*") if path.suffix in (".rt", ".antt")]
+    return sum(path.read_bytes().count(b"\n") for path in files)
+
+
+def work_of(process):
+    """The crate, the kind of work and the processor seconds of a process of the prover, or None."""
+    try:
+        words = (process / "cmdline").read_bytes().decode("utf-8", "replace").split("\0")
+        if not words[0].endswith("/rattle") or "--crate-name" not in words:
+            return None
+        fields = (process / "stat").read_text().rsplit(")", 1)[1].split()
+        seconds = sum(int(field) for field in fields[11:15]) / TICKS
+        folder = os.readlink(process / "cwd")
+    except (OSError, IndexError):
+        return None
+    kind = EDITS if "rt-edit" in folder else TESTS if "--test" in words else PROOF
+    return words[words.index("--crate-name") + 1], kind, seconds
+
+
+class Sampler(threading.Thread):
+    """Reads what the prover's processes have used, once a second, until it is told to end."""
+
+    def __init__(self):
+        super().__init__(daemon=True)
+        self.ended = threading.Event()
+        self.used = {}
+        self.seen = {}
+
+    def run(self):
+        while not self.ended.wait(1):
+            for process in Path("/proc").iterdir():
+                if process.name.isdigit() and (work := work_of(process)):
+                    crate, kind, seconds = work
+                    self.used[process.name, crate, kind] = seconds
+                    now = time.monotonic()
+                    first, _ = self.seen.get(crate, (now, now))
+                    self.seen[crate] = first, now
+
+    def minutes(self, crate, kind):
+        """The processor minutes of one kind of work on a crate."""
+        return sum(used for (_, of, what), used in self.used.items() if (of, what) == (crate, kind)) / 60
+
+
+def table(sampler, clock):
+    """The table of the crates, the most expensive first, and a line for all."""
+    rows = []
+    for crate, (first, last) in sampler.seen.items():
+        spent = [sampler.minutes(crate, kind) for kind in (PROOF, TESTS, EDITS)]
+        rows.append((crate, lines_of(crate), *spent, sum(spent), (last - first) / 60))
+    rows.sort(key=lambda row: -row[5])
+    lines = sum(row[1] for row in rows)
+    sums = [sum(row[at] for row in rows) for at in range(2, 6)]
+    rows.append(("all", lines, *sums, clock / 60))
+    text = ["| Crate | Lines | Proof | Tests | Edits | Together | Clock |", "|---|---|---|---|---|---|---|"]
+    text += ["| {} | {} | {:.1f} | {:.1f} | {:.1f} | {:.1f} | {:.1f} |".format(*row) for row in rows]
+    if lines:
+        text.append(f"{sums[3] * 1000 / lines:.2f} processor minutes for each 1,000 lines")
+    return "\n".join(text)
+
+
+def measure_gate(words):
+    """Runs the gate with these words, and gives its exit status."""
+    sampler = Sampler()
+    sampler.start()
+    start = time.monotonic()
+    with open("gate.log", "w", encoding="utf-8") as log:
+        gate = subprocess.Popen(["rt", "ci", *words], cwd=TOP, stdout=subprocess.PIPE, stderr=subprocess.STDOUT, text=True)
+        for line in gate.stdout:
+            print(f"{time.monotonic() - start:7.1f} {line}", end="", file=log, flush=True)
+            last = line
+    status = gate.wait()
+    sampler.ended.set()
+    sampler.join()
+    print(table(sampler, time.monotonic() - start))
+    print(last, end="")
+    return status
+
+
+def measure_functions(crate):
+    """Checks a crate from nothing on one processor, and prints its slowest functions with their seconds."""
+    with tempfile.TemporaryDirectory() as folder:
+        top = Path(folder) / "top"
+        shutil.copytree(TOP, top, ignore=shutil.ignore_patterns(".git"))
+        subprocess.run(["git", "init", "-q", str(top)], check=True)
+        shutil.rmtree(top / "crates" / crate / "out", ignore_errors=True)
+        words = ["rt", "check", "--jobs", "1"]
+        check = subprocess.Popen(words, cwd=top / "crates" / crate, stdout=subprocess.PIPE, stderr=subprocess.STDOUT, text=True)
+        before = time.monotonic()
+        took = []
+        for line in check.stdout:
+            if line.startswith("checked "):
+                now = time.monotonic()
+                took.append((now - before, line[len("checked "):].rsplit(",", 1)[0]))
+                before = now
+        status = check.wait()
+    for seconds, function in sorted(took, reverse=True)[:20]:
+        print(f"{seconds:7.1f} {function}")
+    return status
+
+
+def main():
+    words = sys.argv[1:]
+    if words[:1] == ["--functions"] and len(words) == 2:
+        return measure_functions(words[1])
+    return measure_gate(words)
+
+
+if __name__ == "__main__":
+    sys.exit(main())
