@@ -31,8 +31,23 @@ def lines_of(crate):
     return sum(path.read_bytes().count(b"\n") for path in files)
 
 
-def work_of(process):
-    """The crate, the kind of work and the processor seconds of a process of the prover, or None."""
+def parent_of(number):
+    """The number of the process that started this one, or 0."""
+    try:
+        return int(Path("/proc", str(number), "stat").read_text().rsplit(")", 1)[1].split()[1])
+    except (OSError, IndexError):
+        return 0
+
+
+def is_below(number, gate):
+    """Whether a process was started by the gate, or by what the gate started."""
+    while number not in (0, 1, gate):
+        number = parent_of(number)
+    return number == gate
+
+
+def work_of(process, gate):
+    """The crate, the kind of work and the processor seconds of a process of the prover below the gate's, or None."""
     try:
         words = (process / "cmdline").read_bytes().decode("utf-8", "replace").split("\0")
         if not words[0].endswith("/rattle") or "--crate-name" not in words:
@@ -42,6 +57,8 @@ def work_of(process):
         folder = os.readlink(process / "cwd")
     except (OSError, IndexError):
         return None
+    if not is_below(int(process.name), gate):
+        return None
     kind = EDITS if "rt-edit" in folder else TESTS if "--test" in words else PROOF
     return words[words.index("--crate-name") + 1], kind, seconds
 
@@ -49,8 +66,9 @@ def work_of(process):
 class Sampler(threading.Thread):
     """Reads what the prover's processes have used, once a second, until it is told to end."""
 
-    def __init__(self):
+    def __init__(self, gate):
         super().__init__(daemon=True)
+        self.gate = gate
         self.ended = threading.Event()
         self.used = {}
         self.seen = {}
@@ -58,7 +76,7 @@ class Sampler(threading.Thread):
     def run(self):
         while not self.ended.wait(1):
             for process in Path("/proc").iterdir():
-                if process.name.isdigit() and (work := work_of(process)):
+                if process.name.isdigit() and (work := work_of(process, self.gate)):
                     crate, kind, seconds = work
                     self.used[process.name, crate, kind] = seconds
                     now = time.monotonic()
@@ -89,11 +107,11 @@ def table(sampler, clock):
 
 def measure_gate(words):
     """Runs the gate with these words, and gives its exit status."""
-    sampler = Sampler()
-    sampler.start()
     start = time.monotonic()
     with open("gate.log", "w", encoding="utf-8") as log:
         gate = subprocess.Popen(["rt", "ci", *words], cwd=TOP, stdout=subprocess.PIPE, stderr=subprocess.STDOUT, text=True)
+        sampler = Sampler(gate.pid)
+        sampler.start()
         for line in gate.stdout:
             print(f"{time.monotonic() - start:7.1f} {line}", end="", file=log, flush=True)
             last = line
