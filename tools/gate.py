@@ -2,7 +2,8 @@
 """Runs the gate and says where its time goes, crate by crate.
 
     tools/gate.py [WORD..]          runs `rt ci WORD..` at the top of the repository; with no words the whole gate
-    tools/gate.py --functions NAME  checks the crate NAME from nothing on one processor, and names its slowest functions
+    tools/gate.py --functions NAME  checks a copy of the crate NAME on one processor, and names its slowest functions; what a checkout on this
+                                    machine has checked before is taken over, and does not show
 
 Each line that the gate prints is written to `gate.log` in the current folder with the seconds since the start before it. At the end a table is
 printed: for each crate its lines of src, specs and proofs, the processor minutes of its proof, of the proof of its tests and of its edits, and
