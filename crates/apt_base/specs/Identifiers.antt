@@ -1,5 +1,5 @@
 -- Identifiers (JLS 3.8), names of dots, and the patterns by which a processor names the annotations that it supports.
-use Rattle.std.specs.Prelude.{ℕ, Bool, false, not, ◌&&◌, ◌||◌, ◌==◌, ◌≡◌, ◌<◌, List, [], ◌∷◌, ◌++◌, length, get_or, codes, if◌then◌else◌}
+use Rattle.std.specs.Prelude.{ℕ, suc, Bool, false, not, ◌&&◌, ◌||◌, ◌==◌, ◌≡◌, ◌<◌, List, [], ◌∷◌, ◌++◌, length, get_or, codes, if◌then◌else◌}
 use Rattle.std.specs.List.{list_any, list_all}
 use Rattle.std.specs.Str.{bytes_eq, chars}
 use Rattle.unicode_ident.specs.Ident.{is_xid_start, is_xid_continue}
@@ -23,6 +23,11 @@ word_literals = codes "true" ∷ codes "false" ∷ codes "null" ∷ []
 
 abbrev pub reserved_words : List (List ℕ)
 reserved_words = keywords ++ word_literals
+
+-- texts with the numbers from one on
+abbrev pub numbered : ℕ → List (List ℕ) → List (List ℕ × ℕ)
+numbered n [] = []
+numbered n (text ∷ texts) = (text, n) ∷ numbered (suc n) texts
 
 unfoldable pub is_reserved : List ℕ → Bool
 is_reserved text = list_any (bytes_eq text) reserved_words
@@ -52,6 +57,10 @@ parts (c ∷ cs) = if c == 46 then [] ∷ parts cs else to_first c (parts cs)
 
 abbrev pub HasNoDot : List ℕ → Type 0
 HasNoDot text = (i : ℕ) → i < length text → get_or text i 0 ≡ 46 → ⊥
+
+-- a text in two parts, of which the first has no dot, and a dot between them
+abbrev pub IsSplit : List ℕ → List ℕ → List ℕ → Type 0
+IsSplit text first rest = (text ≡ first ++ (46 ∷ rest)) × HasNoDot first
 
 -- each part is an identifier, but the last of them may be what is asked of it
 abbrev pub names_then : (List ℕ → Bool) → List (List ℕ) → Bool

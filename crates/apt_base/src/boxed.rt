@@ -1,3 +1,4 @@
+// A value in a box of its own.
 ghost use Rattle.std.specs.Prelude.{◌≡◌, IfOk};
 
 use crate::NoMemory;

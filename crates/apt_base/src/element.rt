@@ -1,3 +1,4 @@
+// The reference of an element.
 ghost use Rattle.std.specs.Prelude.{◌≡◌, IfOk};
 
 use crate::{List, Name, NoMemory};

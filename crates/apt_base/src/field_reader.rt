@@ -1,3 +1,4 @@
+// Reads the field forms.
 ghost use Rattle.std.specs.Prelude.{◌≡◌, true, false, length, IfSome, IfNone, Some, None};
 ghost use Rattle.apt_base.specs.Fields.{front_next, u8_next, u16_next, u32_next, i64_next, bool_next, bytes_next, text_next, is_text};
 

@@ -1,3 +1,4 @@
+// Writes the field forms.
 ghost use Rattle.std.specs.Prelude.{◌≡◌, ◌≤◌, [], ◌∷◌, ◌++◌, length, OnOk, OnErr};
 ghost use Rattle.std.specs.Int.{w16, w32, to_be_bytes};
 ghost use Rattle.apt_base.specs.Fields.{i64_form, bool_form, bytes_form, text_form};

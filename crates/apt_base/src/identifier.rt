@@ -1,74 +1,81 @@
 // Identifiers, names of dots and patterns of names.
-ghost use Rattle.std.specs.Prelude.{◌≡◌, ◌∷◌, ◌++◌, MatchOption};
+ghost use Rattle.std.specs.Prelude.{◌≡◌, map, MatchOption};
 ghost use Rattle.std.specs.List.{list_all};
 ghost use Rattle.std.specs.Str.{chars};
-ghost use Rattle.apt_base.specs.Identifiers.{HasNoDot, is_reserved, starts_identifier, continues_identifier, is_word, is_identifier, is_dotted, is_pattern};
+ghost use Rattle.apt_base.specs.Identifiers.{HasNoDot, IsSplit, numbered, reserved_words, is_reserved, starts_identifier, continues_identifier, is_word, is_identifier, is_dotted, is_pattern};
 
 use unicode_ident::{is_xid_continue, is_xid_start};
 
-// The keywords (JLS 3.9), then the literals that are no identifiers either (JLS 3.10.3, 3.10.7).
-const RESERVED_WORDS: [&[u8]; 54] = [
-    b"abstract",
-    b"assert",
-    b"boolean",
-    b"break",
-    b"byte",
-    b"case",
-    b"catch",
-    b"char",
-    b"class",
-    b"const",
-    b"continue",
-    b"default",
-    b"do",
-    b"double",
-    b"else",
-    b"enum",
-    b"extends",
-    b"final",
-    b"finally",
-    b"float",
-    b"for",
-    b"goto",
-    b"if",
-    b"implements",
-    b"import",
-    b"instanceof",
-    b"int",
-    b"interface",
-    b"long",
-    b"native",
-    b"new",
-    b"package",
-    b"private",
-    b"protected",
-    b"public",
-    b"return",
-    b"short",
-    b"static",
-    b"strictfp",
-    b"super",
-    b"switch",
-    b"synchronized",
-    b"this",
-    b"throw",
-    b"throws",
-    b"transient",
-    b"try",
-    b"void",
-    b"volatile",
-    b"while",
-    b"_",
-    b"true",
-    b"false",
-    b"null",
+// The keywords by number (JLS 3.9), then the literals that are no identifiers either (JLS 3.10.3, 3.10.7).
+static RESERVED_WORDS: [(&str, u8); 54] = [
+    ("abstract", 0),
+    ("assert", 1),
+    ("boolean", 2),
+    ("break", 3),
+    ("byte", 4),
+    ("case", 5),
+    ("catch", 6),
+    ("char", 7),
+    ("class", 8),
+    ("const", 9),
+    ("continue", 10),
+    ("default", 11),
+    ("do", 12),
+    ("double", 13),
+    ("else", 14),
+    ("enum", 15),
+    ("extends", 16),
+    ("final", 17),
+    ("finally", 18),
+    ("float", 19),
+    ("for", 20),
+    ("goto", 21),
+    ("if", 22),
+    ("implements", 23),
+    ("import", 24),
+    ("instanceof", 25),
+    ("int", 26),
+    ("interface", 27),
+    ("long", 28),
+    ("native", 29),
+    ("new", 30),
+    ("package", 31),
+    ("private", 32),
+    ("protected", 33),
+    ("public", 34),
+    ("return", 35),
+    ("short", 36),
+    ("static", 37),
+    ("strictfp", 38),
+    ("super", 39),
+    ("switch", 40),
+    ("synchronized", 41),
+    ("this", 42),
+    ("throw", 43),
+    ("throws", 44),
+    ("transient", 45),
+    ("try", 46),
+    ("void", 47),
+    ("volatile", 48),
+    ("while", 49),
+    ("_", 50),
+    ("true", 51),
+    ("false", 52),
+    ("null", 53),
 ];
+
+/// The reserved words, each with its number: the keywords from 0 in the order of the alphabet, with `_` last (JLS 3.9), and behind them `true`, `false` and `null` (JLS 3.10.3, 3.10.7). It takes no memory.
+pub fn reserved_words() -> &'static [(&'static str, u8)]
+    ensures { map (λ row. (row.0.now, row.1)) result.now ≡ numbered 0 reserved_words }
+{
+    &RESERVED_WORDS
+}
 
 /// Whether the bytes are a keyword (JLS 3.9), `true`, `false` or `null` (JLS 3.10.3, 3.10.7). It takes no memory.
 pub fn is_reserved(text: &[u8]) -> bool
     ensures { result ≡ is_reserved text.now }
 {
-    RESERVED_WORDS.iter().any(|word| text == *word)
+    RESERVED_WORDS.iter().any(|row| text == row.0.as_bytes())
 }
 
 fn starts_identifier(c: char) -> bool
@@ -109,7 +116,7 @@ pub fn is_identifier(text: &str) -> bool
 
 // What stands before the first dot and behind it.
 fn split_dot(text: &str) -> Option<(&str, &str)>
-    ensures { MatchOption result (HasNoDot text.now) (λ x. (text.now ≡ x.0.now ++ (46 ∷ x.1.now)) × HasNoDot x.0.now) }
+    ensures { MatchOption result (HasNoDot text.now) (λ x. IsSplit text.now x.0.now x.1.now) }
 {
     text.split_once('.')
 }

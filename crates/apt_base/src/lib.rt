@@ -23,7 +23,7 @@ pub use element::ElementRef;
 pub use fault::FormFault;
 pub use field_reader::FieldReader;
 pub use field_writer::FieldWriter;
-pub use identifier::{is_dotted, is_identifier, is_pattern, is_reserved};
+pub use identifier::{is_dotted, is_identifier, is_pattern, is_reserved, reserved_words};
 pub use kinds::{Claim, Kind, What};
 pub use list::List;
 pub use memory::NoMemory;

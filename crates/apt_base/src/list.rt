@@ -1,3 +1,4 @@
+// A list that contracts see as a list.
 ghost use Rattle.std.specs.Prelude.{◌≡◌, ◌==◌, [], ◌∷◌, ◌++◌, ◌<◌, length, slice_get, OnOk, OnErr, OnSome, IfOk};
 ghost use Rattle.std.specs.Option.{option_copied};
 

@@ -1,3 +1,4 @@
+// A text that contracts see as its bytes.
 ghost use Rattle.std.specs.Prelude.{◌≡◌, IfOk, string_bytes};
 
 use crate::{List, NoMemory};

@@ -5,50 +5,41 @@
 //! be printed. Other words are answered by `refused` and status 2. Status 3 is want of memory.
 #![tactic(auto)]
 
-mod case;
-mod table;
-mod token_cases;
-mod words;
-
 use std::alloc::{AllocError, Global};
+use std::env::Env;
+use std::io;
 use std::process::ExitCode;
-use table::{Table, all_pass};
-use words::{Task, read_words};
+use vector_tables::{Answer, Task, answer_to, status_after, task_of};
 
-/// The lines on these tables, and whether all of them passed.
-fn report(alloc: Global, tables: &[Table]) -> Result<(String, bool), AllocError> {
-    let mut lines = String::new(alloc);
-    let mut all = true;
-    for table in tables {
-        let passed = all_pass(alloc, table.cases())?;
-        let word = if passed { "passed" } else { "failed" };
-        let line = format!(in alloc; "{}: {word}\n", table.name())?;
-        lines.push_str(line.as_str())?;
-        all = all && passed;
+// The exit status for want of memory.
+const MEMORY: u8 = 3;
+
+// The task that the words of the call name. The one error is want of memory.
+fn read_task<E: Env + AllocGlobal>(alloc: Global, rt: &E) -> Result<Task, AllocError> {
+    match std::env::args(rt) {
+        Ok(words) => {
+            let words: Vec<String> = words.collect(alloc)?;
+            task_of(alloc, words.as_slice())
+        }
+        Err(error) if error.kind() == io::ErrorKind::OutOfMemory => Err(AllocError),
+        Err(_) => Ok(Task::Refused),
     }
-    Ok((lines, all))
 }
 
-/// Runs these tables and prints their lines.
-fn run(rt: &HostRuntime, alloc: Global, tables: &[Table]) -> ExitCode {
-    let Ok((lines, all)) = report(alloc, tables) else {
-        return ExitCode::from(3);
-    };
-    match print!(rt; "{lines}") {
-        Ok(()) if all => ExitCode::from(0),
-        _ => ExitCode::from(1),
-    }
+// The answer to the words of the call.
+fn answer_words(rt: &HostRuntime) -> Result<Answer, AllocError> {
+    let alloc = rt.alloc();
+    let task = read_task(alloc, rt)?;
+    answer_to(alloc, task)
 }
 
 fn main(rt: HostRuntime) -> ExitCode {
-    let alloc = rt.alloc();
-    match read_words(alloc, &rt) {
-        Ok(Task::Each) => run(&rt, alloc, &Table::ALL),
-        Ok(Task::One(table)) => run(&rt, alloc, &[table]),
-        Ok(Task::Refused) => {
-            let _ = println!(rt; "refused");
-            ExitCode::from(2)
+    match answer_words(&rt) {
+        Ok(answer) => {
+            let text = answer.text;
+            let printed = print!(rt; "{text}").is_ok();
+            ExitCode::from(status_after(answer.status, printed))
         }
-        Err(_) => ExitCode::from(3),
+        Err(_) => ExitCode::from(MEMORY),
     }
 }

@@ -50,7 +50,7 @@ fn sum(alloc: Global, reader: &mut FieldReader) -> Result<List<ValueText>, FormF
     Ok(items)
 }
 
-/// A value, which opens itself, where so many more may open.
+/// A value, which opens itself, where that number more may open.
 #[cycle(annotation_reading)]
 pub(crate) fn value(
     alloc: Global,
@@ -108,7 +108,7 @@ fn opened(alloc: Global, reader: &mut FieldReader, room: u32) -> Result<ValueTex
     }
 }
 
-/// An annotation in whose values so many more may open.
+/// An annotation in whose values that number more may open.
 #[cycle(annotation_reading)]
 #[tactic(auto, unfolding(crate::specs::Reading::annotation_next, crate::specs::Reading::annotation_in))]
 pub(crate) fn annotation(

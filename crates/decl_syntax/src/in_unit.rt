@@ -14,7 +14,7 @@ use std::alloc::Global;
 
 /// What stands in a unit, alone, in a list or where it may be left out.
 pub(crate) trait InUnit: Drop {
-    /// How it is read where so many more may open.
+    /// How it is read where that number more may open.
     ghost next: { ℕ → Reader Self };
 
     /// How it is spelled.

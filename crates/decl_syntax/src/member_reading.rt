@@ -38,7 +38,7 @@ pub(crate) struct ConstructorHeading {
     parameters: List<TypeParam>,
 }
 
-// Whether an element may have so many type parameters and so many other children.
+// Whether an element may have that number of type parameters and of other children.
 fn are_few(parameters: usize, others: usize) -> bool
     ensures { result ≡ are_few (parameters + others) }
 {

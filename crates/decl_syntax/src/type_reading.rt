@@ -91,7 +91,7 @@ fn read_opening(alloc: Global, reader: &mut FieldReader) -> Result<Opening, Form
     }
 }
 
-/// A type within which so many more may open, each inside the one before.
+/// A type within which that number more may open, each inside the one before.
 #[cycle(type_reading)]
 #[tactic(auto, unfolding(crate::specs::Reading::type_next, crate::specs::Reading::type_in))]
 pub(crate) fn type_text(

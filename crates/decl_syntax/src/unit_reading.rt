@@ -53,7 +53,7 @@ fn kind(reader: &mut FieldReader) -> Result<TypeKind, FormFault>
     }
 }
 
-// The last part of a canonical name, before which so many bytes of it stand.
+// The last part of a canonical name, behind a number of its bytes.
 fn canonical(alloc: Global, reader: &mut FieldReader, start: usize) -> Result<Name, FormFault>
     requires { start ≤ 1025 }
     ensures gives { Gives result (canonical_next start reader.old) reader.new }
@@ -95,7 +95,7 @@ fn enum_methods(kind: TypeKind) -> usize
     }
 }
 
-// Whether a type may have so many type parameters and these members, the implicit ones counted.
+// Whether a type may have that number of type parameters and these members, the implicit ones counted.
 fn are_few(kind: TypeKind, parameters: usize, members: &[Member]) -> bool
     ensures { result ≡ are_few (parameters + length members.now + default_constructors kind members.now + enum_methods kind) }
 {
@@ -157,7 +157,7 @@ fn read_type_head(
     })
 }
 
-/// A declaration in which so many more may open, and whose canonical name has so many bytes before its simple name.
+/// A declaration in which that number more may open, and whose canonical name has that number of bytes before its simple name.
 #[cycle(unit_reading)]
 #[tactic(auto, unfolding(crate::specs::Reading::declaration_next, crate::specs::Reading::declaration_in))]
 fn declaration(

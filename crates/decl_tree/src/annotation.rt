@@ -1,3 +1,4 @@
+// Annotations and their values, as they are written.
 ghost use Rattle.std.specs.Prelude.{◌≡◌, IfOk};
 
 use crate::type_text::TypeText;

@@ -1,3 +1,4 @@
+// Type declarations.
 ghost use Rattle.std.specs.Prelude.{◌≡◌, IfOk};
 
 use crate::annotation::{AnnotationText, copy_annotations};

@@ -1,3 +1,4 @@
+// Members, parameters and type parameters.
 ghost use Rattle.std.specs.Prelude.{◌≡◌, IfOk};
 
 use crate::annotation::{AnnotationText, ValueText, copy_annotations, copy_value};

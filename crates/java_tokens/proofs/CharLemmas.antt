@@ -1,14 +1,15 @@
 -- What a character at the front of a text is, and where there is none.
-use lib.Utf8.{scalar_cases, scalars, scalar as scalar_of}
-use Rattle.std.proofs.Common.{◌≡◌, ◌⊎◌, inl, inr, Option, None, Some, MatchOption, Bool, true, false, ◌&&◌, min, suc, ℕ, ◌+◌, ◌%◌, ◌<◌, ◌≤◌, List, ◌∷◌, replicate, ◌++◌, length, take, drop, refl, sym, ap, ◌∙◌, subst, arith, append_assoc, length-append}
+use lib.Utf8.{scalar_cases, low_scalar, scalars, scalar as scalar_of}
+use Rattle.std.proofs.Common.{◌≡◌, ◌⊎◌, inl, inr, Option, None, Some, MatchOption, Bool, true, false, ◌&&◌, eqb, min, suc, ℕ, ◌+◌, ◌%◌, ◌<◌, ◌≤◌, List, [], ◌∷◌, replicate, ◌++◌, length, take, drop, slice_index, refl, sym, ap, ◌∙◌, subst, arith, append_assoc, length-append}
+use Rattle.std.proofs.lemmas.Bool.{false≢true}
 use Rattle.std.proofs.lemmas.List.{drop_at, take_at, length-take, length-replicate, take-append-drop}
 use Rattle.std.proofs.Math.Seq.{take-take}
-use Rattle.std.proofs.lemmas.Str.{length-encode, len_utf8_bounds, IsUtf8-encode, cons_from_encodes, encode_same}
+use Rattle.std.proofs.lemmas.Str.{length-encode, len_utf8_bounds, IsUtf8-encode, cons_from_encodes, encode_same, encode_ascii}
 use Rattle.std.specs.Prelude.{encode_utf8}
 use Rattle.std.specs.Char.{IsScalar, len_utf8}
 use Rattle.std.specs.Str.{StartsWithNoChar, IsUtf8}
 use Rattle.java_tokens.specs.Escapes.{IsEscape, HasEscape, NoEscape}
-use Rattle.java_tokens.specs.Characters.{BeginsEscape, IsHigh, IsLow, joined, Spells, raw, escape, pair, HasChar, HasNoChar}
+use Rattle.java_tokens.specs.Characters.{BeginsEscape, IsHigh, IsLow, joined, BeginsWith, Spells, raw, escape, pair, HasChar, HasNoChar}
 use Rattle.java_tokens.proofs.EscapeLemmas.{one_escape}
 
 -- whether an escape begins is a matter of the parity
@@ -110,6 +111,11 @@ first_found bytes text rest after k (Some c) is split utf8 longest found =
 
     first_scalar : (d : ℕ) (es : List ℕ) → scalars (d ∷ es) ≡ true → IsScalar d
     first_scalar d es e = both (scalar_of d) (scalars es) e
+
+-- an ASCII byte is a character
+pub ascii_begins : (bytes : List ℕ) → false ≡ eqb (length bytes) 0 → slice_index bytes 0 < 128 → BeginsWith bytes (slice_index bytes 0)
+ascii_begins [] some low = absurd (false≢true some)
+ascii_begins (b ∷ rest) some low = (low_scalar b (omega (arith, low)), (rest, sym (ap (λ h. h ++ rest) (encode_ascii b low))))
 
 -- an escape begins with two bytes
 pub long_escape : (s : ℕ) (bytes : List ℕ) → BeginsEscape s bytes → length bytes ≤ 1 → ⊥

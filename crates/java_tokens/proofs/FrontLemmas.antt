@@ -11,14 +11,14 @@ use Rattle.case_table.specs.Rows.{number_of}
 use Rattle.java_tokens.specs.declared.token.TokenKind.{TokenKind}
 use Rattle.java_tokens.specs.declared.token.TokenKind.TheVariants.{Operator}
 use Rattle.java_tokens.specs.Sorts.{sort_of}
-use Rattle.java_tokens.specs.Words.{reserved_rows, operator_rows}
+use Rattle.java_tokens.specs.Words.{word_rows, operator_rows}
 use Rattle.java_tokens.specs.Tokens.{Begins, HasNoNext}
-use Rattle.java_tokens.specs.Table.{class_of, kind_by, kind_of, operator_by, bytes_of, IsLongest, IsUnknown, IsBest, HasNone, IsBestFront, IsFront, IsOperatorFront, HasNoOperator, plain_by, plain_word, word_by, word_kind, separates, is_text_block, Passes}
+use Rattle.java_tokens.specs.Table.{class_of, kind_by, kind_of, operator_by, bytes_of, IsLongest, IsUnknown, IsBest, HasNone, IsBestFront, IsFront, IsOperatorFront, HasNoOperator, word_by, word_kind, separates, is_text_block, Passes}
 use Rattle.java_tokens.proofs.TableLemmas.{both_true, all_below}
 use Rattle.java_tokens.proofs.KindLemmas.{operator_class}
 use Rattle.java_tokens.proofs.ScanLemmas.{bytes_within}
 use Rattle.java_tokens.proofs.NextLemmas.{next_of_best, no_next_other, begins_taken, begins_of, text_block_is, not_text_block}
-use Rattle.java_tokens.proofs.AsciiLemmas.{encodes_ascii, chars_taken, same_front, texts_low, same_number, same_number_all, same_text}
+use Rattle.java_tokens.proofs.AsciiLemmas.{encodes_ascii, chars_taken, same_front, texts_low, same_number, same_number_all}
 
 abbrev all_rows : (List ℕ → Bool) → List (List ℕ × ℕ) → Bool
 all_rows p [] = true
@@ -177,17 +177,12 @@ front_boundary bs m width utf8 wide = IsCharBoundary-from_take bs width utf8 (fr
 pub front_chars : (bs : List ℕ) (m width : ℕ) → IsUtf8 bs → width ≡ bytes_of (chars bs) m → chars (take width bs) ≡ take m (chars bs)
 front_chars bs m width utf8 wide = ap chars (front_bytes bs m width utf8 wide) ∙ chars-encodes (take m (chars bs)) (scalars_taken (chars bs) m (scalars-chars bs utf8))
 
-pub reserved_test : texts_low reserved_rows ≡ true
-reserved_test = refl
+words_test : texts_low word_rows ≡ true
+words_test = refl
 
 -- a word in bytes and in characters
-pub reserved_number : (w : List ℕ) (o : Option ℕ) → IsUtf8 w → number_of reserved_rows w ≡ o → word_kind (chars w) ≡ word_by o (chars w)
-reserved_number w o utf8 is = ap (λ n. word_by n (chars w)) (sym (same_number_all reserved_rows w reserved_test utf8) ∙ is)
-
-pub plain_is : (w : List ℕ) (a b c : Bool) → IsUtf8 w → bytes_eq w (codes "true") ≡ a → bytes_eq w (codes "false") ≡ b → bytes_eq w (codes "null") ≡ c → plain_by a b c ≡ plain_word (chars w)
-plain_is w a b c utf8 p q r =
-    ap (λ x. plain_by x b c) (sym p ∙ same_text (codes "true") w refl utf8) ∙ ap (λ x. plain_by (bytes_eq (chars w) (codes "true")) x c) (sym q ∙ same_text (codes "false") w refl utf8)
-    ∙ ap (plain_by (bytes_eq (chars w) (codes "true")) (bytes_eq (chars w) (codes "false"))) (sym r ∙ same_text (codes "null") w refl utf8)
+pub word_number : (w : List ℕ) (o : Option ℕ) → IsUtf8 w → number_of word_rows w ≡ o → word_kind (chars w) ≡ word_by o
+word_number w o utf8 is = ap word_by (sym (same_number_all word_rows w words_test utf8) ∙ is)
 
 begun : (o : List ℕ) (bs : List ℕ) (b : Bool) → all_below 128 o ≡ true → IsUtf8 bs → bytes_eq (take (length o) bs) o ≡ b → bytes_eq (take (length o) (chars bs)) o ≡ b
 begun o bs b low utf8 is = sym (same_front (length o) o bs low utf8) ∙ is

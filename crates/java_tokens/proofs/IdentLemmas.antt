@@ -4,6 +4,8 @@ use Rattle.std.proofs.lemmas.Bool.{false≢true, cases_lt}
 use Rattle.std.proofs.lemmas.Bool.Decides.{Decides-eqb}
 use Rattle.std.specs.Char.{is_ascii_alphabetic, is_ascii_alphanumeric}
 use Rattle.unicode_ident.specs.Ident.{is_xid_start, is_xid_continue}
+use Rattle.unicode_ident.proofs.IdentLemmas.{is_xid_start-ascii, is_xid_continue-ascii, is_xid_start-is_xid_continue}
+use Rattle.apt_base.specs.Identifiers.{starts_identifier, continues_identifier}
 use Rattle.java_tokens.specs.Forms.{among}
 use Rattle.java_tokens.specs.Sorts.{sort_of, sort_in, sort_rows}
 use Rattle.java_tokens.specs.Literals.{word_starts, word_parts}
@@ -71,20 +73,28 @@ rows_sort : (c : ℕ) → sort_in sort_rows c ≡ sort_of c
 unfolding sort_of
 rows_sort c = refl
 
-pub start_sort : (c : ℕ) (r : Bool) → r ≡ is_xid_start c → (c < 128 → r ≡ is_ascii_alphabetic c) → ((r || eqb c 95) || eqb c 36) ≡ among word_starts (sort_of c)
-start_sort c r is ascii = by_place (cases_lt c 128)
+start_is : (c : ℕ) → ((is_xid_start c || eqb c 95) || eqb c 36) ≡ among word_starts (sort_of c)
+start_is c = by_place (cases_lt c 128)
   where
-    by_place : (c < 128) ⊎ (128 ≤ c) → ((r || eqb c 95) || eqb c 36) ≡ among word_starts (sort_of c)
-    by_place (inl h) = ap (λ x. (x || eqb c 95) || eqb c 36) (ascii h) ∙ starts_at 128 c starts_test h ∙ ap (among word_starts) (rows_sort c)
-    by_place (inr h) = plain r (eqb c 95) (eqb c 36) (other c 95 (omega arith) h) (other c 36 (omega arith) h) ∙ start_high c r (is_xid_continue c) h (sym is) refl
+    by_place : (c < 128) ⊎ (128 ≤ c) → ((is_xid_start c || eqb c 95) || eqb c 36) ≡ among word_starts (sort_of c)
+    by_place (inl h) = ap (λ x. (x || eqb c 95) || eqb c 36) (is_xid_start-ascii c h) ∙ starts_at 128 c starts_test h ∙ ap (among word_starts) (rows_sort c)
+    by_place (inr h) = plain (is_xid_start c) (eqb c 95) (eqb c 36) (other c 95 (omega arith) h) (other c 36 (omega arith) h) ∙ start_high c (is_xid_start c) (is_xid_continue c) h refl refl
+
+-- a character begins a word of the forms exactly where it begins an identifier (JLS 3.8)
+pub word_starts_are : (c : ℕ) → among word_starts (sort_of c) ≡ starts_identifier c
+word_starts_are c = sym (start_is c)
 
 or_false : (r b : Bool) → b ≡ false → (r || b) ≡ r
 or_false true b e = refl
 or_false false b e = e
 
-pub part_sort_of : (c : ℕ) (r s : Bool) → r ≡ is_xid_continue c → s ≡ is_xid_start c → (s ≡ true → r ≡ true) → (c < 128 → r ≡ (is_ascii_alphanumeric c || eqb c 95)) → (r || eqb c 36) ≡ among word_parts (sort_of c)
-part_sort_of c r s is start both ascii = by_place (cases_lt c 128)
+part_is : (c : ℕ) → (is_xid_continue c || eqb c 36) ≡ among word_parts (sort_of c)
+part_is c = by_place (cases_lt c 128)
   where
-    by_place : (c < 128) ⊎ (128 ≤ c) → (r || eqb c 36) ≡ among word_parts (sort_of c)
-    by_place (inl h) = ap (λ x. x || eqb c 36) (ascii h) ∙ parts_at 128 c parts_test h ∙ ap (among word_parts) (rows_sort c)
-    by_place (inr h) = or_false r (eqb c 36) (other c 36 (omega arith) h) ∙ part_high c s r h both (sym start) (sym is)
+    by_place : (c < 128) ⊎ (128 ≤ c) → (is_xid_continue c || eqb c 36) ≡ among word_parts (sort_of c)
+    by_place (inl h) = ap (λ x. x || eqb c 36) (is_xid_continue-ascii c h) ∙ parts_at 128 c parts_test h ∙ ap (among word_parts) (rows_sort c)
+    by_place (inr h) = or_false (is_xid_continue c) (eqb c 36) (other c 36 (omega arith) h) ∙ part_high c (is_xid_start c) (is_xid_continue c) h (is_xid_start-is_xid_continue c) refl refl
+
+-- it goes on with a word exactly where it goes on with an identifier
+pub word_parts_are : (c : ℕ) → among word_parts (sort_of c) ≡ continues_identifier c
+word_parts_are c = sym (part_is c)

@@ -170,10 +170,6 @@ abbrev pub AreSorts : List ℕ → Type 0
 AreSorts [] = Unit {0}
 AreSorts (k ∷ ks) = (k < 26) × AreSorts ks
 
-pub run_less : (s : ℕ) (ks : List ℕ) → s < 69 → run s ks < 69
-run_less s [] h = h
-run_less s (k ∷ ks) h = run_less (after s k) ks (after_less s k)
-
 pub run-append : (s : ℕ) (a b : List ℕ) → run s (a ++ b) ≡ run (run s a) b
 run-append s [] b = refl
 run-append s (k ∷ a) b = run-append (after s k) a b

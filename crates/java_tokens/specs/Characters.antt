@@ -38,6 +38,10 @@ HasChar slashes text width code = (spelling : List ℕ) × (after : List ℕ) ×
 abbrev pub HasNoChar : ℕ → List ℕ → Type 0
 HasNoChar slashes text = (width code : ℕ) → ¬ HasChar slashes text width code
 
+-- a text begins with this character in UTF-8
+abbrev pub BeginsWith : List ℕ → ℕ → Type 0
+BeginsWith text code = IsScalar code × ((rest : List ℕ) × (text ≡ encode_utf8 code ++ rest))
+
 -- how many `\` stand directly before what follows a character that is spelled so
 abbrev pub slashes_after : ℕ → List ℕ → ℕ
 slashes_after slashes spelling = if bytes_eq spelling (92 ∷ []) then slashes + 1 else 0

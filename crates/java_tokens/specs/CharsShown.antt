@@ -9,7 +9,8 @@ use Rattle.std.specs.Str.{chars}
 use Rattle.java_tokens.specs.declared.fault.TextFault.{TextFault}
 use Rattle.java_tokens.specs.declared.fault.TextFault.TheVariants.{Bad, Memory}
 use Rattle.java_tokens.specs.declared.shift.Shift.{Shift}
-use Rattle.java_tokens.specs.Characters.{Placed}
+use Rattle.java_tokens.specs.declared.reading.Read.{Read}
+use Rattle.java_tokens.specs.Characters.{Placed, HasChar}
 
 -- the places of characters of which the first has this one
 abbrev pub places_from : ℕ → List ℕ → List ℕ
@@ -40,6 +41,10 @@ Ascend shifts = IsNonDecreasingBy (λ s. s.place) shifts
 -- no shift is further than this
 abbrev pub AreWithin : ℕ → List Shift → Type 0
 AreWithin most shifts = All (λ s. s.by ≤ most) shifts
+
+-- a text begins with what was read
+abbrev pub HasRead : ℕ → List ℕ → Read → Type 0
+HasRead slashes text read = HasChar slashes text read.width read.code
 
 -- what a fault says of its place; want of memory says nothing
 abbrev pub FaultAt : (ℕ → Type 0) → TextFault → Type 0

@@ -1,12 +1,12 @@
 -- How the table is followed, and what a text is by it. These say what the functions of the crate compute; that this is
 -- what `Tokens` says is proved of `tokens`.
-use Rattle.std.specs.Prelude.{◌≡◌, ◌⊎◌, ◌||◌, Bool, true, false, ℕ, zero, suc, ◌+◌, ◌*◌, ◌<◌, ◌≤◌, List, [], ◌∷◌, length, take, map, slice_index, bytes_eq, codes, Option, None, Some, if◌then◌else◌}
-use Rattle.std.specs.Str.{encode_utf8_all}
+use Rattle.std.specs.Prelude.{◌≡◌, ◌⊎◌, Bool, true, false, ℕ, zero, suc, ◌+◌, ◌*◌, ◌<◌, ◌≤◌, nat_lt, List, [], ◌∷◌, length, take, map, slice_index, bytes_eq, Option, None, Some, if◌then◌else◌}
+use Rattle.std.specs.Str.{chars, encode_utf8_all}
 use Rattle.case_table.specs.Rows.{number_of}
 use Rattle.java_tokens.specs.declared.token.TokenKind.{TokenKind}
 use Rattle.java_tokens.specs.declared.token.TokenKind.TheVariants.{Identifier, Reserved, Integer, Floating, Character, Text, TextBlock, Operator, Truth, Null}
 use Rattle.java_tokens.specs.declared.automaton.TheConstants.{STEPS, CLASSES}
-use Rattle.java_tokens.specs.Words.{reserved_rows, operator_rows}
+use Rattle.java_tokens.specs.Words.{word_rows, operator_rows}
 use Rattle.java_tokens.specs.Sorts.{sort_of}
 use Rattle.java_tokens.specs.Tokens.{IsNext}
 
@@ -30,20 +30,17 @@ state_of t = run 0 (map sort_of t)
 abbrev pub class_of : List ℕ → ℕ
 class_of t = class_at (state_of t)
 
--- what a word that is not reserved is: is it `true`, `false` or `null`
-abbrev pub plain_by : Bool → Bool → Bool → TokenKind
-plain_by a b c = if a || b then Truth else (if c then Null else Identifier)
+-- what the reserved word with a number is: a keyword, or a literal behind them
+abbrev pub reserved_kind : ℕ → TokenKind
+reserved_kind n = if nat_lt n 51 then Reserved n else (if nat_lt n 53 then Truth else Null)
 
-abbrev pub plain_word : List ℕ → TokenKind
-plain_word t = plain_by (bytes_eq t (codes "true")) (bytes_eq t (codes "false")) (bytes_eq t (codes "null"))
-
-abbrev pub word_by : Option ℕ → List ℕ → TokenKind
-word_by (Some n) t = Reserved n
-word_by None t = plain_word t
+abbrev pub word_by : Option ℕ → TokenKind
+word_by (Some n) = reserved_kind n
+word_by None = Identifier
 
 -- what a word is
 abbrev pub word_kind : List ℕ → TokenKind
-word_kind t = word_by (number_of reserved_rows t) t
+word_kind t = word_by (number_of word_rows t)
 
 abbrev pub operator_by : Option ℕ → Option (Option TokenKind)
 operator_by (Some n) = Some (Some (Operator n))
@@ -92,6 +89,13 @@ pub record IsUnknown (cs : List ℕ) (n : ℕ) : Type 0 where
 abbrev pub IsFound : List ℕ → ℕ → ℕ → ℕ → Type 0
 IsFound cs n width class = (m : ℕ) × IsLongest cs n m class × (width ≡ bytes_of cs m)
 
+-- of all fronts of a text in UTF-8 that is the longest, and none has a class
+abbrev pub IsFoundFront : List ℕ → ℕ → ℕ → Type 0
+IsFoundFront text width class = IsFound (chars text) (length (chars text)) width class
+
+abbrev pub IsUnknownText : List ℕ → Type 0
+IsUnknownText text = IsUnknown (chars text) (length (chars text))
+
 -- the longest front that is an operator
 pub record IsOperatorFront (bytes : List ℕ) (width number : ℕ) : Type 0 where
   pub within : width ≤ length bytes
@@ -114,6 +118,14 @@ pub record HasNone (cs : List ℕ) (n : ℕ) : Type 0 where
 -- the longest front is spelled by so many bytes
 abbrev pub IsBestFront : List ℕ → ℕ → Option TokenKind → Type 0
 IsBestFront cs width kind = (m : ℕ) × IsBest cs (length cs) m kind × (width ≡ bytes_of cs m)
+
+-- the same of a text in UTF-8
+abbrev pub IsBestIn : List ℕ → ℕ → Option TokenKind → Type 0
+IsBestIn text width kind = IsBestFront (chars text) width kind
+
+-- no front of it is a token or separator
+abbrev pub HasNoFront : List ℕ → Type 0
+HasNoFront text = HasNone (chars text) (length (chars text))
 
 -- the token or separator at the front is spelled by so many bytes
 abbrev pub IsFront : List ℕ → ℕ → Option TokenKind → Type 0

@@ -1,8 +1,7 @@
 // The table by which tokens are read: from state to state, by the sorts of characters.
-ghost use Rattle.std.specs.Prelude.{◌≡◌, ◌<◌, length, MatchOption};
-ghost use Rattle.std.specs.Str.{chars};
+ghost use Rattle.std.specs.Prelude.{◌≡◌, ◌<◌, MatchOption};
 ghost use Rattle.java_tokens.specs.Sorts as sorts;
-ghost use Rattle.java_tokens.specs.Table.{after, class_at, IsUnknown, IsFound};
+ghost use Rattle.java_tokens.specs.Table.{after, class_at, IsUnknownText, IsFoundFront};
 
 /// How many sorts of characters there are.
 pub const SORTS: usize = 26;
@@ -53,7 +52,7 @@ pub const STEPS: [u8; 1794] = [
     12, 12, 12, 12, 4, 14, 15, 4, 4, 4, 4, 32, 4, 4, 19, 4, 4, 4, 4, 4, 4, 4, 4, 4, 4, 12,
     // 13: 0b
     33, 33, 4, 4, 4, 4, 4, 4, 4, 4, 4, 4, 4, 4, 4, 4, 4, 4, 4, 4, 4, 4, 4, 4, 4, 4,
-    // 14: 0f
+    // 14: 0d
     4, 4, 4, 4, 4, 4, 4, 4, 4, 4, 4, 4, 4, 4, 4, 4, 4, 4, 4, 4, 4, 4, 4, 4, 4, 4,
     // 15: 0e
     34, 34, 34, 34, 4, 4, 4, 4, 4, 4, 4, 4, 4, 4, 4, 35, 4, 4, 4, 4, 4, 4, 4, 4, 4, 34,
@@ -207,7 +206,7 @@ pub struct Found {
 
 /// The longest front that is a separator, a word or a literal by the table.
 pub fn longest_front(text: &str) -> Option<Found>
-    ensures { MatchOption result (IsUnknown (chars text.now) (length (chars text.now))) (λ f. IsFound (chars text.now) (length (chars text.now)) f.width f.class) }
+    ensures { MatchOption result (IsUnknownText text.now) (λ f. IsFoundFront text.now f.width f.class) }
 {
     let mut state = 0;
     let mut width = 0;

@@ -2,14 +2,20 @@
 ghost use Rattle.std.specs.Prelude.{◌≡◌, ◌<◌, length, take, bytes_eq, Some, MatchOption, MatchBool};
 ghost use Rattle.std.specs.Str.{chars};
 ghost use Rattle.case_table.specs.Rows.{shown};
-ghost use Rattle.java_tokens.specs.Words.{reserved_rows, operator_rows};
+ghost use Rattle.java_tokens.specs.Words.{word_rows, operator_rows};
 ghost use Rattle.java_tokens.specs.Tokens.{HasNoNext};
 ghost use Rattle.java_tokens.specs.Table as table;
-ghost use Rattle.java_tokens.specs.Table.{IsFront, IsBestFront, HasNone, IsOperatorFront, HasNoOperator};
+ghost use Rattle.java_tokens.specs.Table.{IsFront, IsBestIn, HasNoFront, IsOperatorFront, HasNoOperator};
 
 use crate::TokenKind;
 use crate::automaton::longest_front;
 use case_table::Cases;
+
+// How many keywords there are: the numbers of `true` and `false` are the next ones.
+const KEYWORDS: u8 = 51;
+
+// The number of `null`.
+const NULL: u8 = 53;
 
 /// A token or separator at the front of a text.
 #[derive(Clone, Copy)]
@@ -22,7 +28,7 @@ pub struct Front {
 
 /// The token or separator at the front of a text.
 pub fn next_front(words: &Cases<'_>, operators: &Cases<'_>, text: &str) -> Option<Front>
-    requires words { shown words.now.rows.now ≡ reserved_rows }
+    requires words { shown words.now.rows.now ≡ word_rows }
     requires operators { shown operators.now.rows.now ≡ operator_rows }
     ensures { MatchOption result (HasNoNext (chars text.now)) (λ f. IsFront (chars text.now) f.width f.kind) }
 {
@@ -34,7 +40,7 @@ pub fn next_front(words: &Cases<'_>, operators: &Cases<'_>, text: &str) -> Optio
 
 // A front, unless a comment or a text block begins there and the front is none.
 fn allowed(text: &str, front: Front) -> Option<Front>
-    requires { IsBestFront (chars text.now) front.width front.kind }
+    requires { IsBestIn text.now front.width front.kind }
     ensures { MatchOption result (HasNoNext (chars text.now)) (λ f. IsFront (chars text.now) f.width f.kind) }
 {
     if clashes(text.as_bytes(), b"/*", separates(front.kind)) {
@@ -82,9 +88,9 @@ pub fn begins(bytes: &[u8], front: &[u8]) -> bool
 
 // The longest front that is a token or separator.
 fn best_front(words: &Cases<'_>, operators: &Cases<'_>, text: &str) -> Option<Front>
-    requires words { shown words.now.rows.now ≡ reserved_rows }
+    requires words { shown words.now.rows.now ≡ word_rows }
     requires operators { shown operators.now.rows.now ≡ operator_rows }
-    ensures { MatchOption result (HasNone (chars text.now) (length (chars text.now))) (λ f. IsBestFront (chars text.now) f.width f.kind) }
+    ensures { MatchOption result (HasNoFront text.now) (λ f. IsBestIn text.now f.width f.kind) }
 {
     match longest_front(text) {
         Some(found) => {
@@ -100,7 +106,7 @@ fn best_front(words: &Cases<'_>, operators: &Cases<'_>, text: &str) -> Option<Fr
 
 // What a text of a class is.
 fn known_kind(words: &Cases<'_>, class: u8, front: &str) -> Option<TokenKind>
-    requires words { shown words.now.rows.now ≡ reserved_rows }
+    requires words { shown words.now.rows.now ≡ word_rows }
     requires class { class < 7 }
     ensures { table.kind_by class (chars front.now) ≡ Some result }
 {
@@ -118,36 +124,33 @@ fn known_kind(words: &Cases<'_>, class: u8, front: &str) -> Option<TokenKind>
 
 // What a word is.
 fn word_kind(words: &Cases<'_>, word: &str) -> TokenKind
-    requires { shown words.now.rows.now ≡ reserved_rows }
+    requires { shown words.now.rows.now ≡ word_rows }
     ensures { result ≡ table.word_kind (chars word.now) }
 {
     match words.find(word.as_bytes()) {
-        Some(number) => TokenKind::Reserved(number),
-        None => plain_word(word),
+        Some(number) => reserved_kind(number),
+        None => TokenKind::Identifier,
     }
 }
 
-// What a word is that is not reserved.
-fn plain_word(word: &str) -> TokenKind
-    ensures { result ≡ table.plain_word (chars word.now) }
+// What the reserved word with a number is: a keyword, or a literal behind them.
+fn reserved_kind(number: u8) -> TokenKind
+    ensures { result ≡ table.reserved_kind number }
 {
-    if word == "true" {
+    if number < KEYWORDS {
+        return TokenKind::Reserved(number);
+    }
+    if number < NULL {
         return TokenKind::Truth;
     }
-    if word == "false" {
-        return TokenKind::Truth;
-    }
-    if word == "null" {
-        return TokenKind::Null;
-    }
-    TokenKind::Identifier
+    TokenKind::Null
 }
 
 // The longest operator at the front of a text that the table does not know.
 fn operator_front(operators: &Cases<'_>, text: &str) -> Option<Front>
     requires operators { shown operators.now.rows.now ≡ operator_rows }
-    requires unknown { table.IsUnknown (chars text.now) (length (chars text.now)) }
-    ensures { MatchOption result (HasNone (chars text.now) (length (chars text.now))) (λ f. IsBestFront (chars text.now) f.width f.kind) }
+    requires unknown { table.IsUnknownText text.now }
+    ensures { MatchOption result (HasNoFront text.now) (λ f. IsBestIn text.now f.width f.kind) }
 {
     match longest_operator(operators, text.as_bytes()) {
         Some((width, number)) => Some(Front {

@@ -1,14 +1,13 @@
 // The tokens of the characters of a file.
-ghost use Rattle.std.specs.Prelude.{ℕ, List, ◌≡◌, option_map, if◌then◌else◌, Some, MatchBool, MatchResult};
+ghost use Rattle.std.specs.Prelude.{ℕ, List, ◌≡◌, MatchBool};
 ghost use Rattle.std.specs.Str.{chars as codes_of};
-ghost use Rattle.java_tokens.specs.CharsShown.{FaultAt};
-ghost use Rattle.java_tokens.specs.Tokens.{IsEnd, Lexeme, AreTokens, IsTokenFault, HasTokens};
+ghost use Rattle.java_tokens.specs.Tokens.{IsEnd, Lexeme, HasTokens};
 ghost use Rattle.java_tokens.specs.Tokens as spec;
-ghost use Rattle.java_tokens.specs.TokensShown.{codes_in, offsets_in, shown_tokens};
+ghost use Rattle.java_tokens.specs.TokensShown.{codes_in, offsets_in, shown_doc, later_doc, AreTokensIn, IsTokenFaultIn, Lexes, LexesOnly, FaultsOnly};
 
 use crate::fronts::{begins, next_front};
 use crate::place::{Place, offset_at, place_after};
-use crate::words::{operator_table, operators, reserved_table, reserved_words};
+use crate::words::{operator_table, word_table};
 use crate::{Chars, TextFault, Token};
 use std::alloc::Global;
 
@@ -16,15 +15,13 @@ use std::alloc::Global;
 /// list of them goes on. `Memory` comes for want of memory alone. The time is linear in the text, which no clause
 /// says. Memory is taken for the list alone.
 pub fn tokens<'a>(alloc: Global, chars: &'a Chars) -> Result<Vec<Token<'a>>, TextFault>
-    ensures tokens { MatchResult result (λ tokens. AreTokens (codes_in chars.now) (offsets_in chars.now) (shown_tokens tokens.items)) (FaultAt (IsTokenFault (codes_in chars.now) (offsets_in chars.now))) }
-    ensures list { (all : List Lexeme) → AreTokens (codes_in chars.now) (offsets_in chars.now) all → MatchResult result (λ tokens. shown_tokens tokens.items ≡ all) (λ e. e ≡ TextFault.Memory) }
+    ensures tokens { Lexes chars.now result }
+    ensures list { (all : List Lexeme) → AreTokensIn chars.now all → LexesOnly all result }
     ensures decided { HasTokens (codes_in chars.now) (offsets_in chars.now) }
-    ensures place { (place : ℕ) → IsTokenFault (codes_in chars.now) (offsets_in chars.now) place → MatchResult result (λ _. ⊥) (FaultAt (λ at. at ≡ place)) }
+    ensures place { (place : ℕ) → IsTokenFaultIn chars.now place → FaultsOnly place result }
 {
-    let word_rows = reserved_words!();
-    let words = reserved_table(&word_rows);
-    let operator_rows = operators!();
-    let operators = operator_table(&operator_rows);
+    let words = word_table();
+    let operators = operator_table();
     let mut tokens = Vec::new(alloc);
     let mut rest = chars.as_str();
     let mut place = Place {
@@ -68,7 +65,7 @@ fn is_end(rest: &str) -> bool
 
 // The last doc comment behind a separator.
 fn doc_after<'a>(doc: Option<&'a str>, text: &'a str) -> Option<&'a str>
-    ensures { option_map (λ d. d.now) result ≡ (if spec.is_doc (codes_of text.now) then Some text.now else option_map (λ d. d.now) doc.entry) }
+    ensures { shown_doc result ≡ later_doc text.now (shown_doc doc.entry) }
 {
     if is_doc(text) { Some(text) } else { doc }
 }

@@ -13,10 +13,10 @@
 
 mod automaton;
 mod chars;
+mod decoding;
 mod escapes;
 mod fault;
 mod fronts;
-mod identifiers;
 mod lexing;
 mod place;
 mod reading;
@@ -24,9 +24,9 @@ mod shift;
 mod token;
 mod words;
 
-pub use chars::{Chars, read_chars};
+pub use chars::Chars;
+pub use decoding::read_chars;
 pub use fault::TextFault;
-pub use identifiers::{begins_identifier, continues_identifier};
 pub use lexing::tokens;
 pub use shift::Shift;
 pub use token::{Token, TokenKind};

@@ -1,9 +1,10 @@
 // Reads one character (JLS 3.3).
-ghost use Rattle.std.specs.Prelude.{◌≡◌, ◌+◌, ◌<◌, ◌≤◌, ◌++◌, List, ℕ, length, take, drop, MatchOption, IfSome, encode_utf8};
+ghost use Rattle.std.specs.Prelude.{◌≡◌, ◌+◌, ◌<◌, ◌≤◌, ◌++◌, List, ℕ, length, take, drop, MatchOption, IfSome};
 ghost use Rattle.std.specs.Char.{IsScalar};
 ghost use Rattle.std.specs.Str.{IsUtf8, StartsWithNoChar};
 ghost use Rattle.java_tokens.specs.Escapes.{HasEscape};
-ghost use Rattle.java_tokens.specs.Characters.{HasChar, HasNoChar, BeginsEscape, joined, IsHigh, IsLow};
+ghost use Rattle.java_tokens.specs.Characters.{BeginsWith, HasNoChar, BeginsEscape, joined, IsHigh, IsLow};
+ghost use Rattle.java_tokens.specs.CharsShown.{HasRead};
 
 use crate::escapes::{Escape, read_escape};
 
@@ -16,10 +17,10 @@ pub struct Read {
     pub width: usize,
 }
 
-/// The character at the front of these bytes, where so many `\` stand directly before.
+/// The character at the front of these bytes, where a number of `\` stand directly before.
 pub fn read_char(bytes: &[u8], slashes: usize) -> Option<Read>
     requires { 0 < length bytes.now }
-    ensures char { MatchOption result (HasNoChar slashes bytes.now) (λ r. HasChar slashes bytes.now r.width r.code) }
+    ensures char { MatchOption result (HasNoChar slashes bytes.now) (HasRead slashes bytes.now) }
     ensures width { IfSome result (λ r. (0 < r.width) × (r.width ≤ length bytes.now)) }
     ensures scalar { IfSome result (λ r. IsScalar r.code) }
 {
@@ -36,7 +37,7 @@ pub fn read_char(bytes: &[u8], slashes: usize) -> Option<Read>
 // The character that one or two escapes at the front give.
 fn read_escaped(bytes: &[u8]) -> Option<Read>
     requires { BeginsEscape 0 bytes.now }
-    ensures char { MatchOption result (HasNoChar 0 bytes.now) (λ r. HasChar 0 bytes.now r.width r.code) }
+    ensures char { MatchOption result (HasNoChar 0 bytes.now) (HasRead 0 bytes.now) }
     ensures width { IfSome result (λ r. (0 < r.width) × (r.width ≤ length bytes.now)) }
     ensures scalar { IfSome result (λ r. IsScalar r.code) }
 {
@@ -56,7 +57,7 @@ fn read_pair(bytes: &[u8], first: Escape) -> Option<Read>
     requires first { HasEscape bytes.now first.width first.value }
     requires value { (0xD800 ≤ first.value) × (first.value < 0xE000) }
     requires width { first.width ≤ length bytes.now }
-    ensures char { MatchOption result (HasNoChar 0 bytes.now) (λ r. HasChar 0 bytes.now r.width r.code) }
+    ensures char { MatchOption result (HasNoChar 0 bytes.now) (HasRead 0 bytes.now) }
     ensures width { IfSome result (λ r. (0 < r.width) × (r.width ≤ length bytes.now)) }
     ensures scalar { IfSome result (λ r. IsScalar r.code) }
 {
@@ -76,7 +77,17 @@ fn read_pair(bytes: &[u8], first: Escape) -> Option<Read>
 
 // The character that UTF-8 spells at the front.
 fn first_char(bytes: &[u8]) -> Option<char>
-    ensures { MatchOption result (StartsWithNoChar bytes.now) (λ c. IsScalar c × ((rest : List ℕ) × (bytes.now ≡ encode_utf8 c ++ rest))) }
+    ensures { MatchOption result (StartsWithNoChar bytes.now) (BeginsWith bytes.now) }
+{
+    if !bytes.is_empty() && bytes[0] < 128 {
+        return Some(bytes[0] as char);
+    }
+    decoded_char(bytes)
+}
+
+// The same by the four bytes at the front.
+fn decoded_char(bytes: &[u8]) -> Option<char>
+    ensures { MatchOption result (StartsWithNoChar bytes.now) (BeginsWith bytes.now) }
 {
     let text = longest_text(&bytes[..bytes.len().min(4)]);
     text.chars().next()

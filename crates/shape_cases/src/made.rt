@@ -41,7 +41,7 @@ fn fields(alloc: Global, count: u32) -> Result<Vec<u8>, AllocError> {
     Ok(bytes)
 }
 
-// A field whose type begins so many times with these bytes, and then goes on to a type.
+// A field whose type begins a number of times with these bytes, and then goes on to a type.
 fn repeated(alloc: Global, begins: &[u8], count: u32, ends: &[u8]) -> Result<Vec<u8>, AllocError> {
     let mut of = Vec::new(alloc);
     for _ in 0..count {

@@ -7,10 +7,10 @@
 //! | `shape BYTES` | `shape` where a unit is read from the bytes, copied, and spelled as these bytes again; `bad` where they are no shape |
 //! | `tree BYTES` | the unit that is read from them, in words, or `bad` |
 //! | `type BYTES` | the type that is read from them, as that of a field, in words, or `bad` |
-//! | `fields NUMBER` | as `shape`, of a class without a constructor and with so many fields |
-//! | `arguments NUMBER` | as `shape`, of a class with a field whose type has so many lists of type arguments, each inside the one before |
-//! | `brackets NUMBER` | the same, with so many pairs of brackets |
-//! | `wildcards NUMBER` | the same, with `? extends` so many times |
+//! | `fields NUMBER` | as `shape`, of a class without a constructor and with that number of fields |
+//! | `arguments NUMBER` | as `shape`, of a class with a field whose type has that number of lists of type arguments, each inside the one before |
+//! | `brackets NUMBER` | the same, with that number of pairs of brackets |
+//! | `wildcards NUMBER` | the same, with `? extends` that number of times |
 //!
 //! In words, a list is the number of its items and the items, and a part that may be left out is `none`, or `some` and the part.
 #![tactic(auto)]

@@ -1,4 +1,4 @@
-//! Prints a table of calls of the tokens of Java, of tables of texts and of identifiers, with what each gives.
+//! Prints a table of calls of the tokens of Java, of tables of texts, of identifiers and of tables of cases, with what each gives.
 //!
 //! | Call | Its result |
 //! |---|---|
@@ -11,6 +11,12 @@
 //! | `table ROWS` | `some` where the rows are a table, else `none` |
 //! | `find ROWS TEXT` | the number of the text in the table, or `none` |
 //! | `text ROWS NUMBER` | the text of the number in the table, or `none` |
+//! | `case FILE characters TEXT` | `passed` where the file gives these characters, else `failed` |
+//! | `case FILE no_characters PLACE`, `case FILE no_tokens PLACE` | the same for a fault at this offset |
+//! | `case FILE tokens TOKEN..` | the same for these tokens, each as KIND:START:LINE:TEXT:DOC, where KIND is Identifier or Null and a DOC that is missing is `none` |
+//! | `lines NAME:passed NAME:failed ..` | what is printed of tables that passed or failed, and the exit status |
+//! | `status STATUS PRINTED` | the exit status where the lines were printed (`yes`) or not (`no`) |
+//! | `vectors WORD..` | what `apt_vectors` prints for the words behind its name, and its exit status |
 //! | `identifier TEXT` | whether the text is an identifier, and whether its tokens are one identifier that is all of it |
 //!
 //! The library `case_lines` says how texts are written, and so is a file, which may be no UTF-8. Shifts and tokens that are
@@ -21,6 +27,7 @@
 mod files;
 mod identifiers;
 mod tables;
+mod vectors;
 
 use case_lines::{Calls, CaseFault, run};
 use files::View;
@@ -34,9 +41,14 @@ struct Tokens;
 impl Calls for Tokens {
     fn call(&mut self, alloc: Global, words: &[&str]) -> Result<String, CaseFault> {
         match *words {
-            [call, word] => one_word(alloc, call, word),
+            ["vectors", ..] => vectors::answer(alloc, &words[1..]),
+            ["lines", ..] => vectors::lines(alloc, &words[1..]),
+            ["status", status, printed] => vectors::end(alloc, status, printed),
+            ["case", file, "tokens", ..] => vectors::tokens_case(alloc, file, &words[3..]),
+            ["case", file, what, word] => vectors::other_case(alloc, file, what, word),
             ["find", rows, word] => tables::find(alloc, rows, word),
             ["text", rows, number] => tables::text(alloc, rows, number),
+            [call, word] => one_word(alloc, call, word),
             _ => Err(CaseFault::NotACase),
         }
     }

@@ -8,7 +8,7 @@ use Rattle.apt_base.proofs.identifier.is_reserved.Goals as goal
 pub returns : goal.returns
 unfolding is_reserved
 returns c =
-    any_from_yields_List (λ (word : Bor (List ℕ)). bytes_eq c.args.text.now word.now) _ _ c.any.result c.any.ensures.ran
+    any_from_yields_List (λ (row : Bor (List ℕ) × ℕ). bytes_eq c.args.text.now row.0.now) _ _ c.any.result c.any.ensures.ran
     (YieldsList-from_slice _ c.iter.ensures.rest)
     (λ x b q k. search (rules, tests))
     ∙ refl

@@ -36,7 +36,7 @@ offset_at-start-requires-clause-narrow c =
     omega (arith, c.elements.invariant.lexing.total, ap length (encodes-chars (string_bytes c.args.chars.now.text) (IsUtf8-string_bytes c.args.chars.now.text)), c.args.chars.now.small)
 
 pub next_front-requires-clause-words : goal.next_front-requires-clause-words
-next_front-requires-clause-words c = c.reserved_table-words.ensures
+next_front-requires-clause-words c = c.word_table-words.ensures
 
 pub returns-in_default-clause-tokens : goal.returns-in_default-clause-tokens
 returns-in_default-clause-tokens c =

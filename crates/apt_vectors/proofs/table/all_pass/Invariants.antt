@@ -1,5 +1,0 @@
-use Rattle.apt_vectors.proofs.CaseLemmas.{PassSoFar}
-use Rattle.apt_vectors.proofs.table.all_pass.Given as goal
-
-abbrev pub invariant-loop-case : goal.invariant-loop-case
-invariant-loop-case l = PassSoFar l.cases l.case-index

@@ -1,0 +1,67 @@
+#!/usr/bin/env python3
+"""Runs the built program of the tables of cases on words, and compares what it prints and its exit status.
+
+    tests/vectors.py [PROGRAM]
+
+PROGRAM is crates/apt_vectors/out/apt_vectors where it is left out. Each case prints a line. The first that fails ends the run with status 1.
+"""
+import os
+import subprocess
+import sys
+
+from host import SECONDS
+
+PROGRAM = os.path.join(os.path.dirname(os.path.abspath(__file__)), "..", "crates", "apt_vectors", "out", "apt_vectors")
+
+PASSED = b"tokens: passed\n"
+REFUSED = b"refused\n"
+
+# The words of a call, what is printed, and the exit status.
+CASES = [
+    ([], PASSED, 0),
+    (["--table", "tokens"], PASSED, 0),
+    (["--table=tokens"], PASSED, 0),
+    (["--table", "other"], REFUSED, 2),
+    (["--table", ""], REFUSED, 2),
+    (["--table"], REFUSED, 2),
+    (["--table", "tokens", "--table", "tokens"], REFUSED, 2),
+    (["--table", "tokens", "tokens"], REFUSED, 2),
+    (["tokens"], REFUSED, 2),
+    (["--other"], REFUSED, 2),
+    (["--help"], REFUSED, 2),
+    ([b"--table=\xff"], REFUSED, 2),
+]
+
+# The exit status where nothing can be printed.
+UNPRINTED = [([], 1), (["--table", "tokens"], 1), (["--help"], 2)]
+
+
+def shown(words):
+    return " ".join(word if isinstance(word, str) else repr(word) for word in words) or "no words"
+
+
+def failed(words, seen, wanted):
+    print(f"{shown(words)}: FAILED: {seen!r}, and not {wanted!r}")
+    sys.exit(1)
+
+
+def main():
+    program = sys.argv[1] if len(sys.argv) > 1 else PROGRAM
+    if not os.path.exists(program):
+        sys.exit(f"there is no program {program}: build it by 'rt run' in crates/apt_vectors")
+    for words, output, status in CASES:
+        run = subprocess.run([program, *words], stdout=subprocess.PIPE, timeout=SECONDS, check=False)
+        if (run.stdout, run.returncode) != (output, status):
+            failed(words, (run.stdout, run.returncode), (output, status))
+        print(f"{shown(words)}: ok")
+    for words, status in UNPRINTED:
+        with open("/dev/full", "wb") as full:
+            run = subprocess.run([program, *words], stdout=full, timeout=SECONDS, check=False)
+        if run.returncode != status:
+            failed(words, run.returncode, status)
+        print(f"{shown(words)}, unprinted: ok")
+    print(f"vectors: {len(CASES) + len(UNPRINTED)} passed, 0 failed")
+
+
+if __name__ == "__main__":
+    main()
