@@ -35,7 +35,7 @@ pub fn find_script<'a>(scripts: &'a [Script], name: &str) -> Option<&'a Script>
     None
 }
 
-/// What a child of this name says more after so many sends.
+/// What a child of this name adds after that number of sends.
 pub fn answer_after<'a>(scripts: &'a [Script], name: &str, sends: usize) -> &'a [u8]
     ensures { result.now ≡ answer_of (script_of scripts.now name.now) sends }
 {

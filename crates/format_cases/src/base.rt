@@ -61,9 +61,3 @@ pub fn elements_word(alloc: Global, elements: &List<ElementRef>) -> Result<Strin
     }
     joined(alloc, &words)
 }
-
-/// The word for a copy of the element of a word.
-pub fn element_copy(alloc: Global, word: &str) -> Result<String, CaseFault> {
-    let copy = element(alloc, word)?.copy(alloc)?;
-    element_word(alloc, &copy)
-}

@@ -5,6 +5,7 @@
 #![tactic(auto)]
 
 mod base;
+mod copies;
 mod fields;
 mod frame_read;
 mod frame_shown;
@@ -15,7 +16,7 @@ use base::{is_dotted, is_identifier, is_pattern};
 use case_lines::{Calls, CaseFault, hex_bytes, hex_digits, run, text, yes_or_no};
 use std::alloc::Global;
 use std::process::ExitCode;
-use wire_frames::{FrameFault, encode, frame_length, read_child_frame};
+use wire_frames::{Frame, FrameFault, encode, frame_length, read_child_frame};
 
 /// The calls of the formats.
 #[derive(Drop)]
@@ -24,7 +25,8 @@ struct Formats;
 impl Calls for Formats {
     fn call(&mut self, alloc: Global, words: &[&str]) -> Result<String, CaseFault> {
         match words {
-            ["encode", frame @ ..] => encoded(alloc, frame),
+            ["encode", words @ ..] => encoded_words(alloc, words),
+            ["copy", kind, value @ ..] => copies::copied(alloc, kind, value),
             ["read", bytes] => child_frame(alloc, bytes),
             ["length", head] => length(alloc, head),
             ["write_fields", fields @ ..] => fields::written(alloc, fields),
@@ -40,7 +42,6 @@ impl Calls for Formats {
 // The calls of one word, most of them tests.
 fn one_word(alloc: Global, call: &str, word: &str) -> Result<String, CaseFault> {
     match call {
-        "copy_element" => base::element_copy(alloc, word),
         "form" => sources::form(alloc, word),
         _ => {
             let holds = is_so(call, text(alloc, word)?.as_str(), alloc)?;
@@ -60,8 +61,13 @@ fn is_so(call: &str, text: &str, alloc: Global) -> Result<bool, CaseFault> {
     }
 }
 
-fn encoded(alloc: Global, words: &[&str]) -> Result<String, CaseFault> {
-    match encode(alloc, &frame_read::frame(alloc, words)?) {
+fn encoded_words(alloc: Global, words: &[&str]) -> Result<String, CaseFault> {
+    let frame = frame_read::frame(alloc, words)?;
+    encoded(alloc, &frame)
+}
+
+fn encoded(alloc: Global, frame: &Frame) -> Result<String, CaseFault> {
+    match encode(alloc, frame) {
         Ok(bytes) => hex_digits(alloc, bytes.as_slice()),
         Err(FrameFault::TooLarge) => Ok(String::from_str(alloc, "TooLarge")?),
         Err(FrameFault::Memory) => Err(CaseFault::Memory),

@@ -1,3 +1,4 @@
+// The one form of a source file, and how bytes are read as it.
 ghost use Rattle.std.specs.Prelude.{◌≡◌, ◌≤◌, length, IsTrue, IfOk, IfSome, Some};
 ghost use Rattle.std.specs.List.{AllPass};
 ghost use Rattle.std.specs.Option.{option_map};
@@ -31,6 +32,17 @@ impl SourceForm {
         text.push('.')?;
         text.push_str(self.name.as_str())?;
         Ok(Name::from_string(alloc, text))
+    }
+
+    /// An equal form. It fails only for want of memory.
+    pub fn copy(&self) -> Result<SourceForm, NoMemory>
+        ensures { IfOk result (λ form. form ≡ self.now) }
+    {
+        Ok(SourceForm {
+            package: self.package.copy()?,
+            annotation: self.annotation.copy()?,
+            name: self.name.copy()?,
+        })
     }
 }
 

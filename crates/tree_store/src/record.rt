@@ -23,6 +23,19 @@ pub struct StoredFile {
     pub length: u32,
 }
 
+impl StoredFile {
+    /// An equal entry. It fails only for want of memory.
+    pub fn copy(&self) -> Result<StoredFile, NoMemory>
+        ensures { IfOk result (λ file. file ≡ self.now) }
+    {
+        Ok(StoredFile {
+            path: self.path.copy()?,
+            store: self.store,
+            length: self.length,
+        })
+    }
+}
+
 #[tactic(auto, unfolding(crate::specs::RecordFormat::record_head))]
 fn put_head(writer: &mut FieldWriter, count: u32) -> Result<(), NoMemory>
     ensures { OnOk result (writer.new ≡ writer.old ++ (record_head ++ to_be_bytes w32 count)) }

@@ -5,7 +5,7 @@ ghost use Rattle.tree_store.specs.Cause.{HasStoreCause};
 ghost use Rattle.tree_store.specs.Sources.{source_at, sources_of};
 
 use crate::StoreFault;
-use apt_base::{List, Name};
+use apt_base::{List, Name, NoMemory};
 use apt_outside::Tree;
 use std::alloc::Global;
 
@@ -16,6 +16,18 @@ pub struct RawSource {
     pub path: Name,
     /// Its first bytes.
     pub bytes: List<u8>,
+}
+
+impl RawSource {
+    /// An equal source. It fails only for want of memory.
+    pub fn copy(&self, alloc: Global) -> Result<RawSource, NoMemory>
+        ensures { IfOk result (λ source. source ≡ self.now) }
+    {
+        Ok(RawSource {
+            path: self.path.copy()?,
+            bytes: List::from_vec(Vec::from_slice(alloc, self.bytes.as_slice())?),
+        })
+    }
 }
 
 /// Reads the file of a path that ends in `.java`, and none of another path.

@@ -1,4 +1,8 @@
-use apt_base::{Claim, ElementRef, List, Name};
+// The frames and what they are made of.
+ghost use Rattle.std.specs.Prelude.{◌≡◌, IfOk};
+
+use apt_base::{Claim, ElementRef, List, Name, NoMemory, copy_names};
+use std::alloc::Global;
 
 /// What the host says of itself to a child, first.
 #[derive(Drop)]
@@ -38,7 +42,7 @@ pub enum Created {
 }
 
 /// The host's answer to a child's frame in a round.
-#[derive(Drop)]
+#[derive(Clone, Copy)]
 pub enum Reply {
     /// To a creation.
     Created(Created),
@@ -124,4 +128,157 @@ pub enum Frame {
     Create(Creation),
     /// The child's, which the host answers by `Reply::Noted`.
     Message(Message),
+}
+
+// ---- copies
+
+fn copy_option(option: &(Name, Name)) -> Result<(Name, Name), NoMemory>
+    ensures { IfOk result (λ copy. copy ≡ option.now) }
+{
+    Ok((option.0.copy()?, option.1.copy()?))
+}
+
+/// Equal options in the same order.
+pub fn copy_options(alloc: Global, options: &[(Name, Name)]) -> Result<List<(Name, Name)>, NoMemory>
+    ensures { IfOk result (λ list. list ≡ options.now) }
+{
+    let mut copies = List::new(alloc);
+    for each in options {
+        copies.push(copy_option(each)?)?;
+    }
+    Ok(copies)
+}
+
+fn copy_origins(alloc: Global, origins: &[ElementRef]) -> Result<List<ElementRef>, NoMemory>
+    ensures { IfOk result (λ list. list ≡ origins.now) }
+{
+    let mut copies = List::new(alloc);
+    for each in origins {
+        copies.push(each.copy(alloc)?)?;
+    }
+    Ok(copies)
+}
+
+fn copy_content(alloc: Global, content: &List<u8>) -> Result<List<u8>, NoMemory>
+    ensures { IfOk result (λ list. list ≡ content.now) }
+{
+    Ok(List::from_vec(content.as_slice().to_vec(alloc)?))
+}
+
+fn copy_element(alloc: Global, element: &Option<ElementRef>) -> Result<Option<ElementRef>, NoMemory>
+    ensures { IfOk result (λ copy. copy ≡ element.now) }
+{
+    match element {
+        None => Ok(None),
+        Some(element) => Ok(Some(element.copy(alloc)?)),
+    }
+}
+
+impl Init {
+    /// An equal frame of the host. It fails only for want of memory.
+    pub fn copy(&self, alloc: Global) -> Result<Init, NoMemory>
+        ensures { IfOk result (λ init. init ≡ self.now) }
+    {
+        Ok(Init {
+            name: self.name.copy()?,
+            level: self.level,
+            options: copy_options(alloc, self.options.as_slice())?,
+        })
+    }
+}
+
+impl Hello {
+    /// An equal frame of a child. It fails only for want of memory.
+    pub fn copy(&self, alloc: Global) -> Result<Hello, NoMemory>
+        ensures { IfOk result (λ hello. hello ≡ self.now) }
+    {
+        Ok(Hello {
+            patterns: copy_names(alloc, self.patterns.as_slice())?,
+            options: copy_names(alloc, self.options.as_slice())?,
+            claim: self.claim,
+        })
+    }
+}
+
+impl Creation {
+    /// An equal creation. It fails only for want of memory.
+    pub fn copy(&self, alloc: Global) -> Result<Creation, NoMemory>
+        ensures { IfOk result (λ creation. creation ≡ self.now) }
+    {
+        match self {
+            Creation::Source {
+                name,
+                content,
+                origins,
+            } => Ok(Creation::Source {
+                name: name.copy()?,
+                content: copy_content(alloc, content)?,
+                origins: copy_origins(alloc, origins.as_slice())?,
+            }),
+            Creation::Resource {
+                location,
+                package,
+                relative,
+                content,
+                origins,
+            } => Ok(Creation::Resource {
+                location: *location,
+                package: package.copy()?,
+                relative: relative.copy()?,
+                content: copy_content(alloc, content)?,
+                origins: copy_origins(alloc, origins.as_slice())?,
+            }),
+            Creation::Class {
+                name,
+                content,
+                origins,
+            } => Ok(Creation::Class {
+                name: name.copy()?,
+                content: copy_content(alloc, content)?,
+                origins: copy_origins(alloc, origins.as_slice())?,
+            }),
+        }
+    }
+}
+
+impl Message {
+    /// An equal message. It fails only for want of memory.
+    pub fn copy(&self, alloc: Global) -> Result<Message, NoMemory>
+        ensures { IfOk result (λ message. message ≡ self.now) }
+    {
+        Ok(Message {
+            kind: self.kind,
+            element: copy_element(alloc, &self.element)?,
+            text: self.text.copy()?,
+        })
+    }
+}
+
+impl Frame {
+    /// An equal frame. It fails only for want of memory.
+    pub fn copy(&self, alloc: Global) -> Result<Frame, NoMemory>
+        ensures { IfOk result (λ frame. frame ≡ self.now) }
+    {
+        match self {
+            Frame::Init(init) => Ok(Frame::Init(init.copy(alloc)?)),
+            Frame::Round {
+                number,
+                over,
+                error,
+                offered,
+                roots,
+            } => Ok(Frame::Round {
+                number: *number,
+                over: *over,
+                error: *error,
+                offered: copy_names(alloc, offered.as_slice())?,
+                roots: copy_names(alloc, roots.as_slice())?,
+            }),
+            Frame::Reply(reply) => Ok(Frame::Reply(*reply)),
+            Frame::Hello(hello) => Ok(Frame::Hello(hello.copy(alloc)?)),
+            Frame::Done { claimed } => Ok(Frame::Done { claimed: *claimed }),
+            Frame::Create(creation) => Ok(Frame::Create(creation.copy(alloc)?)),
+            Frame::Message(message) => Ok(Frame::Message(message.copy(alloc)?)),
+        }
+    }
 }

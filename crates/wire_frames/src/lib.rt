@@ -15,6 +15,6 @@ mod reading;
 mod tags;
 mod writing;
 
-pub use frame::{Created, Creation, Frame, Hello, Init, Message, Reply};
+pub use frame::{Created, Creation, Frame, Hello, Init, Message, Reply, copy_options};
 pub use reading::{frame_length, read_child_frame};
 pub use writing::{FrameFault, MAX_FRAME, encode};

@@ -1,3 +1,4 @@
+// Reads the frames of a child.
 ghost use Rattle.std.specs.Prelude.{◌≡◌, ℕ, true, map, length, IfOk, IfSome, Some};
 ghost use Rattle.wire_frames.specs.Frames.{are_distinct, texts_next, distinct_next, claim_of, hello_next, done_next, below_next, origins_next, file_next, resource_next, element_next, message_next, creation_next, fields_next, child_frame, length_of, fields_of, IsFromChild, MaySend};
 ghost use Rattle.wire_frames.specs.declared.frame.Creation.TheVariants as creations;

@@ -1,3 +1,4 @@
+// Spells the frames.
 ghost use Rattle.std.specs.Prelude.{◌≡◌, ℕ, Bool, ◌+◌, ◌≤◌, ◌<◌, ◌++◌, length, IfOk, OnOk, IsErrOf};
 ghost use Rattle.apt_base.specs.Fields.{text_form, bytes_form};
 ghost use Rattle.apt_base.specs.Forms.{u16_form, list_form, opt_form};

@@ -1,0 +1,138 @@
+// Values beside their copies.
+use crate::base::{ElementRef, List, element, element_word, name_word};
+use crate::sources::form_words;
+use crate::{encoded, frame_read};
+use case_lines::{CaseFault, hex_bytes, hex_digits, name, push_word, text};
+use source_form::{SourceForm, read_form};
+use std::alloc::Global;
+use tree_store::{RawSource, StoredFile};
+use wire_frames::Frame;
+
+/// The words for the value of a kind, and behind them those for its copy.
+pub fn copied(alloc: Global, kind: &str, value: &[&str]) -> Result<String, CaseFault> {
+    match kind {
+        "frame" => frame(alloc, value),
+        _ => match *value {
+            [word] => one_word(alloc, kind, word),
+            [path, bytes] if kind == "raw_source" => source(alloc, path, bytes),
+            [path, store, length] if kind == "stored_file" => stored(alloc, [path, store, length]),
+            _ => Err(CaseFault::NotACase),
+        },
+    }
+}
+
+fn one_word(alloc: Global, kind: &str, word: &str) -> Result<String, CaseFault> {
+    match kind {
+        "element" => element_of(alloc, word),
+        "form" => form(alloc, word),
+        _ => Err(CaseFault::NotACase),
+    }
+}
+
+// The words for a value, and behind them those for its copy.
+fn both(value: String, copy: String) -> Result<String, CaseFault> {
+    let mut shown = value;
+    push_word(&mut shown, copy.as_str())?;
+    Ok(shown)
+}
+
+fn frame(alloc: Global, words: &[&str]) -> Result<String, CaseFault> {
+    let frame = frame_read::frame(alloc, words)?;
+    frame_twice(alloc, &frame)
+}
+
+fn frame_twice(alloc: Global, frame: &Frame) -> Result<String, CaseFault> {
+    let value = encoded(alloc, frame)?;
+    both(value, frame_copy(alloc, frame)?)
+}
+
+fn frame_copy(alloc: Global, frame: &Frame) -> Result<String, CaseFault> {
+    let copy = frame.copy(alloc)?;
+    encoded(alloc, &copy)
+}
+
+fn element_of(alloc: Global, word: &str) -> Result<String, CaseFault> {
+    let element = element(alloc, word)?;
+    element_twice(alloc, &element)
+}
+
+fn element_twice(alloc: Global, element: &ElementRef) -> Result<String, CaseFault> {
+    let value = element_word(alloc, element)?;
+    both(value, element_copy(alloc, element)?)
+}
+
+fn element_copy(alloc: Global, element: &ElementRef) -> Result<String, CaseFault> {
+    let copy = element.copy(alloc)?;
+    element_word(alloc, &copy)
+}
+
+fn form(alloc: Global, word: &str) -> Result<String, CaseFault> {
+    match read_form(alloc, text(alloc, word)?.as_bytes())? {
+        Some(form) => form_twice(alloc, &form),
+        None => Err(CaseFault::NotACase),
+    }
+}
+
+fn form_twice(alloc: Global, form: &SourceForm) -> Result<String, CaseFault> {
+    let value = form_words(alloc, form)?;
+    both(value, form_copy(alloc, form)?)
+}
+
+fn form_copy(alloc: Global, form: &SourceForm) -> Result<String, CaseFault> {
+    let copy = form.copy()?;
+    form_words(alloc, &copy)
+}
+
+fn stored_words(alloc: Global, file: &StoredFile) -> Result<String, CaseFault> {
+    let path = name_word(alloc, &file.path)?;
+    let store = file.store;
+    let length = file.length;
+    Ok(format!(in alloc; "path={path} store={store} length={length}")?)
+}
+
+fn stored(alloc: Global, words: [&str; 3]) -> Result<String, CaseFault> {
+    let [path, store, length] = words;
+    let store = store.parse::<u32>()?;
+    let length = length.parse::<u32>()?;
+    let path = name(alloc, path)?;
+    stored_twice(
+        alloc,
+        &StoredFile {
+            path,
+            store,
+            length,
+        },
+    )
+}
+
+fn stored_twice(alloc: Global, file: &StoredFile) -> Result<String, CaseFault> {
+    let value = stored_words(alloc, file)?;
+    both(value, stored_copy(alloc, file)?)
+}
+
+fn stored_copy(alloc: Global, file: &StoredFile) -> Result<String, CaseFault> {
+    let copy = file.copy()?;
+    stored_words(alloc, &copy)
+}
+
+fn source_words(alloc: Global, source: &RawSource) -> Result<String, CaseFault> {
+    let path = name_word(alloc, &source.path)?;
+    let bytes = hex_digits(alloc, source.bytes.as_slice())?;
+    Ok(format!(in alloc; "path={path} bytes={bytes}")?)
+}
+
+fn source(alloc: Global, path: &str, bytes: &str) -> Result<String, CaseFault> {
+    let bytes = List::from_vec(hex_bytes(alloc, bytes)?);
+    let path = name(alloc, path)?;
+    source_twice(alloc, &RawSource { path, bytes })
+}
+
+fn source_twice(alloc: Global, source: &RawSource) -> Result<String, CaseFault> {
+    let value = source_words(alloc, source)?;
+    both(value, source_copy(alloc, source)?)
+}
+
+fn source_copy(alloc: Global, source: &RawSource) -> Result<String, CaseFault> {
+    let copy = source.copy(alloc)?;
+    source_words(alloc, &copy)
+}
