@@ -7,7 +7,7 @@ ghost use Rattle.wire_frames.specs.declared.frame.Created.TheVariants.{Accepted}
 use crate::names::is_well_named;
 use crate::paths::path_of;
 use crate::texts::Texts;
-use apt_base::{List, Name, NoMemory};
+use apt_base::{List, Name, NoMemory, copy_names};
 use std::alloc::Global;
 use std::marker::Model;
 use wire_frames::{Created, Creation};
@@ -41,16 +41,6 @@ impl Model for Filer {
     ghost view = { λ a. record { initial = a.initial; made = a.made } };
 
     ghost invariant = { λ a. IsIndex a.initial a.made a.names a.paths a.total };
-}
-
-fn copy_names(alloc: Global, names: &List<Name>) -> Result<List<Name>, NoMemory>
-    ensures { IfOk result (λ copies. copies ≡ names.now) }
-{
-    let mut copies = List::new(alloc);
-    for name in names.as_slice() {
-        copies.push(name.copy()?)?;
-    }
-    Ok(copies)
 }
 
 fn texts_of(alloc: Global, names: &List<Name>) -> Result<Texts, NoMemory>
@@ -90,7 +80,7 @@ impl Filer {
     {
         Ok(Filer {
             alloc,
-            initial: copy_names(alloc, initial)?,
+            initial: copy_names(alloc, initial.as_slice())?,
             made: List::new(alloc),
             names: texts_of(alloc, initial)?,
             paths: Texts::new(alloc),
@@ -103,6 +93,13 @@ impl Filer {
         ensures { result.now ≡ self.now.made }
     {
         &self.made
+    }
+
+    /// What was accepted, in order, in place of the filer.
+    pub fn into_made(self) -> List<Creation>
+        ensures { result ≡ self.made }
+    {
+        self.made
     }
 
     // Two sources of one name have one path, so of the names only the initial ones are looked up.

@@ -1,40 +1,41 @@
 -- From what was spelled to what a build leaves.
-use Rattle.std.proofs.Common.{◌≡◌, ◌≢◌, ℕ, zero, suc, ◌<◌, ◌^◌, List, [], ◌∷◌, length, map, get_or, All, Option, None, Some, Ok, Err, refl, sym, ap, ◌∙◌, subst, Contains, arith}
-use Rattle.std.specs.Prelude.{AllPairs, ◌+◌, ◌==◌, cond, Bool, true, false}
+use Rattle.std.proofs.Common.{◌≡◌, ◌≢◌, ℕ, zero, suc, ◌<◌, ◌^◌, List, [], ◌∷◌, length, map, get_or, All, Option, None, Some, Result, Ok, Err, inl, refl, sym, ap, ◌∙◌, subst, Contains, arith}
+use Rattle.std.specs.Prelude.{AllPairs, ◌+◌, ◌==◌, cond, not, Bool, true, false}
 use Rattle.std.specs.FinMap as fin
 use Rattle.std.proofs.lemmas.List.Elements.{All-head, All-tail, All-cons}
 use Rattle.std.proofs.lemmas.List.{length-map}
+use Rattle.apt_outside.specs.Count.{Told}
 use Rattle.apt_outside.specs.Files.{Files, file_at}
-use Rattle.apt_outside.specs.Child.{Says, Try, Known}
+use Rattle.apt_outside.specs.Child.{Says, Try, Known, AllKept}
 use Rattle.tree_store.specs.declared.record.StoredFile.{StoredFile}
 use Rattle.apt_base.specs.Fields.{is_text}
 use Rattle.tree_store.specs.RecordFormat.{record_form, IsEntry}
 use Rattle.tree_store.specs.Output.{store_path, record_path, output_of, StoresStand}
-use Rattle.tree_store.specs.Storing.{Numbered, paths_of, AreTaken, AreDistinct, AreAbsent, Holds}
-use Rattle.tree_store.proofs.OutputLemmas.{output_of-record_form, file_at-record}
+use Rattle.tree_store.specs.Storing.{Numbered, paths_of, AreTaken, AreDistinct, AreAbsent, ChangesAmong, Holds}
+use Rattle.tree_store.proofs.OutputLemmas.{output_of-record_form, from_entries-entries}
 use Rattle.tree_store.proofs.Publishing.{absent_from_taken, Holds-written}
 use Rattle.round_engine.specs.declared.numbering.Made.{Made}
 use Rattle.round_engine.specs.Numbering.{AreLeast}
 use Rattle.round_engine.specs.declared.running.Finished.{Finished}
+use Rattle.round_engine.specs.Refusals.{Refusal, Tree}
 use Rattle.round_engine.specs.Units.{Units}
-use Rattle.round_engine.specs.Run.{run_of, files_among}
-use Rattle.round_engine.specs.Shown.{IsShown}
-use Rattle.round_engine.specs.Clean.{AreNumbered, is_error, is_warning, count_of, frames_of}
+use Rattle.round_engine.specs.Run.{files_among}
+use Rattle.round_engine.specs.Clean.{AreNumbered, is_error, is_warning, count_of}
 use Rattle.round_engine.proofs.NumberLemmas.{All-from_AreLeast, AllPairs-from_AreLeast}
-use Rattle.apt_host.specs.declared.refusal.Refusal.{Refusal}
-use Rattle.apt_host.specs.declared.refusal.Refusal.TheVariants as code
+use Rattle.apt_host.specs.declared.status.Status.{Status}
 use Rattle.apt_host.specs.Words.{Build}
 use Rattle.apt_host.specs.Project.{units_of}
 use Rattle.apt_host.specs.CleanBuild.{Summary, summary, Outcome, outcome_of, outcome_of_run, clean}
 use Rattle.apt_host.specs.CleanBuild as outcome
-use Rattle.apt_host.specs.Report.{report_of, errors_report}
-use Rattle.apt_host.specs.Verdicts.{Verdict, Done, Errors, BadWords, UnbuiltForm, UnbuiltTalk, TooManyQuestions, GeneratedDuplicate, TooManyRounds, TreeFault, SinkFault, ChildFault, Memory, is_free, OrFree, verdict_of}
-use Rattle.apt_host.specs.Refusals.{refused}
-use Rattle.apt_host.specs.Listed.{listed, entry_of, numbered_of, file_of, Places}
-use Rattle.apt_host.specs.Entering.{EntersAll}
+use Rattle.apt_host.specs.Report.{report_of, errors_report, report_text}
+use Rattle.apt_host.specs.Verdicts.{Verdict, Done, Errors, Refused, Failed, Memory, is_free, is_tree, fails, OrFree, verdict, verdict_of}
+use Rattle.apt_host.specs.Listed.{listed, entry_of, numbered_of, file_of, Gains, GainsFirst, Places}
+use Rattle.apt_host.specs.Entering.{RefusesAs}
+use Rattle.apt_host.specs.Making.{ShowsRunOver, count_of_processors, name_of, finished_summary, concluded, concluding_report, outcome_with, Makes, TalkedBy}
+use Rattle.apt_host.specs.Promises.{Talked, ToldOf, Answers, Stores, Publishes, PublishesOutcome, PublishesClean, Leaves, LeavesUndone, StoresOutcome, StoresFirst, IsFront, Reports, Adds, TellsMore, ShowsOver}
 use Rattle.apt_host.proofs.Making.{outcome_is}
-use Rattle.apt_host.specs.Making.{ShowsRunOver, count_of_processors, name_of, finished_summary, concluded, concluding_report, Makes}
-use Rattle.apt_host.specs.Promises.{is_run, KeepsStores, Publishes, PublishesOutcome, Reports, ShowsRun}
+use Rattle.apt_host.proofs.Writing.{talked, front_more}
+use Rattle.apt_host.proofs.Leaving.{stands_by}
 
 -- ---- the store's new files
 
@@ -54,15 +55,8 @@ apart files pairs = λ i j d before below same. pairs i j d.0 before (subst (λ 
 pub either_way : (v : Verdict) (A : Type 0) → (v ≡ Done → A) → (v ≢ Done → A) → A
 either_way Done A done other = done refl
 either_way (Errors count) A done other = other (λ e. cc)
-either_way (BadWords at) A done other = other (λ e. cc)
-either_way (UnbuiltForm path) A done other = other (λ e. cc)
-either_way (UnbuiltTalk processor) A done other = other (λ e. cc)
-either_way (TooManyQuestions processor most) A done other = other (λ e. cc)
-either_way (GeneratedDuplicate name) A done other = other (λ e. cc)
-either_way TooManyRounds A done other = other (λ e. cc)
-either_way (ChildFault processor) A done other = other (λ e. cc)
-either_way TreeFault A done other = other (λ e. cc)
-either_way SinkFault A done other = other (λ e. cc)
+either_way (Refused refusal) A done other = other (λ e. cc)
+either_way (Failed object) A done other = other (λ e. cc)
 either_way Memory A done other = other (λ e. cc)
 
 -- what is known of a file that was made is what an entry needs
@@ -99,9 +93,9 @@ module _ (taken : List ℕ) (finished : Finished) (numbered : AreNumbered taken 
 
   -- ---- what is published
 
-  stores : (made : List Made) → map (λ e. e.store) (map entry_of made) ≡ map (λ m. m.store) made
-  stores [] = refl
-  stores (m ∷ made) = ap (λ ns. m.store ∷ ns) (stores made)
+  stores_are : (made : List Made) → map (λ e. e.store) (map entry_of made) ≡ map (λ m. m.store) made
+  stores_are [] = refl
+  stores_are (m ∷ made) = ap (λ ns. m.store ∷ ns) (stores_are made)
 
   -- what the report and the record name
   lines : (made : List Made) → map listed (map entry_of made) ≡ map (λ file. (file.0, length file.1)) (map file_of made)
@@ -111,126 +105,221 @@ module _ (taken : List ℕ) (finished : Finished) (numbered : AreNumbered taken 
   pub listed_are : (files : Files) → map file_of all ≡ fin.entries files → map listed (map entry_of all) ≡ map (λ file. (file.0, length file.1)) (fin.entries files)
   listed_are files files_are = lines all ∙ ap (map (λ file. (file.0, length file.1))) files_are
 
-  pub publishes : (files : Files) → map file_of all ≡ fin.entries files → (old new : Files) → AreTaken old taken → Places (map numbered_of all) (record_form (map entry_of all)) old new → Publishes files old new × StoresStand new
-  publishes files files_are old new are p =
-      let entries : List StoredFile = map entry_of all in
-      let held : Holds p.mid entries files = Holds-written (λ (m : Made). m.path) (λ (m : Made). m.bytes) (λ (m : Made). m.store) p.mid files all p.written (sym files_are) in
-      let count : length entries < 2 ^ 32 = subst (λ n. n < 2 ^ 32) (sym (length-map all entry_of)) numbered.count in
-      let both = output_of-record_form p.mid entries files count fit held in (
-        record {
-          output = ap output_of p.committed ∙ both.0;
-          entries = entries;
-          recorded = ap (λ t. file_at t record_path) p.committed ∙ file_at-record p.mid (record_form entries);
-          named = listed_are files files_are;
-          taken = taken;
-          are_taken = are;
-          numbers = subst (AreLeast taken []) (sym (stores all)) numbered.numbers;
-        },
-        subst StoresStand (sym p.committed) both.1,
-      )
+  paths_are : (made : List Made) → paths_of (map numbered_of made) ≡ map (λ e. store_path e.store) (map entry_of made)
+  paths_are [] = refl
+  paths_are (m ∷ made) = ap (λ ps. store_path m.store ∷ ps) (paths_are made)
 
-  -- each store file stands, whether the build is published or not
-  pub stores_stand : (v : Verdict) (old new : Files) → AreTaken old taken → (v ≡ Done → Places (map numbered_of all) (record_form (map entry_of all)) old new) → KeepsStores old new v → StoresStand old → StoresStand new
-  stores_stand v old new are placed keeps stand = either_way v (StoresStand new)
-      (λ done. (publishes numbered.published numbered.entries old new are (placed done)).1)
-      (λ ne. keeps ne stand)
+  module _ (files : Files) (files_are : map file_of all ≡ fin.entries files) (old : Files) (are : AreTaken old taken) where
+    held : (mid : Files) → Gains (map numbered_of all) old mid → Holds mid (map entry_of all) files
+    held mid gains = Holds-written (λ (m : Made). m.path) (λ (m : Made). m.bytes) (λ (m : Made). m.store) mid files all gains.written (sym files_are)
 
--- ---- the clean build
+    pub stores : (mid : Files) → Gains (map numbered_of all) old mid → Stores files (map entry_of all) old mid
+    stores mid gains = record {
+      held = held mid gains;
+      only = subst (λ paths. ChangesAmong paths old mid) (paths_are all) gains.only;
+      taken = taken;
+      are_taken = are;
+      numbers = subst (AreLeast taken []) (sym (stores_are all)) numbered.numbers;
+    }
 
--- the frames of a run over these units
-shown_over : (says : Says) (processor : Option Try) (project : Files) (units : Units) (known : Known) (v : Verdict) → units_of project ≡ Ok units → ShowsRunOver says processor units known → ShowsRun (Build processor) says project known v
-shown_over says None project units known v is shown = tt
-shown_over says (Some processor) project units known v is shown = λ others e run.
-    let same : units ≡ others = let both : Ok units ≡ Ok others = sym is ∙ e in cc in
-    subst (λ u. (child : ℕ) × IsShown processor (frames_of (run_of says processor u)) known child) same shown
+    pub publishes : (new : Files) → Places (map numbered_of all) (record_form (map entry_of all)) old new → Publishes files old new × StoresStand new
+    publishes new p =
+        let count : length (map entry_of all) < 2 ^ 32 = subst (λ n. n < 2 ^ 32) (sym (length-map all entry_of)) numbered.count in
+        let both = output_of-record_form p.mid (map entry_of all) files count fit (held p.mid p.gains) in (
+          record {
+            entries = map entry_of all;
+            mid = p.mid;
+            stores = stores p.mid p.gains;
+            committed = p.committed;
+            output = ap output_of p.committed ∙ both.0;
+          },
+          subst StoresStand (sym p.committed) both.1,
+        )
 
--- a source that is refused, or what may come at any point before the run
-pub shown_unread : (says : Says) (processor : Option Try) (project : Files) (known : Known) (fault : Refusal) → EntersAll (units_of project) (Err fault) → ShowsRun (Build processor) says project known (refused fault)
-shown_unread says None project known fault enters = tt
-shown_unread says (Some processor) project known (code.UnbuiltForm path) enters = λ others e run. absurd (let f : Err path ≡ Ok others = sym enters ∙ e in cc)
-shown_unread says (Some processor) project known code.TreeFault enters = λ others e run. absurd cc
-shown_unread says (Some processor) project known code.Memory enters = λ others e run. absurd cc
-shown_unread says (Some processor) project known (code.UnbuiltTalk name) enters = absurd enters
-shown_unread says (Some processor) project known (code.TooManyQuestions name most) enters = absurd enters
-shown_unread says (Some processor) project known (code.GeneratedDuplicate name) enters = absurd enters
-shown_unread says (Some processor) project known code.TooManyRounds enters = absurd enters
-shown_unread says (Some processor) project known code.SinkFault enters = absurd enters
-shown_unread says (Some processor) project known (code.ChildFault name) enters = absurd enters
+  module _ (v : Verdict) (old new : Files) (are : AreTaken old taken) (placed : v ≡ Done → Places (map numbered_of all) (record_form (map entry_of all)) old new) (undone : LeavesUndone v old new) where
+    -- what it leaves, whether it is published or not
+    pub leaves_all : Leaves v old new
+    leaves_all = either_way v (Leaves v old new)
+        (λ done. subst (λ w. Leaves w old new) (sym done) (numbered.published, (publishes numbered.published numbered.entries old are new (placed done)).0))
+        undone
 
-unfree_run : (v : Verdict) → is_run v ≡ true → is_free v ≡ false
-unfree_run Done e = refl
-unfree_run (Errors count) e = refl
-unfree_run (BadWords at) e = refl
-unfree_run (UnbuiltForm path) e = refl
-unfree_run (UnbuiltTalk processor) e = refl
-unfree_run (TooManyQuestions processor most) e = refl
-unfree_run (GeneratedDuplicate name) e = refl
-unfree_run TooManyRounds e = refl
-unfree_run (ChildFault processor) e = absurd cc
-unfree_run TreeFault e = absurd cc
-unfree_run SinkFault e = absurd cc
-unfree_run Memory e = absurd cc
+    -- and each store file stands
+    pub stores_stand : StoresStand old → StoresStand new
+    stores_stand stand = either_way v (StoresStand new)
+        (λ done. (publishes numbered.published numbered.entries old are new (placed done)).1)
+        (λ ne. stands_by v old new ne leaves_all stand)
 
--- a run that is refused
-pub shown_refused : (says : Says) (processor : Option Try) (project : Files) (units : Units) (known : Known) (refusal : Refusal) → units_of project ≡ Ok units → Makes says processor units known (Err refusal) → ShowsRun (Build processor) says project known (refused refusal)
-shown_refused says None project units known refusal is makes = tt
-shown_refused says (Some processor) project units known refusal is makes = λ others e run.
-    shown_over says (Some processor) project units known (refused refusal) is (makes (unfree_run (refused refusal) run)).shown others e run
+-- the report of a build in which no error was printed
+pub report_is : (processor : List ℕ) (finished : Finished) → finished.errors ≡ 0 → report_of (finished_summary processor finished) (map listed (map entry_of finished.files)) ≡ concluding_report processor finished
+report_is processor finished none = sym (ap (λ n. cond (n == 0) (report_of (finished_summary processor finished) (map listed (map entry_of finished.files))) (errors_report (finished_summary processor finished))) none)
 
-pub answer_refused : (says : Says) (processor : Option Try) (project : Files) (units : Units) (known : Known) (refusal : Refusal) → units_of project ≡ Ok units → Makes says processor units known (Err refusal) → OrFree (verdict_of (clean says processor project)) (refused refusal)
-answer_refused says processor project units known refusal is makes = λ free. (makes free).verdict ∙ ap verdict_of (ap (outcome_of says processor) (sym is))
+-- ---- a build that ended before its run was finished
 
 by_case : {P : Type 0} (b : Bool) → (b ≡ true → P) → (b ≡ false → P) → P
 by_case true first second = first refl
 by_case false first second = second refl
 
-module _ (says : Says) (processor : Option Try) (project : Files) (units : Units) (taken : List ℕ) (finished : Finished) (numbered : AreNumbered taken finished.files) (known : Known) (is : units_of project ≡ Ok units) (makes : Makes says processor units known (Ok finished)) where
-  abbrev summary_here : Summary
-  summary_here = finished_summary (name_of processor) finished
+module _ (tells talks : Bool) (processor : Option Try) (says : Says) (project : Files) where
+  -- a source is refused, or the tree failed or memory was wanted
+  answer_of_read : (v : Verdict) → RefusesAs (units_of project) v → OrFree (verdict_of (clean says processor project)) v
+  answer_of_read Done refuses = absurd refuses
+  answer_of_read (Errors count) refuses = absurd refuses
+  answer_of_read (Refused refusal) refuses = λ free. sym (ap (λ o. verdict_of (outcome_of says processor o)) refuses)
+  answer_of_read (Failed object) refuses = λ free. absurd cc
+  answer_of_read Memory refuses = λ free. absurd cc
 
-  abbrev files_here : Files
-  files_here = files_among makes.0.made
+  pub answers_read : (v : Verdict) → Told tells (RefusesAs (units_of project) v) → Answers tells talks (Build processor) says project v
+  answers_read v refuses = λ told. talked talks processor (units_of project) _ (answer_of_read v (refuses told))
 
-  summed : summary (count_of_processors processor) finished.rounds (name_of processor) finished.messages finished.unread ≡ summary_here
-  summed = ap (λ n. record { started = n; rounds = finished.rounds; processor = name_of processor; messages = finished.messages; unread = finished.unread; errors = count_of is_error finished.messages; warnings = count_of is_warning finished.messages + length finished.unread }) (sym makes.0.starts)
-      ∙ ap (λ n. record { started = finished.started; rounds = finished.rounds; processor = name_of processor; messages = finished.messages; unread = finished.unread; errors = n; warnings = count_of is_warning finished.messages + length finished.unread }) (sym makes.0.has.errors)
-      ∙ ap (λ n. record { started = finished.started; rounds = finished.rounds; processor = name_of processor; messages = finished.messages; unread = finished.unread; errors = finished.errors; warnings = n }) (sym makes.0.has.warnings)
+  pub answers_free : (v : Verdict) → is_free v ≡ true → Answers tells talks (Build processor) says project v
+  answers_free v free = λ told. talked talks processor (units_of project) _ (λ unfree. absurd (let e : true ≡ false = sym free ∙ unfree in cc))
 
-  -- the clean build's outcome
-  clean_is : clean says processor project ≡ outcome.finished summary_here files_here
-  clean_is = ap (outcome_of says processor) is ∙ outcome_is says processor units ∙ ap (outcome_of_run (count_of_processors processor) (name_of processor)) makes.0.is ∙ ap (λ s. outcome.finished s files_here) summed
+  pub publishes_not : (new : Files) (v : Verdict) → v ≢ Done → PublishesClean tells talks (Build processor) says project new v
+  publishes_not new v ne = λ told. talked talks processor (units_of project) _ (λ done. absurd (ne done))
 
-  -- errors were printed
-  pub clean_errors : (finished.errors == 0) ≡ false → clean says processor project ≡ outcome.Errors summary_here
-  clean_errors some = clean_is ∙ ap (λ b. cond b (outcome.Built files_here summary_here) (outcome.Errors summary_here)) some
+-- nothing was shown to a child
+unread_over : (processor : Option Try) (says : Says) (entered : Result Units Refusal) (known : Known) (v : Verdict) → RefusesAs entered v → ShowsOver processor says entered known known v
+unread_over None says entered known v refuses = tt
+unread_over (Some processor) says (Err refusal) known v refuses = λ k. refl
+unread_over (Some processor) says (Ok units) known Done refuses = absurd refuses
+unread_over (Some processor) says (Ok units) known (Errors count) refuses = absurd refuses
+unread_over (Some processor) says (Ok units) known (Refused refusal) refuses = absurd (let e : Ok units ≡ Err refusal = refuses in cc)
+unread_over (Some processor) says (Ok units) known (Failed object) refuses = λ free. absurd cc
+unread_over (Some processor) says (Ok units) known Memory refuses = λ free. absurd cc
 
-  -- none was
-  pub clean_built : (finished.errors == 0) ≡ true → clean says processor project ≡ outcome.Built files_here summary_here
-  clean_built none = clean_is ∙ ap (λ b. cond b (outcome.Built files_here summary_here) (outcome.Errors summary_here)) none
+pub shown_unread : (processor : Option Try) (says : Says) (project : Files) (known : Known) (v : Verdict) → RefusesAs (units_of project) v → ShowsOver processor says (units_of project) known known v
+shown_unread processor says project known v refuses = unread_over processor says (units_of project) known v refuses
 
-  either : {P : Type 0} → ((finished.errors == 0) ≡ true → P) → ((finished.errors == 0) ≡ false → P) → P
-  either built errors = by_case (finished.errors == 0) built errors
+free_over : (processor : Option Try) (says : Says) (entered : Result Units Refusal) (known : Known) (v : Verdict) → is_free v ≡ true → ShowsOver processor says entered known known v
+free_over None says entered known v free = tt
+free_over (Some processor) says (Err refusal) known v free = λ k. refl
+free_over (Some processor) says (Ok units) known v free = λ unfree. absurd (let e : true ≡ false = sym free ∙ unfree in cc)
 
-  -- the verdict is that of the clean build
-  pub verdict_is : concluded finished ≡ verdict_of (clean says processor project)
-  verdict_is = either (λ none. ap (λ b. cond b Done (Errors finished.errors)) none ∙ sym (ap verdict_of (clean_built none)))
-      (λ some. ap (λ b. cond b Done (Errors finished.errors)) some ∙ sym (ap verdict_of (clean_errors some)))
+pub shown_free : (processor : Option Try) (says : Says) (project : Files) (known : Known) (v : Verdict) → is_free v ≡ true → ShowsOver processor says (units_of project) known known v
+shown_free processor says project known v free = free_over processor says (units_of project) known v free
 
-  -- and so is the report
-  pub reports : Reports (clean says processor project) (concluding_report (name_of processor) finished)
-  reports = either
-      (λ none. subst (λ o. Reports o (concluding_report (name_of processor) finished)) (sym (clean_built none))
-      (ap (λ b. cond b (report_of summary_here (map listed (map entry_of finished.files))) (errors_report summary_here)) none ∙ ap (report_of summary_here) (listed_are taken finished numbered files_here makes.0.has.files)))
-      (λ some. subst (λ o. Reports o (concluding_report (name_of processor) finished)) (sym (clean_errors some))
-      (ap (λ b. cond b (report_of summary_here (map listed (map entry_of finished.files))) (errors_report summary_here)) some))
+pub tells_none : (processor : Option Try) (known : Known) → TellsMore (Build processor) known known
+tells_none None known = λ k. refl
+tells_none (Some processor) known = inl (λ k. refl)
 
-  -- what a finished build published is the clean build's
-  pub publishes_clean : (v : Verdict) (old new : Files) → OrFree (concluded finished) v → AreTaken old taken → (v ≡ Done → Places (map numbered_of finished.files) (record_form (map entry_of finished.files)) old new)
-      → v ≡ Done → PublishesOutcome (clean says processor project) old new
-  publishes_clean v old new answer are placed done = either
-      (λ none. subst (λ o. PublishesOutcome o old new) (sym (clean_built none)) (publishes taken finished numbered files_here makes.0.has.files old new are (placed done)).0)
-      (λ some. absurd (let e : Done ≡ Errors finished.errors = sym done ∙ answer (ap is_free done) ∙ ap (λ b. cond b Done (Errors finished.errors)) some in cc))
+-- ---- a build whose run is known
 
-  -- the child was shown the clean run
-  pub shown_clean : (v : Verdict) → ShowsRun (Build processor) says project known v
-  shown_clean v = shown_over says processor project units known v is makes.1
+made_of : (talks : Bool) (processor : Option Try) (M : Type 0) → TalkedBy talks processor M → talks ≡ true → M
+made_of talks None M makes told = makes
+made_of talks (Some processor) M makes told = makes told
+
+talked_over : (talks : Bool) (processor : Option Try) (entered : Result Units Refusal) (units : Units) (M P : Type 0) → entered ≡ Ok units → TalkedBy talks processor M → (M → P) → Talked talks processor entered P
+talked_over talks None entered units M P is makes then = then makes
+talked_over talks (Some processor) (Err refusal) units M P is makes then = absurd (let e : Err refusal ≡ Ok units = is in cc)
+talked_over talks (Some processor) (Ok others) units M P is makes then = λ told. then (makes told)
+
+-- the frames of a run over these units
+shown_over : (says : Says) (processor : Option Try) (entered : Result Units Refusal) (units : Units) (known known' : Known) (v : Verdict) → entered ≡ Ok units → (is_free v ≡ false → ShowsRunOver says processor units known known') → ShowsOver processor says entered known known' v
+shown_over says None entered units known known' v is shown = tt
+shown_over says (Some processor) entered units known known' v is shown = subst (λ o. ShowsOver (Some processor) says o known known' v) (sym is) shown
+
+module _ (tells talks : Bool) (says : Says) (processor : Option Try) (project : Files) (units : Units) (known known' : Known) (is : Told tells (units_of project ≡ Ok units)) where
+  -- a run that was refused
+  module _ (status : Status) (makes : TalkedBy talks processor (Makes says processor units known known' (Err status))) where
+    abbrev MakesHere : Type 0
+    MakesHere = Makes says processor units known known' (Err status)
+
+    pub answers_refused : Answers tells talks (Build processor) says project (verdict status)
+    answers_refused = λ told. talked_over talks processor (units_of project) units MakesHere _ (is told) makes
+        (λ m. subst (λ o. OrFree (verdict_of (outcome_of says processor o)) (verdict status)) (sym (is told)) m.comes)
+
+    pub shown_refused : Told tells (Told talks (ShowsOver processor says (units_of project) known known' (verdict status)))
+    shown_refused = λ told said. shown_over says processor (units_of project) units known known' (verdict status) (is told) (λ free. (made_of talks processor MakesHere makes said).shown (ap not free))
+
+    pub more_refused : Told talks (TellsMore (Build processor) known known')
+    more_refused = λ said. (made_of talks processor MakesHere makes said).more
+
+  -- a run that was finished
+  module _ (taken : List ℕ) (finished : Finished) (numbered : AreNumbered taken finished.files) (makes : TalkedBy talks processor (Makes says processor units known known' (Ok finished))) where
+    abbrev MadeHere : Type 0
+    MadeHere = Makes says processor units known known' (Ok finished)
+
+    abbrev summary_here : Summary
+    summary_here = finished_summary (name_of processor) finished
+
+    abbrev outcome_here : Outcome
+    outcome_here = outcome_with (name_of processor) finished numbered.published
+
+    summed : MadeHere → summary (count_of_processors processor) finished.rounds (name_of processor) finished.messages finished.unread ≡ summary_here
+    summed m = ap (λ n. record { started = n; rounds = finished.rounds; processor = name_of processor; messages = finished.messages; unread = finished.unread; errors = count_of is_error finished.messages; warnings = count_of is_warning finished.messages + length finished.unread }) (sym m.comes.starts)
+        ∙ ap (λ n. record { started = finished.started; rounds = finished.rounds; processor = name_of processor; messages = finished.messages; unread = finished.unread; errors = n; warnings = count_of is_warning finished.messages + length finished.unread }) (sym m.comes.has.errors)
+        ∙ ap (λ n. record { started = finished.started; rounds = finished.rounds; processor = name_of processor; messages = finished.messages; unread = finished.unread; errors = finished.errors; warnings = n }) (sym m.comes.has.warnings)
+
+    -- the files that were made are those of the run
+    files_are : (m : MadeHere) → files_among m.comes.made ≡ numbered.published
+    files_are m = sym (from_entries-entries (files_among m.comes.made)) ∙ ap (λ es. fin.from_entries es) (sym m.comes.has.files ∙ numbered.entries) ∙ from_entries-entries numbered.published
+
+    -- the clean build's outcome
+    outcome_is_here : tells ≡ true → MadeHere → outcome_here ≡ clean says processor project
+    outcome_is_here told m = sym (ap (outcome_of says processor) (is told) ∙ outcome_is says processor units ∙ ap (outcome_of_run (count_of_processors processor) (name_of processor)) m.comes.is
+        ∙ ap (λ s. outcome.finished s (files_among m.comes.made)) (summed m) ∙ ap (λ files. outcome.finished summary_here files) (files_are m))
+
+    pub outcome_told : ToldOf tells talks processor project (outcome_here ≡ clean says processor project)
+    outcome_told = λ told. talked_over talks processor (units_of project) units MadeHere _ (is told) makes (outcome_is_here told)
+
+    -- errors were printed, or none was
+    some_errors : (finished.errors == 0) ≡ false → outcome_here ≡ outcome.Errors summary_here
+    some_errors some = ap (λ b. cond b (outcome.Built numbered.published summary_here) (outcome.Errors summary_here)) some
+
+    no_errors : (finished.errors == 0) ≡ true → outcome_here ≡ outcome.Built numbered.published summary_here
+    no_errors none = ap (λ b. cond b (outcome.Built numbered.published summary_here) (outcome.Errors summary_here)) none
+
+    either : {P : Type 0} → ((finished.errors == 0) ≡ true → P) → ((finished.errors == 0) ≡ false → P) → P
+    either built errors = by_case (finished.errors == 0) built errors
+
+    verdict_here : concluded finished ≡ verdict_of outcome_here
+    verdict_here = either (λ none. ap (λ b. cond b Done (Errors finished.errors)) none ∙ sym (ap verdict_of (no_errors none)))
+        (λ some. ap (λ b. cond b Done (Errors finished.errors)) some ∙ sym (ap verdict_of (some_errors some)))
+
+    report_here : report_text outcome_here ≡ concluding_report (name_of processor) finished
+    report_here = either
+        (λ none. ap report_text (no_errors none) ∙ ap (report_of summary_here) (sym (listed_are taken finished numbered numbered.published numbered.entries))
+        ∙ sym (ap (λ b. cond b (report_of summary_here (map listed (map entry_of finished.files))) (errors_report summary_here)) none))
+        (λ some. ap report_text (some_errors some) ∙ sym (ap (λ b. cond b (report_of summary_here (map listed (map entry_of finished.files))) (errors_report summary_here)) some))
+
+    module _ (v : Verdict) (answer : OrFree (concluded finished) v) where
+      -- the verdict is that of the clean build
+      pub answers_finished : Answers tells talks (Build processor) says project v
+      answers_finished = λ told. talked_over talks processor (units_of project) units MadeHere _ (is told) makes
+          (λ m. subst (λ o. OrFree (verdict_of o) v) (outcome_is_here told m) (subst (λ w. OrFree w v) verdict_here answer))
+
+      pub shown_finished : Told tells (Told talks (ShowsOver processor says (units_of project) known known' v))
+      shown_finished = λ told said. shown_over says processor (units_of project) units known known' v (is told) (λ free. (made_of talks processor MadeHere makes said).shown refl)
+
+      module _ (old new : Files) (are : Told tells (AreTaken old taken)) (same : Told tells (old ≡ project)) where
+        published_here : tells ≡ true → (v ≡ Done → Places (map numbered_of finished.files) (record_form (map entry_of finished.files)) old new) → v ≡ Done → PublishesOutcome outcome_here old new
+        published_here told placed done = either
+            (λ none. subst (λ o. PublishesOutcome o old new) (sym (no_errors none)) (publishes taken finished numbered numbered.published numbered.entries old (are told) new (placed done)).0)
+            (λ some. absurd (let e : Done ≡ Errors finished.errors = sym done ∙ answer (ap is_free done) ∙ ap (λ b. cond b Done (Errors finished.errors)) some in cc))
+
+        -- what a finished build published is the clean build's
+        pub publishes_finished : Told tells (v ≡ Done → Places (map numbered_of finished.files) (record_form (map entry_of finished.files)) old new) → PublishesClean tells talks (Build processor) says project new v
+        publishes_finished placed = λ told. talked_over talks processor (units_of project) units MadeHere _ (is told) makes
+            (λ m done. subst (λ o. PublishesOutcome o project new) (outcome_is_here told m) (subst (λ t. PublishesOutcome outcome_here t new) (same told) (published_here told (placed told) done)))
+
+        stores_here : (text : List ℕ) → tells ≡ true → (fails is_tree v ≡ true → finished.errors ≡ 0) → GainsFirst v text (map numbered_of finished.files) old new → StoresFirst outcome_here v text project new
+        stores_here text told none gains is some = subst (λ o. StoresOutcome o project new) (sym (no_errors (ap (λ n. n == 0) (none (ap (fails is_tree) is)))))
+            (map entry_of finished.files, subst (λ t. Stores numbered.published (map entry_of finished.files) t new) (same told) (stores taken finished numbered numbered.published numbered.entries old (are told) new (gains is some)))
+
+        -- what was written is the report of the outcome
+        pub reports_finished : (rose : Type 0) (before after : List ℕ) → (fails is_tree v ≡ true → finished.errors ≡ 0)
+            → Adds (λ text. IsFront ⊥ (concluding_report (name_of processor) finished) v text × Told tells (GainsFirst v text (map numbered_of finished.files) old new)) before after
+            → Adds (Reports tells talks (Build processor) says project new v rose) before after
+        reports_finished rose before after none (text, (front, gains), added) = (
+          text,
+          record {
+            outcome = outcome_here;
+            is_outcome = outcome_told;
+            is_front = subst (λ r. IsFront rose r v text) (sym report_here) (front_more ⊥ rose _ v text (λ never. absurd never) front);
+            stores = λ told. stores_here text told none (gains told);
+          },
+          added,
+        )
+
+    pub more_finished : Told talks (TellsMore (Build processor) known known')
+    more_finished = λ said. (made_of talks processor MadeHere makes said).more

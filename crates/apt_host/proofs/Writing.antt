@@ -1,163 +1,141 @@
 -- What is written, by the verdict.
-use Rattle.std.proofs.Common.{◌≡◌, ◌≢◌, ◌⊎◌, ℕ, Bool, true, false, List, [], ◌++◌, length, refl, sym, ap, ◌∙◌, subst, inl, inr, append-nil, append_assoc}
-use Rattle.std.proofs.Math.Seq.{take-length}
+use Rattle.std.proofs.Common.{◌≡◌, ◌≢◌, ◌⊎◌, ℕ, Bool, true, false, List, [], ◌++◌, Option, None, Some, Result, Ok, Err, refl, sym, ap, ◌∙◌, subst, inl, inr, take, append-nil, append_assoc}
 use Rattle.apt_outside.specs.Files.{Files}
-use Rattle.apt_outside.specs.Child.{Says}
-use Rattle.apt_host.specs.declared.status.Status.{Status}
-use Rattle.apt_host.specs.declared.status.Status.TheVariants as code
-use Rattle.std.specs.FinMap as fin
-use Rattle.std.proofs.Common.{map}
+use Rattle.apt_outside.specs.Child.{Says, Try}
+use Rattle.tree_store.specs.declared.fault.StoreFault.{StoreFault}
+use Rattle.tree_store.specs.declared.fault.StoreFault.TheVariants as store
+use Rattle.apt_outside.specs.declared.fault.Fault.{Fault}
+use Rattle.apt_outside.specs.declared.fault.Fault.TheVariants as outside
+use Rattle.apt_outside.specs.Stream.{Appends}
+use Rattle.apt_host.specs.Endings.{of_store, sink_verdict}
+use Rattle.round_engine.specs.Refusals.{Refusal, BadWords, Object, Tree, Sink, Children}
+use Rattle.round_engine.specs.Units.{Units}
 use Rattle.apt_host.specs.Words.{Request, Build, Bad}
-use Rattle.apt_host.specs.CleanBuild.{Outcome, clean}
+use Rattle.apt_host.specs.Project.{units_of}
+use Rattle.apt_host.specs.CleanBuild.{Summary, Outcome, clean}
+use Rattle.apt_host.specs.Report.{report_of}
 use Rattle.apt_host.specs.CleanBuild as outcome
-use Rattle.apt_host.specs.Report.{report_of, errors_report}
-use Rattle.apt_host.specs.Verdicts.{Verdict, verdict, Done, Errors, BadWords, UnbuiltForm, UnbuiltTalk, TooManyQuestions, GeneratedDuplicate, TooManyRounds, TreeFault, SinkFault, ChildFault, Memory, is_finished}
-use Rattle.apt_host.specs.Promises.{IsFront, IsLine, Reports, ReportsOf, Begins, Writes, Finishes, AddsLine}
+use Rattle.apt_host.specs.Verdicts.{Verdict, verdict, Done, Errors, Refused, Failed, Memory, is_finished, is_sink, fails}
+use Rattle.apt_host.specs.Promises.{Talked, ToldOf, IsFront, IsLine, IsOutcome, Reports, Adds, Writes, Finishes}
+
+-- a status is want of memory, or it is not
+pub memory_or_not : (v : Verdict) (A : Type 0) → (v ≡ Memory → A) → (v ≢ Memory → A) → A
+memory_or_not Memory A is other = is refl
+memory_or_not Done A is other = other (λ e. cc)
+memory_or_not (Errors count) A is other = other (λ e. cc)
+memory_or_not (Refused refusal) A is other = other (λ e. cc)
+memory_or_not (Failed object) A is other = other (λ e. cc)
+
+-- a fact that holds holds where it is told
+pub talked : (talks : Bool) (processor : Option Try) (entered : Result Units Refusal) (P : Type 0) → P → Talked talks processor entered P
+talked talks None entered P p = p
+talked talks (Some processor) (Err refusal) P p = p
+talked talks (Some processor) (Ok units) P p = λ told. p
+
+-- ---- the report
 
 -- before the report nothing stands
-pub nothing_yet : (report : List ℕ) (v : Verdict) → is_finished v ≡ false → IsFront report v []
-nothing_yet report Done ne = absurd cc
-nothing_yet report (Errors count) ne = absurd cc
-nothing_yet report (TooManyQuestions processor most) ne = refl
-nothing_yet report (GeneratedDuplicate name) ne = refl
-nothing_yet report TooManyRounds ne = refl
-nothing_yet report (BadWords at) ne = refl
-nothing_yet report (UnbuiltForm path) ne = refl
-nothing_yet report (UnbuiltTalk processor) ne = refl
-nothing_yet report (ChildFault processor) ne = refl
-nothing_yet report TreeFault ne = inl refl
-nothing_yet report SinkFault ne = (0, refl)
-nothing_yet report Memory ne = (0, refl)
+pub nothing_yet : (rose : Type 0) (report : List ℕ) (v : Verdict) → is_finished v ≡ false → fails is_sink v ≡ false → IsFront rose report v []
+nothing_yet rose report Done unfinished other = absurd cc
+nothing_yet rose report (Errors count) unfinished other = absurd cc
+nothing_yet rose report (Refused refusal) unfinished other = refl
+nothing_yet rose report (Failed Tree) unfinished other = inl refl
+nothing_yet rose report (Failed Sink) unfinished other = absurd cc
+nothing_yet rose report (Failed (Children processor)) unfinished other = refl
+nothing_yet rose report Memory unfinished other = inl refl
 
--- what a status may be once the report stands
-abbrev pub IsPublishing : Verdict → Type 0
-IsPublishing Done = Unit {0}
-IsPublishing (Errors count) = Unit {0}
-IsPublishing TreeFault = Unit {0}
-IsPublishing Memory = Unit {0}
-IsPublishing SinkFault = Unit {0}
-IsPublishing (BadWords at) = ⊥
-IsPublishing (UnbuiltForm path) = ⊥
-IsPublishing (UnbuiltTalk processor) = ⊥
-IsPublishing (ChildFault processor) = ⊥
-IsPublishing (TooManyQuestions processor most) = ⊥
-IsPublishing (GeneratedDuplicate name) = ⊥
-IsPublishing TooManyRounds = ⊥
+-- a report says how many children were started, at least
+pub report_some : (text : List ℕ) (summary : Summary) (files : List (List ℕ × ℕ)) → text ≡ report_of summary files → text ≢ []
+report_some text summary files is none = let e : report_of summary files ≡ [] = sym is ∙ none in cc
 
--- the whole report stands
-pub whole : (report : List ℕ) (v : Verdict) → IsPublishing v → IsFront report v report
-whole report Done h = refl
-whole report (Errors count) h = refl
-whole report TreeFault h = inr refl
-whole report SinkFault h = (length report, sym (take-length report))
-whole report Memory h = (length report, sym (take-length report))
-whole report (BadWords at) h = absurd h
-whole report (UnbuiltForm path) h = absurd h
-whole report (UnbuiltTalk processor) h = absurd h
-whole report (ChildFault processor) h = absurd h
-whole report (TooManyQuestions processor most) h = absurd h
-whole report (GeneratedDuplicate name) h = absurd h
-whole report TooManyRounds h = absurd h
+-- the sink failed or memory was wanted for the report, of which a part was written
+pub some_written : (report old new : List ℕ) (fault : Fault) → report ≢ [] → Appends old new report (Err fault) → Adds (IsFront ⊥ report (sink_verdict fault)) old new
+some_written report old new outside.Failed some appends = (take appends.some.0 report, (some, (appends.some.0, refl)), appends.some.1)
+some_written report old new outside.Memory some appends = ([], inl refl, appends.memory refl ∙ sym (append-nil old))
 
-front_memory : (report : List ℕ) (v : Verdict) (text : List ℕ) → IsFront report v text → IsFront report Memory text
-front_memory report Done text f = (length report, f ∙ sym (take-length report))
-front_memory report (Errors count) text f = (length report, f ∙ sym (take-length report))
-front_memory report (TooManyQuestions processor most) text f = (0, f)
-front_memory report (GeneratedDuplicate name) text f = (0, f)
-front_memory report TooManyRounds text f = (0, f)
-front_memory report (BadWords at) text f = (0, f)
-front_memory report (UnbuiltForm path) text f = (0, f)
-front_memory report (UnbuiltTalk processor) text f = (0, f)
-front_memory report (ChildFault processor) text f = (0, f)
-front_memory report TreeFault text (inl f) = (0, f)
-front_memory report TreeFault text (inr f) = (length report, f ∙ sym (take-length report))
-front_memory report SinkFault text f = f
-front_memory report Memory text f = f
+-- the tree is not at fault then
+pub sink_alone : (fault : Fault) → sink_verdict fault ≢ Failed Tree
+sink_alone outside.Failed e = cc
+sink_alone outside.Memory e = cc
+
+-- after the report the store may fail
+pub whole_stands : (rose : Type 0) (report : List ℕ) (fault : StoreFault) → IsFront rose report (verdict (of_store fault)) report
+whole_stands rose report store.Failed = inr refl
+whole_stands rose report store.Memory = inr (inl refl)
+
+front_memory : (rose : Type 0) (report : List ℕ) (v : Verdict) (text : List ℕ) → (fails is_sink v ≡ true → rose) → IsFront rose report v text → IsFront rose report Memory text
+front_memory rose report Done text why f = inr (inl f)
+front_memory rose report (Errors count) text why f = inr (inl f)
+front_memory rose report (Refused refusal) text why f = inl f
+front_memory rose report (Failed Tree) text why (inl f) = inl f
+front_memory rose report (Failed Tree) text why (inr f) = inr (inl f)
+front_memory rose report (Failed Sink) text why f = inr (inr (why refl, f.1))
+front_memory rose report (Failed (Children processor)) text why f = inl f
+front_memory rose report Memory text why f = f
+
+pub front_more : (r s : Type 0) (report : List ℕ) (v : Verdict) (text : List ℕ) → (r → s) → IsFront r report v text → IsFront s report v text
+front_more r s report Done text more f = f
+front_more r s report (Errors count) text more f = f
+front_more r s report (Refused refusal) text more f = f
+front_more r s report (Failed object) text more f = f
+front_more r s report Memory text more (inl f) = inl f
+front_more r s report Memory text more (inr (inl f)) = inr (inl f)
+front_more r s report Memory text more (inr (inr f)) = inr (inr (more f.0, f.1))
 
 -- the front stays one when the line wants memory
-pub front_after : (report : List ℕ) (v w : Verdict) (text : List ℕ) → (w ≢ Memory → w ≡ v) → IsFront report v text → IsFront report w text
-front_after report v Memory text same f = front_memory report v text f
-front_after report v Done text same f = subst (λ u. IsFront report u text) (sym (same (λ e. cc))) f
-front_after report v (BadWords at) text same f = subst (λ u. IsFront report u text) (sym (same (λ e. cc))) f
-front_after report v (UnbuiltForm path) text same f = subst (λ u. IsFront report u text) (sym (same (λ e. cc))) f
-front_after report v (UnbuiltTalk processor) text same f = subst (λ u. IsFront report u text) (sym (same (λ e. cc))) f
-front_after report v (ChildFault processor) text same f = subst (λ u. IsFront report u text) (sym (same (λ e. cc))) f
-front_after report v (Errors count) text same f = subst (λ u. IsFront report u text) (sym (same (λ e. cc))) f
-front_after report v (TooManyQuestions processor most) text same f = subst (λ u. IsFront report u text) (sym (same (λ e. cc))) f
-front_after report v (GeneratedDuplicate name) text same f = subst (λ u. IsFront report u text) (sym (same (λ e. cc))) f
-front_after report v TooManyRounds text same f = subst (λ u. IsFront report u text) (sym (same (λ e. cc))) f
-front_after report v TreeFault text same f = subst (λ u. IsFront report u text) (sym (same (λ e. cc))) f
-front_after report v SinkFault text same f = subst (λ u. IsFront report u text) (sym (same (λ e. cc))) f
+front_after : (rose : Type 0) (report : List ℕ) (v w : Verdict) (text : List ℕ) → (fails is_sink v ≡ true → rose) → (w ≢ Memory → w ≡ v) → IsFront rose report v text → IsFront rose report w text
+front_after rose report v w text why same f = memory_or_not w (IsFront rose report w text)
+    (λ memory. subst (λ u. IsFront rose report u text) (sym memory) (front_memory rose report v text why f))
+    (λ ne. subst (λ u. IsFront rose report u text) (sym (same ne)) f)
 
-pub line_more : (v : Verdict) (r s : Type 0) (line : List ℕ) → (r → s) → IsLine v r line → IsLine v s line
+line_more : (v : Verdict) (r s : Type 0) (line : List ℕ) → (r → s) → IsLine v r line → IsLine v s line
 line_more v r s line more (inl all) = inl all
-line_more v r s line more (inr (inl rose, cut)) = inr (inl (more rose), cut)
-line_more v r s line more (inr (inr memory, cut)) = inr (inr memory, cut)
+line_more v r s line more (inr (inl memory)) = inr (inl memory)
+line_more v r s line more (inr (inr cut)) = inr (inr (more cut.0, cut.1))
 
-pub written_all : (tells says_tells : Bool) (request : Request) (says : Says) (project : Files) (v w : Verdict) (r s : Type 0) (old mid new : List ℕ) → Finishes v w → (r → s) → Begins tells says_tells request says project v old mid → AddsLine w r mid new → Writes tells says_tells request says project w s old new
-written_all tells says_tells request says project v w r s old mid new fin more begins (line, is_line, added) = record {
-  report = begins.report;
-  is_report = begins.is_report;
-  text = begins.text;
-  is_front = front_after begins.report v w begins.text fin.same begins.is_front;
-  line = line;
-  is_line = line_more w r s line more is_line;
-  added = added ∙ ap (λ t. t ++ line) begins.added ∙ append_assoc old begins.text line;
-}
+module _ (tells talks : Bool) (request : Request) (says : Says) (project project' : Files) where
+  abbrev Written : Verdict → Type 0 → List ℕ → Type 0
+  Written v rose text = Reports tells talks request says project project' v rose text
 
--- the status of a build that ended with a report
-abbrev pub IsReported : Status → Type 0
-IsReported status = (status ≡ code.Done) ⊎ ((count : ℕ) × (status ≡ code.Errors count))
+  still_tree : (v w : Verdict) → (w ≢ Memory → w ≡ v) → w ≡ Failed Tree → v ≡ Failed Tree
+  still_tree v w same is = sym (same (λ memory. let e : Memory ≡ Failed Tree = sym memory ∙ is in cc)) ∙ is
 
-pub reported_status : (s : Status) → is_finished (verdict s) ≡ true → IsReported s
-reported_status code.Done e = inl refl
-reported_status (code.Errors count) e = inr (count, refl)
-reported_status (code.BadWords at) e = absurd cc
-reported_status (code.UnbuiltForm path) e = absurd cc
-reported_status (code.UnbuiltTalk processor) e = absurd cc
-reported_status (code.TooManyQuestions processor most) e = absurd cc
-reported_status (code.GeneratedDuplicate name) e = absurd cc
-reported_status code.TooManyRounds e = absurd cc
-reported_status (code.ChildFault processor) e = absurd cc
-reported_status code.TreeFault e = absurd cc
-reported_status code.SinkFault e = absurd cc
-reported_status code.Memory e = absurd cc
+  reports_after : (v w : Verdict) (r s : Type 0) (text : List ℕ) → Finishes v w → (r → s) → (fails is_sink v ≡ true → s) → Written v r text → Written w s text
+  reports_after v w r s text fin more why reports = record {
+    outcome = reports.outcome;
+    is_outcome = reports.is_outcome;
+    is_front = front_after s _ v w text why fin.same (front_more r s _ v text more reports.is_front);
+    stores = λ told is some. reports.stores told (still_tree v w fin.same is) some;
+  }
 
--- an outcome's own report
-report_text : Outcome → List ℕ
-report_text (outcome.Built files summary) = report_of summary (map (λ file. (file.0, length file.1)) (fin.entries files))
-report_text (outcome.Errors summary) = errors_report summary
-report_text (outcome.UnbuiltForm path) = []
-report_text (outcome.UnbuiltTalk processor) = []
-report_text (outcome.TooManyQuestions processor most) = []
-report_text (outcome.GeneratedDuplicate name) = []
-report_text outcome.TooManyRounds = []
+  pub written_all : (v w : Verdict) (r1 r2 s : Type 0) (old mid new : List ℕ) → Finishes v w → (r1 → s) → (r2 → s) → (fails is_sink v ≡ true → s)
+      → Adds (Written v r1) old mid → Adds (IsLine w r2) mid new → Writes (Written w s) (IsLine w s) old new
+  written_all v w r1 r2 s old mid new fin more more_line why (text, reports, added) (line, is_line, ends) = record {
+    text = text;
+    is_text = reports_after v w r1 s text fin more why reports;
+    line = line;
+    is_line = line_more w r2 s line more_line is_line;
+    added = ends ∙ ap (λ t. t ++ line) added ∙ append_assoc old text line;
+  }
 
-own_report : (o : Outcome) → Reports o (report_text o)
-unfolding report_text
-own_report (outcome.Built files summary) = refl
-own_report (outcome.Errors summary) = refl
-own_report (outcome.UnbuiltForm path) = tt
-own_report (outcome.UnbuiltTalk processor) = tt
-own_report (outcome.TooManyQuestions processor most) = tt
-own_report (outcome.GeneratedDuplicate name) = tt
-own_report outcome.TooManyRounds = tt
+  outcome_for : Request → Outcome
+  outcome_for (Build processor) = clean says processor project
+  outcome_for (Bad at) = outcome.Refused (BadWords at)
 
-text_of : Request → Says → Files → List ℕ
-text_of (Build processor) says project = report_text (clean says processor project)
-text_of (Bad at) says project = []
+  own_outcome : (r : Request) → IsOutcome tells talks r says project (outcome_for r)
+  unfolding outcome_for
+  own_outcome (Build processor) = λ told. talked talks processor (units_of project) (clean says processor project ≡ clean says processor project) refl
+  own_outcome (Bad at) = refl
 
-own_text : (request : Request) (says : Says) (project : Files) → ReportsOf request says project (text_of request says project)
-unfolding text_of
-own_text (Build processor) says project = own_report (clean says processor project)
-own_text (Bad at) says project = tt
-
--- nothing was written yet
-pub begins_with_nothing : (tells says_tells : Bool) (request : Request) (says : Says) (project : Files) (v : Verdict) (old : List ℕ) → is_finished v ≡ false → Begins tells says_tells request says project v old old
-begins_with_nothing tells says_tells request says project v old ne = record {
-  report = text_of request says project;
-  is_report = λ _ _. own_text request says project;
-  text = [];
-  is_front = nothing_yet _ v ne;
-  added = sym (append-nil old);
-}
+  -- nothing was written yet
+  pub begins_with_nothing : (v : Verdict) (rose : Type 0) (old : List ℕ) → is_finished v ≡ false → fails is_sink v ≡ false → Adds (Written v rose) old old
+  begins_with_nothing v rose old unfinished other = (
+    [],
+    record {
+      outcome = outcome_for request;
+      is_outcome = own_outcome request;
+      is_front = nothing_yet rose _ v unfinished other;
+      stores = λ told is some. absurd (some refl);
+    },
+    sym (append-nil old),
+  )

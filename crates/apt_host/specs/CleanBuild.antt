@@ -4,7 +4,8 @@ use Rattle.apt_outside.specs.Files.{Files}
 use Rattle.apt_outside.specs.Child.{Says, Try}
 use Rattle.round_engine.specs.declared.messages.Placed.{Placed}
 use Rattle.round_engine.specs.Units.{Units}
-use Rattle.round_engine.specs.Run.{Run, Finished, Refused, Fault, files_among, run_of}
+use Rattle.round_engine.specs.Refusals.{Refusal}
+use Rattle.round_engine.specs.Run.{Run, files_among, run_of}
 use Rattle.round_engine.specs.Run as run
 use Rattle.round_engine.specs.Clean.{is_error, is_warning, count_of}
 use Rattle.apt_host.specs.Project.{units_of}
@@ -25,15 +26,7 @@ pub record Summary : Type 0 where
   pub warnings : ℕ
 
 pub data Outcome : Type 0 where
-  -- a source is none that can be read so far
-  UnbuiltForm : (path : List ℕ) → Outcome
-  -- a child's bytes are none that can be read so far
-  UnbuiltTalk : (processor : List ℕ) → Outcome
-  -- a child asked once more than so often in a round
-  TooManyQuestions : (processor : List ℕ) (most : ℕ) → Outcome
-  -- a created source gives a type that is there
-  GeneratedDuplicate : (name : List ℕ) → Outcome
-  TooManyRounds : Outcome
+  Refused : (refusal : Refusal) → Outcome
   -- an ERROR was printed, and nothing is published
   Errors : (summary : Summary) → Outcome
   -- the files to publish
@@ -55,20 +48,13 @@ summary started rounds processor messages unread = record {
 abbrev pub finished : Summary → Files → Outcome
 finished s files = if s.errors == 0 then Built files s else Errors s
 
-abbrev pub outcome_of_fault : List ℕ → Fault → Outcome
-outcome_of_fault processor run.UnbuiltTalk = UnbuiltTalk processor
-outcome_of_fault processor (run.TooManyQuestions most) = TooManyQuestions processor most
-outcome_of_fault processor (run.UnbuiltForm path) = UnbuiltForm path
-outcome_of_fault processor (run.GeneratedDuplicate name) = GeneratedDuplicate name
-outcome_of_fault processor run.TooManyRounds = TooManyRounds
-
 abbrev pub outcome_of_run : ℕ → List ℕ → Run → Outcome
-outcome_of_run started processor (Finished sent rounds made messages unread) = finished (summary started rounds processor messages unread) (files_among made)
-outcome_of_run started processor (Refused sent fault) = outcome_of_fault processor fault
+outcome_of_run started processor (run.Finished sent rounds made messages unread) = finished (summary started rounds processor messages unread) (files_among made)
+outcome_of_run started processor (run.Refused sent refusal) = Refused refusal
 
-abbrev pub outcome_of : Says → Option Try → Result Units (List ℕ) → Outcome
-outcome_of says processor (Err path) = UnbuiltForm path
-outcome_of says None (Ok units) = outcome_of_run 0 [] (Finished [] 2 [] [] [])
+abbrev pub outcome_of : Says → Option Try → Result Units Refusal → Outcome
+outcome_of says processor (Err refusal) = Refused refusal
+outcome_of says None (Ok units) = outcome_of_run 0 [] (run.Finished [] 2 [] [] [])
 outcome_of says (Some processor) (Ok units) = outcome_of_run 1 processor.0 (run_of says processor units)
 
 abbrev pub clean : Says → Option Try → Files → Outcome

@@ -4,8 +4,8 @@ pub mod Project
 pub mod CleanBuild
 pub mod Report
 pub mod Verdicts
-pub mod Refusals
+pub mod Endings
 pub mod Entering
 pub mod Listed
-pub mod Making
 pub mod Promises
+pub mod Making

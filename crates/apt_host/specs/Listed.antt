@@ -1,13 +1,15 @@
 -- What the report and the store have of a file that was made.
-use Rattle.std.specs.Prelude.{◌≡◌, ℕ, List, length, map, All}
+use Rattle.std.specs.Prelude.{◌≡◌, ◌≢◌, ℕ, List, [], length, map, All}
 use Rattle.std.specs.FinMap as fin
 use Rattle.apt_outside.specs.Files.{Files}
 use Rattle.tree_store.specs.declared.record.StoredFile.{StoredFile}
 use Rattle.tree_store.specs.RecordFormat.{record_form, IsEntry}
 use Rattle.tree_store.specs.Output.{record_path}
-use Rattle.tree_store.specs.Storing.{Numbered, AreWritten, AddsToStore}
+use Rattle.tree_store.specs.Storing.{Numbered, AreWritten, ChangesAmong, paths_of}
 use Rattle.apt_host.specs.declared.report.Summary as code
 use Rattle.apt_host.specs.CleanBuild.{Summary}
+use Rattle.round_engine.specs.Refusals.{Tree}
+use Rattle.apt_host.specs.Verdicts.{Verdict, Failed}
 use Rattle.apt_host.specs.Report.{report_of}
 use Rattle.round_engine.specs.declared.numbering.Made.{Made}
 
@@ -49,10 +51,19 @@ pub record Spells (summary : Summary) (made : List Made) (stored : Numbered) (by
   pub bytes_are : bytes ≡ record_form (map entry_of made)
   pub fit : All IsEntry (map entry_of made)
   pub text_is : text ≡ report_of summary (map listed (map entry_of made))
+  pub some : text ≢ []
+
+-- the store gained these files and nothing else
+pub record Gains (stored : Numbered) (old new : Files) : Type 0 where
+  pub written : AreWritten new stored
+  pub only : ChangesAmong (paths_of stored) old new
 
 -- the store gained the files, and then the record was put in place
 pub record Places (stored : Numbered) (bytes : List ℕ) (old new : Files) : Type 0 where
   pub mid : Files
-  pub written : AreWritten mid stored
-  pub adds : AddsToStore old mid
+  pub gains : Gains stored old mid
   pub committed : new ≡ fin.insert mid record_path bytes
+
+-- where the tree failed after a text was written, the store had gained the files
+abbrev pub GainsFirst : Verdict → List ℕ → Numbered → Files → Files → Type 0
+GainsFirst v text stored old new = v ≡ Failed Tree → text ≢ [] → Gains stored old new

@@ -1,29 +1,33 @@
 -- What making the files of a build gives.
-use Rattle.std.specs.Prelude.{◌≡◌, ◌==◌, ℕ, false, List, [], ◌∷◌, map, if◌then◌else◌, Option, None, Some, Result, Ok, Err}
+use Rattle.std.specs.Prelude.{◌≡◌, ◌==◌, ℕ, Bool, true, false, not, List, [], ◌∷◌, map, if◌then◌else◌, Option, None, Some, Result, Ok, Err}
+use Rattle.apt_outside.specs.Count.{Told}
+use Rattle.apt_outside.specs.Files.{Files}
 use Rattle.apt_outside.specs.Child.{Says, Try, Known}
 use Rattle.wire_frames.specs.declared.frame.Creation.{Creation}
 use Rattle.round_engine.specs.declared.running.Finished.{Finished}
 use Rattle.round_engine.specs.Units.{Units}
 use Rattle.round_engine.specs.Run.{Run, run_of}
 use Rattle.round_engine.specs.Run as run
-use Rattle.round_engine.specs.Shown.{IsShown}
+use Rattle.round_engine.specs.Shown.{ShowsNew}
 use Rattle.round_engine.specs.Clean.{Has, frames_of}
-use Rattle.apt_host.specs.declared.refusal.Refusal.{Refusal}
-use Rattle.apt_host.specs.CleanBuild.{Summary, outcome_of}
+use Rattle.apt_host.specs.declared.status.Status.{Status}
+use Rattle.apt_host.specs.CleanBuild as outcome
+use Rattle.apt_host.specs.CleanBuild.{Summary, Outcome, outcome_of}
 use Rattle.apt_host.specs.Report.{report_of, errors_report}
 use Rattle.apt_host.specs.Listed.{listed, entry_of}
-use Rattle.apt_host.specs.Verdicts.{Verdict, Done, Errors, is_free, verdict_of}
-use Rattle.apt_host.specs.Refusals.{refused}
+use Rattle.apt_host.specs.Words.{Build}
+use Rattle.apt_host.specs.Promises.{TellsMore}
+use Rattle.apt_host.specs.Verdicts.{Verdict, Done, Errors, OrFree, is_free, verdict, verdict_of}
 
 -- the run of a build over these units
 abbrev pub run_over : Says → Option Try → Units → Run
 run_over says None units = run.Finished [] 2 [] [] []
 run_over says (Some processor) units = run_of says processor units
 
--- the child was shown exactly the frames of the run
-abbrev pub ShowsRunOver : Says → Option Try → Units → Known → Type 0
-ShowsRunOver says None units known = Unit {0}
-ShowsRunOver says (Some processor) units known = (child : ℕ) × IsShown processor (frames_of (run_of says processor units)) known child
+-- the child that was started was shown exactly the frames of the run
+abbrev pub ShowsRunOver : Says → Option Try → Units → Known → Known → Type 0
+ShowsRunOver says None units known known' = Unit {0}
+ShowsRunOver says (Some processor) units known known' = ShowsNew processor (frames_of (run_of says processor units)) known known'
 
 abbrev pub count_of_processors : Option Try → ℕ
 count_of_processors None = 0
@@ -36,14 +40,25 @@ pub record MakesAs (whole : Run) (started : ℕ) (finished : Finished) : Type 0 
   pub has : Has made finished
   pub starts : finished.started ≡ started
 
--- a refusal is the clean build's
-pub record RefusesAs (says : Says) (processor : Option Try) (units : Units) (known : Known) (refusal : Refusal) : Type 0 where
-  pub verdict : refused refusal ≡ verdict_of (outcome_of says processor (Ok units))
-  pub shown : ShowsRunOver says processor units known
+-- it is the clean build's, where it is due
+abbrev pub MakesOf : Says → Option Try → Units → Result Finished Status → Type 0
+MakesOf says processor units (Ok finished) = MakesAs (run_over says processor units) (count_of_processors processor) finished
+MakesOf says processor units (Err status) = OrFree (verdict_of (outcome_of says processor (Ok units))) (verdict status)
 
-abbrev pub Makes : Says → Option Try → Units → Known → Result Finished Refusal → Type 0
-Makes says processor units known (Ok finished) = MakesAs (run_over says processor units) (count_of_processors processor) finished × ShowsRunOver says processor units known
-Makes says processor units known (Err refusal) = is_free (refused refusal) ≡ false → RefusesAs says processor units known refusal
+-- whether it is due: no fault outside and no want of memory
+abbrev pub is_made : {T : Type 0} → Result T Status → Bool
+is_made (Ok value) = true
+is_made (Err status) = not (is_free (verdict status))
+
+pub record Makes (says : Says) (processor : Option Try) (units : Units) (known known' : Known) (result : Result Finished Status) : Type 0 where
+  pub comes : MakesOf says processor units result
+  pub more : TellsMore (Build processor) known known'
+  pub shown : is_made result ≡ true → ShowsRunOver says processor units known known'
+
+-- a fact on which what children say bears, where they tell it; without a processor none is asked
+abbrev pub TalkedBy : Bool → Option Try → Type 0 → Type 0
+TalkedBy talks None P = P
+TalkedBy talks (Some processor) P = Told talks P
 
 -- ---- what comes after the run
 
@@ -71,6 +86,10 @@ finished_summary processor finished = record {
 -- a run in which errors were printed is not published
 abbrev pub concluded : Finished → Verdict
 concluded finished = if finished.errors == 0 then Done else Errors finished.errors
+
+-- what it comes to, with these files
+abbrev pub outcome_with : List ℕ → Finished → Files → Outcome
+outcome_with processor finished files = outcome.finished (finished_summary processor finished) files
 
 abbrev pub concluding_report : List ℕ → Finished → List ℕ
 concluding_report processor finished =

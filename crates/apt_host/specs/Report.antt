@@ -1,8 +1,10 @@
 -- What a build writes: the mode line, the messages, the closing lines, the files and the end line.
-use Rattle.std.specs.Prelude.{ℕ, ◌==◌, List, [], ◌∷◌, ◌++◌, length, codes, decimal, if◌then◌else◌}
+use Rattle.std.specs.Prelude.{ℕ, ◌==◌, List, [], ◌∷◌, ◌++◌, length, map, codes, decimal, if◌then◌else◌}
 use Rattle.std.specs.List.{flat_map}
+use Rattle.std.specs.FinMap as fin
 use Rattle.round_engine.specs.declared.messages.Placed.{Placed}
-use Rattle.apt_host.specs.CleanBuild.{Summary}
+use Rattle.apt_host.specs.CleanBuild as outcome
+use Rattle.apt_host.specs.CleanBuild.{Summary, Outcome}
 
 -- every build is clean so far, as if it had been asked to be
 abbrev pub mode_line : ℕ → List ℕ
@@ -54,3 +56,9 @@ report_of summary files = mode_line summary.started ++ (told_lines summary ++ (f
 -- the report of a build in which an ERROR was printed
 abbrev pub errors_report : Summary → List ℕ
 errors_report summary = mode_line summary.started ++ (told_lines summary ++ errors_line summary)
+
+-- what a build writes, if nothing fails; a build that is refused has no report
+abbrev pub report_text : Outcome → List ℕ
+report_text (outcome.Built files summary) = report_of summary (map (λ file. (file.0, length file.1)) (fin.entries files))
+report_text (outcome.Errors summary) = errors_report summary
+report_text (outcome.Refused refusal) = []

@@ -1,5 +1,8 @@
--- A status as a value: its number, its line, and which come at any point.
-use Rattle.std.specs.Prelude.{◌≡◌, ℕ, Bool, true, false, List, [], ◌++◌, codes, decimal}
+-- How a call ends, as a value: its number, its line, and which ends may come at any point.
+use Rattle.std.specs.Prelude.{◌≡◌, ◌⊎◌, ℕ, ◌≤◌, Bool, true, false, List, [], ◌++◌, codes, decimal, Result, Ok, Err}
+use Rattle.apt_outside.specs.Count.{Rose}
+use Rattle.round_engine.specs.Refusals as stop
+use Rattle.round_engine.specs.Refusals.{Refusal, BadWords, UnbuiltForm, UnbuiltTalk, TooManyQuestions, GeneratedDuplicate, TooManyRounds, Object, Tree, Sink, Children, Stop}
 use Rattle.apt_host.specs.declared.status.Status.{Status}
 use Rattle.apt_host.specs.declared.status.Status.TheVariants as code
 use Rattle.apt_host.specs.CleanBuild as outcome
@@ -9,101 +12,138 @@ pub data Verdict : Type 0 where
   Done : Verdict
   -- so many errors were printed
   Errors : (count : ℕ) → Verdict
-  BadWords : (at : ℕ) → Verdict
-  UnbuiltForm : (path : List ℕ) → Verdict
-  UnbuiltTalk : (processor : List ℕ) → Verdict
-  TooManyQuestions : (processor : List ℕ) (most : ℕ) → Verdict
-  GeneratedDuplicate : (name : List ℕ) → Verdict
-  TooManyRounds : Verdict
-  TreeFault : Verdict
-  SinkFault : Verdict
-  ChildFault : (processor : List ℕ) → Verdict
+  Refused : (refusal : Refusal) → Verdict
+  -- the object failed
+  Failed : (object : Object) → Verdict
+  -- want of memory
   Memory : Verdict
 
 abbrev pub verdict : Status → Verdict
 verdict code.Done = Done
 verdict (code.Errors count) = Errors count
-verdict (code.BadWords at) = BadWords at
-verdict (code.UnbuiltForm path) = UnbuiltForm path
-verdict (code.UnbuiltTalk processor) = UnbuiltTalk processor
-verdict (code.TooManyQuestions processor most) = TooManyQuestions processor most
-verdict (code.GeneratedDuplicate name) = GeneratedDuplicate name
-verdict code.TooManyRounds = TooManyRounds
-verdict code.TreeFault = TreeFault
-verdict code.SinkFault = SinkFault
-verdict (code.ChildFault processor) = ChildFault processor
+verdict (code.BadWords at) = Refused (BadWords at)
+verdict (code.UnbuiltForm path) = Refused (UnbuiltForm path)
+verdict (code.UnbuiltTalk processor) = Refused (UnbuiltTalk processor)
+verdict (code.TooManyQuestions processor most) = Refused (TooManyQuestions processor most)
+verdict (code.GeneratedDuplicate name) = Refused (GeneratedDuplicate name)
+verdict code.TooManyRounds = Refused TooManyRounds
+verdict code.TreeFault = Failed Tree
+verdict code.SinkFault = Failed Sink
+verdict (code.ChildFault processor) = Failed (Children processor)
 verdict code.Memory = Memory
 
--- the exit status
-abbrev pub code_of : Verdict → ℕ
-code_of Done = 0
-code_of (Errors count) = 1
-code_of (BadWords at) = 2
-code_of Memory = 3
-code_of TreeFault = 4
-code_of SinkFault = 5
-code_of (ChildFault processor) = 7
-code_of (TooManyQuestions processor most) = 11
-code_of (GeneratedDuplicate name) = 19
-code_of TooManyRounds = 20
-code_of (UnbuiltForm path) = 25
-code_of (UnbuiltTalk processor) = 26
+-- a run that ended early
+abbrev pub stopped : Stop → Verdict
+stopped (stop.Refused refusal) = Refused refusal
+stopped (stop.Failed object) = Failed object
+stopped stop.Memory = Memory
 
--- want of memory or a counted fault, which may come at any point
+-- what a build comes to, if nothing fails
+abbrev pub verdict_of : Outcome → Verdict
+verdict_of (outcome.Refused refusal) = Refused refusal
+verdict_of (outcome.Errors summary) = Errors summary.errors
+verdict_of (outcome.Built files summary) = Done
+
+-- ---- its kinds
+
+-- a fault outside or want of memory, which may come at any point
 abbrev pub is_free : Verdict → Bool
-is_free TreeFault = true
-is_free SinkFault = true
-is_free (ChildFault processor) = true
-is_free Memory = true
 is_free Done = false
 is_free (Errors count) = false
-is_free (BadWords at) = false
-is_free (UnbuiltForm path) = false
-is_free (UnbuiltTalk processor) = false
-is_free (TooManyQuestions processor most) = false
-is_free (GeneratedDuplicate name) = false
-is_free TooManyRounds = false
+is_free (Refused refusal) = false
+is_free (Failed object) = true
+is_free Memory = true
 
 -- this is the verdict, unless it is a free one
 abbrev pub OrFree : Verdict → Verdict → Type 0
 OrFree expected v = is_free v ≡ false → v ≡ expected
 
--- how a build with this outcome ends
-abbrev pub verdict_of : Outcome → Verdict
-verdict_of (outcome.UnbuiltForm path) = UnbuiltForm path
-verdict_of (outcome.UnbuiltTalk processor) = UnbuiltTalk processor
-verdict_of (outcome.TooManyQuestions processor most) = TooManyQuestions processor most
-verdict_of (outcome.GeneratedDuplicate name) = GeneratedDuplicate name
-verdict_of outcome.TooManyRounds = TooManyRounds
-verdict_of (outcome.Errors summary) = Errors summary.errors
-verdict_of (outcome.Built files summary) = Done
+-- this verdict, or want of memory in its place
+abbrev pub OrMemory : Verdict → Verdict → Type 0
+OrMemory expected v = (v ≡ expected) ⊎ (v ≡ Memory)
 
--- the build ended with a report
+-- the call ended with a report
 abbrev pub is_finished : Verdict → Bool
 is_finished Done = true
 is_finished (Errors count) = true
-is_finished (BadWords at) = false
-is_finished (UnbuiltForm path) = false
-is_finished (UnbuiltTalk processor) = false
-is_finished (TooManyQuestions processor most) = false
-is_finished (GeneratedDuplicate name) = false
-is_finished TooManyRounds = false
-is_finished TreeFault = false
-is_finished SinkFault = false
-is_finished (ChildFault processor) = false
+is_finished (Refused refusal) = false
+is_finished (Failed object) = false
 is_finished Memory = false
 
--- the line of a refusal; a build that ended with a report has none
+-- ---- faults outside
+
+abbrev pub is_tree : Object → Bool
+is_tree Tree = true
+is_tree Sink = false
+is_tree (Children processor) = false
+
+abbrev pub is_sink : Object → Bool
+is_sink Tree = false
+is_sink Sink = true
+is_sink (Children processor) = false
+
+abbrev pub is_children : Object → Bool
+is_children Tree = false
+is_children Sink = false
+is_children (Children processor) = true
+
+-- what a build writes to
+abbrev pub is_output : Object → Bool
+is_output Tree = true
+is_output Sink = true
+is_output (Children processor) = false
+
+-- whether such an object failed
+abbrev pub fails : (Object → Bool) → Verdict → Bool
+fails is (Failed object) = is object
+fails is other = false
+
+-- the count of faults of such an object never falls, and its fault comes only where it rose
+pub record HasCause (is : Object → Bool) (v : Verdict) (before now : ℕ) : Type 0 where
+  pub later : before ≤ now
+  pub rose : fails is v ≡ true → Rose before now
+
+-- ---- number and line
+
+abbrev pub number_of : Refusal → ℕ
+number_of (BadWords at) = 2
+number_of (TooManyQuestions processor most) = 11
+number_of (GeneratedDuplicate name) = 19
+number_of TooManyRounds = 20
+number_of (UnbuiltForm path) = 25
+number_of (UnbuiltTalk processor) = 26
+
+abbrev pub number_of_failure : Object → ℕ
+number_of_failure Tree = 4
+number_of_failure Sink = 5
+number_of_failure (Children processor) = 7
+
+-- the exit status
+abbrev pub code_of : Verdict → ℕ
+code_of Done = 0
+code_of (Errors count) = 1
+code_of (Refused refusal) = number_of refusal
+code_of Memory = 3
+code_of (Failed object) = number_of_failure object
+
+-- the line of a refusal
+abbrev pub line_of : Refusal → List ℕ
+line_of (BadWords at) = codes "refused: BadWords(" ++ (decimal at ++ codes ")\n")
+line_of (UnbuiltForm path) = codes "refused: UnbuiltForm(" ++ (path ++ codes ")\n")
+line_of (UnbuiltTalk processor) = codes "refused: UnbuiltTalk(" ++ (processor ++ codes ")\n")
+line_of (TooManyQuestions processor most) = codes "refused: TooManyQuestions(" ++ (processor ++ (codes ", " ++ (decimal most ++ codes ")\n")))
+line_of (GeneratedDuplicate name) = codes "refused: GeneratedDuplicate(" ++ (name ++ codes ")\n")
+line_of TooManyRounds = codes "refused: TooManyRounds(64)\n"
+
+abbrev pub line_of_failure : Object → List ℕ
+line_of_failure Tree = codes "refused: TreeFault\n"
+line_of_failure Sink = codes "refused: SinkFault\n"
+line_of_failure (Children processor) = codes "refused: ChildFault(" ++ (processor ++ codes ")\n")
+
+-- the line of a call that ended early; one that ended with a report has none
 abbrev pub refusal_of : Verdict → List ℕ
 refusal_of Done = []
 refusal_of (Errors count) = []
-refusal_of (BadWords at) = codes "refused: BadWords(" ++ (decimal at ++ codes ")\n")
-refusal_of (UnbuiltForm path) = codes "refused: UnbuiltForm(" ++ (path ++ codes ")\n")
-refusal_of (UnbuiltTalk processor) = codes "refused: UnbuiltTalk(" ++ (processor ++ codes ")\n")
-refusal_of (TooManyQuestions processor most) = codes "refused: TooManyQuestions(" ++ (processor ++ (codes ", " ++ (decimal most ++ codes ")\n")))
-refusal_of (GeneratedDuplicate name) = codes "refused: GeneratedDuplicate(" ++ (name ++ codes ")\n")
-refusal_of TooManyRounds = codes "refused: TooManyRounds(64)\n"
-refusal_of TreeFault = codes "refused: TreeFault\n"
-refusal_of SinkFault = codes "refused: SinkFault\n"
-refusal_of (ChildFault processor) = codes "refused: ChildFault(" ++ (processor ++ codes ")\n")
+refusal_of (Refused refusal) = line_of refusal
+refusal_of (Failed object) = line_of_failure object
 refusal_of Memory = codes "refused: Memory\n"

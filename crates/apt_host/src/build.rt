@@ -1,25 +1,23 @@
 // One build.
-ghost use Rattle.std.specs.Prelude.{◌≡◌, ◌≢◌, ◌≤◌, ◌<◌, ◌^◌, All, IfOk, length, map, option_map, true};
+ghost use Rattle.std.specs.Prelude.{◌≡◌, ◌<◌, ◌^◌, All, IfOk, IfErr, length, map, option_map, true};
 ghost use Rattle.std.specs.List.Sorted.{IsStrictlyIncreasing};
 ghost use Rattle.apt_outside.specs.Count.{Rose, Told};
 ghost use Rattle.apt_outside.specs.Held.{files_of};
-ghost use Rattle.round_engine.specs.Clean.{try_of, AreNumbered};
+ghost use Rattle.round_engine.specs.Clean.{IsPlain, try_of, AreNumbered};
 ghost use Rattle.tree_store.specs.Output.{StoresStand, SameOutside};
 ghost use Rattle.apt_base.specs.Fields.{is_text};
 ghost use Rattle.tree_store.specs.RecordFormat.{record_form};
 ghost use Rattle.tree_store.specs.Storing.{AreDistinct, AreAbsent};
-ghost use Rattle.apt_host.specs.Words.{Build};
-ghost use Rattle.apt_host.specs.Shown.{shown_processor};
-ghost use Rattle.apt_host.specs.Verdicts.{Done, TreeFault, SinkFault, OrFree};
-ghost use Rattle.apt_host.specs.Refusals.{ended, closed};
-ghost use Rattle.apt_host.specs.Making.{Makes, tries_of, name_of, concluded, concluding_report};
-ghost use Rattle.apt_host.specs.Entering.{IsConcluded};
-ghost use Rattle.apt_host.specs.Listed.{entry_of, numbered_of, Places};
-ghost use Rattle.apt_host.specs.Promises.{answer_of, ChildrenRose, PublishesClean, Leaves, KeepsOutput, KeepsStores, AddsFront, Begins, Starts, Tries, StartsUnread, TriesUnread, NamesChild, ShowsRun};
+ghost use Rattle.apt_host.specs.Shown.{shown_processor, build_by};
+ghost use Rattle.apt_host.specs.Verdicts.{verdict, Done, OrFree, is_tree, is_sink, is_children, fails, HasCause};
+ghost use Rattle.apt_host.specs.Endings.{ended, closed, EndsEarly, IsConcluded};
+ghost use Rattle.apt_host.specs.Making.{Makes, TalkedBy, tries_of, name_of, concluded, concluding_report};
+ghost use Rattle.apt_host.specs.Listed.{entry_of, numbered_of, GainsFirst, Places};
+ghost use Rattle.apt_host.specs.Promises.{Answers, OffTable, PublishesClean, Leaves, LeavesUndone, KeepsOutput, Adds, IsFront, Reports, Starts, Tries, StartsUnread, TriesUnread, NamesChild, TellsMore, ShowsRun};
 
+use crate::Status;
 use crate::project::read_units;
 use crate::publish::{publish, spell, tell_errors};
-use crate::refusal::Refusal;
 use crate::report::Summary;
 use crate::words::Processor;
 use apt_base::{Kind, List, Name, NoMemory};
@@ -58,7 +56,9 @@ fn key_processor(alloc: Global, processor: &Processor<'_>) -> Result<KeyProcesso
 }
 
 fn key_of(alloc: Global, processor: &Option<Processor<'_>>) -> Result<Key, NoMemory>
-    ensures { IfOk result (λ key. map try_of key.processors ≡ tries_of (option_map shown_processor processor.now)) }
+    ensures plain { IfOk result IsPlain }
+    ensures tries { IfOk result (λ key. map try_of key.processors ≡ tries_of
+        (option_map shown_processor processor.now)) }
 {
     let mut processors = List::new(alloc);
     if let Some(processor) = processor {
@@ -88,19 +88,21 @@ fn make<C: Children>(
     units: BTreeMap<String, Vec<u8>>,
     taken: &List<u32>,
     children: &mut C,
-) -> Result<Finished, Refusal>
+) -> Result<Finished, Status>
     requires { IsStrictlyIncreasing taken.now }
-    ensures no_tree { ended result ≢ TreeFault }
-    ensures no_sink { ended result ≢ SinkFault }
-    ensures child_fault { ChildrenRose (ended result) (C.faults children.old) (C.faults children.new) }
-    ensures later { C.faults children.old ≤ C.faults children.new }
+    ensures cause { HasCause is_children (ended result) (C.faults children.old) (C.faults children.new) }
+    ensures early { IfErr result (λ status. EndsEarly is_children (verdict status)) }
     ensures live { C.live children.new ≡ C.live children.old }
-    ensures starts { Starts (Build (option_map shown_processor processor.now)) (ended result) (C.starts children.old) (C.starts children.new) }
+    ensures starts { Starts (build_by processor.now) (ended result) (C.starts children.old)
+        (C.starts children.new) }
     ensures says { Told C.tells (C.says children.new ≡ C.says children.old) }
-    ensures tried { Told C.tells (Tries (Build (option_map shown_processor processor.now)) (C.tried children.old) (C.tried children.new)) }
-    ensures named { NamesChild (Build (option_map shown_processor processor.now)) (ended result) }
+    ensures tried { Told C.tells (Tries (build_by processor.now) (C.tried children.old)
+        (C.tried children.new)) }
+    ensures named { NamesChild (build_by processor.now) (ended result) }
     ensures numbered { IfOk result (λ finished. AreNumbered taken.now finished.files) }
-    ensures made { Told C.tells (Makes (C.says children.old) (option_map shown_processor processor.now) (files_of units) (C.known children.new) result) }
+    ensures made { TalkedBy C.tells (option_map shown_processor processor.now)
+        (Makes (C.says children.old) (option_map shown_processor processor.now)
+        (files_of units) (C.known children.old) (C.known children.new) result) }
 {
     let project = Project {
         key: key_of(alloc, processor)?,
@@ -108,7 +110,7 @@ fn make<C: Children>(
     };
     match clean(alloc, &project, taken.as_slice(), children) {
         Ok(finished) => Ok(finished),
-        Err(refusal) => Err(Refusal::from(refusal)),
+        Err(refusal) => Err(Status::from(refusal)),
     }
 }
 
@@ -119,24 +121,26 @@ fn conclude<T: Tree, W: Sink>(
     finished: Finished,
     tree: &mut T,
     output: &mut W,
-) -> Result<Ending, Refusal>
+) -> Result<Ending, Status>
     requires count { length finished.files < 2 ^ 32 }
-    requires sizes { All (λ file. (file.store < 2 ^ 32) × (length file.path < 2 ^ 32) × (length file.bytes < 2 ^ 32)) finished.files }
+    requires sizes { All (λ file. (file.store < 2 ^ 32) × (length file.path < 2 ^ 32) ×
+        (length file.bytes < 2 ^ 32)) finished.files }
     requires texts { All (λ file. is_text file.path ≡ true) finished.files }
     requires distinct { AreDistinct (map numbered_of finished.files) }
     requires absent { Told T.tells (AreAbsent (T.files tree.old) (map numbered_of finished.files)) }
-    ensures tree_fault { closed result ≡ TreeFault → Rose (T.faults tree.old) (T.faults tree.new) }
-    ensures sink_fault { closed result ≡ SinkFault → Rose (W.faults output.old) (W.faults output.new) }
-    ensures no_child { IsConcluded (closed result) }
-    ensures later { T.faults tree.old ≤ T.faults tree.new }
-    ensures later_sink { W.faults output.old ≤ W.faults output.new }
+    ensures tree_cause { HasCause is_tree (closed result) (T.faults tree.old) (T.faults tree.new) }
+    ensures sink_cause { HasCause is_sink (closed result) (W.faults output.old) (W.faults output.new) }
+    ensures concluded { IsConcluded (closed result) }
     ensures answer { OrFree (concluded finished) (closed result) }
-    ensures placed { Told T.tells (closed result ≡ Done → Places (map numbered_of finished.files) (record_form (map entry_of finished.files)) (T.files tree.old) (T.files tree.new)) }
-    ensures leaves { Told T.tells (Leaves (closed result) (T.files tree.old) (T.files tree.new)) }
-    ensures kept { Told T.tells (KeepsOutput (T.files tree.old) (T.files tree.new) (closed result)) }
-    ensures stand { Told T.tells (KeepsStores (T.files tree.old) (T.files tree.new) (closed result)) }
+    ensures tree_fails { fails is_tree (closed result) ≡ true → finished.errors ≡ 0 }
+    ensures placed { Told T.tells (closed result ≡ Done → Places (map numbered_of finished.files)
+        (record_form (map entry_of finished.files)) (T.files tree.old) (T.files tree.new)) }
+    ensures leaves { Told T.tells (LeavesUndone (closed result) (T.files tree.old) (T.files tree.new)) }
     ensures outside { Told T.tells (SameOutside (T.files tree.old) (T.files tree.new)) }
-    ensures written { Told W.tells (AddsFront (concluding_report processor.now finished) (closed result) (W.written output.old) (W.written output.new)) }
+    ensures written { Told W.tells (Adds (λ text. IsFront ⊥ (concluding_report processor.now finished)
+        (closed result) text
+        × Told T.tells (GainsFirst (closed result) text (map numbered_of finished.files) (T.files tree.old) (T.files tree.new)))
+        (W.written output.old) (W.written output.new)) }
 {
     let Finished {
         errors,
@@ -171,28 +175,40 @@ pub fn build<T: Tree, C: Children, W: Sink>(
     tree: &mut T,
     children: &mut C,
     output: &mut W,
-) -> Result<Ending, Refusal>
-    ensures tree_fault { closed result ≡ TreeFault → Rose (T.faults tree.old) (T.faults tree.new) }
-    ensures sink_fault { closed result ≡ SinkFault → Rose (W.faults output.old) (W.faults output.new) }
-    ensures child_fault { ChildrenRose (closed result) (C.faults children.old) (C.faults children.new) }
-    ensures later { T.faults tree.old ≤ T.faults tree.new }
-    ensures later_children { C.faults children.old ≤ C.faults children.new }
-    ensures later_sink { W.faults output.old ≤ W.faults output.new }
+) -> Result<Ending, Status>
+    ensures tree_cause { HasCause is_tree (closed result) (T.faults tree.old) (T.faults tree.new) }
+    ensures child_cause { HasCause is_children (closed result) (C.faults children.old) (C.faults children.new) }
+    ensures sink_cause { HasCause is_sink (closed result) (W.faults output.old) (W.faults output.new) }
     ensures live { C.live children.new ≡ C.live children.old }
-    ensures starts { Starts (Build (option_map shown_processor processor.entry)) (closed result) (C.starts children.old) (C.starts children.new) }
+    ensures starts { Starts (build_by processor.entry) (closed result) (C.starts children.old)
+        (C.starts children.new) }
     ensures says { Told C.tells (C.says children.new ≡ C.says children.old) }
-    ensures tried { Told C.tells (Tries (Build (option_map shown_processor processor.entry)) (C.tried children.old) (C.tried children.new)) }
-    ensures starts_unread { Told T.tells (StartsUnread (Build (option_map shown_processor processor.entry)) (T.files tree.old) (C.starts children.old) (C.starts children.new)) }
-    ensures tries_unread { Told T.tells (Told C.tells (TriesUnread (Build (option_map shown_processor processor.entry)) (T.files tree.old) (C.tried children.old) (C.tried children.new))) }
-    ensures named { NamesChild (Build (option_map shown_processor processor.entry)) (closed result) }
-    ensures answer { Told T.tells (Told C.tells (OrFree (answer_of (Build (option_map shown_processor processor.entry)) (C.says children.old) (T.files tree.old)) (closed result))) }
-    ensures published { Told T.tells (Told C.tells (PublishesClean (Build (option_map shown_processor processor.entry)) (C.says children.old) (T.files tree.old) (T.files tree.new) (closed result))) }
+    ensures tried { Told C.tells (Tries (build_by processor.entry) (C.tried children.old)
+        (C.tried children.new)) }
+    ensures starts_unread { Told T.tells (StartsUnread (build_by processor.entry)
+        (T.files tree.old) (C.starts children.old) (C.starts children.new)) }
+    ensures tries_unread { Told T.tells (Told C.tells (TriesUnread (build_by processor.entry)
+        (T.files tree.old) (C.tried children.old) (C.tried children.new))) }
+    ensures named { NamesChild (build_by processor.entry) (closed result) }
+    ensures on_table { OffTable (build_by processor.entry) (closed result)
+        tree.old tree.new children.old children.new }
+    ensures answer { Answers T.tells C.tells (build_by processor.entry) (C.says children.old)
+        (T.files tree.old) (closed result) }
+    ensures published { PublishesClean T.tells C.tells (build_by processor.entry) (C.says children.old)
+        (T.files tree.old) (T.files tree.new) (closed result) }
     ensures leaves { Told T.tells (Leaves (closed result) (T.files tree.old) (T.files tree.new)) }
     ensures kept { Told T.tells (KeepsOutput (T.files tree.old) (T.files tree.new) (closed result)) }
     ensures stand { Told T.tells (StoresStand (T.files tree.old) → StoresStand (T.files tree.new)) }
     ensures outside { Told T.tells (SameOutside (T.files tree.old) (T.files tree.new)) }
-    ensures shown { Told T.tells (Told C.tells (ShowsRun (Build (option_map shown_processor processor.entry)) (C.says children.old) (T.files tree.old) (C.known children.new) (closed result))) }
-    ensures written { Told W.tells (Begins T.tells C.tells (Build (option_map shown_processor processor.entry)) (C.says children.old) (T.files tree.old) (closed result) (W.written output.old) (W.written output.new)) }
+    ensures more { Told C.tells (TellsMore (build_by processor.entry) (C.known children.old)
+        (C.known children.new)) }
+    ensures shown { Told T.tells (Told C.tells (ShowsRun (build_by processor.entry) (C.says children.old)
+        (T.files tree.old) (C.known children.old) (C.known children.new) (closed result))) }
+    ensures written { Told W.tells (Adds (Reports T.tells C.tells (build_by processor.entry)
+        (C.says children.old)
+        (T.files tree.old) (T.files tree.new) (closed result)
+        (Rose (W.faults output.old) (W.faults output.new)))
+        (W.written output.old) (W.written output.new)) }
 {
     let units = read_units(alloc, tree)?;
     let taken = taken_numbers(alloc, tree)?;

@@ -1,27 +1,28 @@
 // The top call.
-ghost use Rattle.std.specs.Prelude.{◌≡◌, ◌≢◌, ◌≤◌, map, string_bytes};
+ghost use Rattle.std.specs.Prelude.{◌≡◌, ◌≤◌, map, string_bytes};
 ghost use Rattle.apt_outside.specs.Count.{Rose, Told};
 ghost use Rattle.tree_store.specs.Output.{StoresStand, SameOutside};
-ghost use Rattle.apt_host.specs.Words.{request_of, cut_at};
-ghost use Rattle.apt_host.specs.Verdicts.{verdict, Done, BadWords, TreeFault, SinkFault, Memory, OrFree, is_finished};
-ghost use Rattle.apt_host.specs.Refusals.{closed};
-ghost use Rattle.apt_host.specs.Promises.{answer_of, ChildrenRose, PublishesClean, Leaves, KeepsOutput, Begins, Writes, Finishes, AddsLine, Starts, Tries, StartsUnread, TriesUnread, NamesChild, ShowsRun};
+ghost use Rattle.round_engine.specs.Refusals.{BadWords};
+ghost use Rattle.apt_host.specs.Words.{cut_at};
+ghost use Rattle.apt_host.specs.Shown.{asked};
+ghost use Rattle.apt_host.specs.Verdicts.{verdict, Refused, OrMemory, is_tree, is_sink, is_children, HasCause, is_finished};
+ghost use Rattle.apt_host.specs.Endings.{closed};
+ghost use Rattle.apt_host.specs.Promises.{Answers, OffTable, PublishesClean, Leaves, KeepsOutput, Adds, Reports, IsLine, Writes, Finishes, Starts, Tries, StartsUnread, TriesUnread, NamesChild, TellsMore, ShowsRun};
 
 use crate::Status;
 use crate::build::{Ending, build};
-use crate::refusal::Refusal;
 use crate::report::refusal;
 use crate::words::{Request, read_words};
 use apt_outside::{Children, Fault, Sink, Source, Tree};
 use std::alloc::Global;
 
-fn status_of(outcome: Result<Ending, Refusal>) -> Status
+fn status_of(outcome: Result<Ending, Status>) -> Status
     ensures { verdict result ≡ closed outcome }
 {
     match outcome {
         Ok(Ending::Published) => Status::Done,
         Ok(Ending::Errors { count }) => Status::Errors { count },
-        Err(refusal) => refusal.into_status(),
+        Err(status) => status,
     }
 }
 
@@ -33,27 +34,36 @@ fn work<T: Tree, C: Children, W: Sink>(
     children: &mut C,
     output: &mut W,
 ) -> Status
-    ensures tree_fault { verdict result ≡ TreeFault → Rose (T.faults tree.old) (T.faults tree.new) }
-    ensures sink_fault { verdict result ≡ SinkFault → Rose (W.faults output.old) (W.faults output.new) }
-    ensures child_fault { ChildrenRose (verdict result) (C.faults children.old) (C.faults children.new) }
-    ensures later { T.faults tree.old ≤ T.faults tree.new }
-    ensures later_children { C.faults children.old ≤ C.faults children.new }
-    ensures later_sink { W.faults output.old ≤ W.faults output.new }
+    ensures tree_cause { HasCause is_tree (verdict result) (T.faults tree.old) (T.faults tree.new) }
+    ensures child_cause { HasCause is_children (verdict result) (C.faults children.old)
+        (C.faults children.new) }
+    ensures sink_cause { HasCause is_sink (verdict result) (W.faults output.old) (W.faults output.new) }
     ensures live { C.live children.new ≡ C.live children.old }
-    ensures starts { Starts (request_of (map string_bytes words.now)) (verdict result) (C.starts children.old) (C.starts children.new) }
+    ensures starts { Starts (asked words.now) (verdict result) (C.starts children.old) (C.starts children.new) }
     ensures says { Told C.tells (C.says children.new ≡ C.says children.old) }
-    ensures tried { Told C.tells (Tries (request_of (map string_bytes words.now)) (C.tried children.old) (C.tried children.new)) }
-    ensures starts_unread { Told T.tells (StartsUnread (request_of (map string_bytes words.now)) (T.files tree.old) (C.starts children.old) (C.starts children.new)) }
-    ensures tries_unread { Told T.tells (Told C.tells (TriesUnread (request_of (map string_bytes words.now)) (T.files tree.old) (C.tried children.old) (C.tried children.new))) }
-    ensures named { NamesChild (request_of (map string_bytes words.now)) (verdict result) }
-    ensures answer { Told T.tells (Told C.tells (OrFree (answer_of (request_of (map string_bytes words.now)) (C.says children.old) (T.files tree.old)) (verdict result))) }
-    ensures published { Told T.tells (Told C.tells (PublishesClean (request_of (map string_bytes words.now)) (C.says children.old) (T.files tree.old) (T.files tree.new) (verdict result))) }
+    ensures tried { Told C.tells (Tries (asked words.now) (C.tried children.old) (C.tried children.new)) }
+    ensures starts_unread { Told T.tells (StartsUnread (asked words.now)
+        (T.files tree.old) (C.starts children.old) (C.starts children.new)) }
+    ensures tries_unread { Told T.tells (Told C.tells (TriesUnread (asked words.now)
+        (T.files tree.old) (C.tried children.old) (C.tried children.new))) }
+    ensures named { NamesChild (asked words.now) (verdict result) }
+    ensures off_table { OffTable (asked words.now) (verdict result)
+        tree.old tree.new children.old children.new }
+    ensures answer { Answers T.tells C.tells (asked words.now) (C.says children.old) (T.files tree.old)
+        (verdict result) }
+    ensures published { PublishesClean T.tells C.tells (asked words.now) (C.says children.old)
+        (T.files tree.old) (T.files tree.new) (verdict result) }
     ensures leaves { Told T.tells (Leaves (verdict result) (T.files tree.old) (T.files tree.new)) }
     ensures kept { Told T.tells (KeepsOutput (T.files tree.old) (T.files tree.new) (verdict result)) }
     ensures stand { Told T.tells (StoresStand (T.files tree.old) → StoresStand (T.files tree.new)) }
     ensures outside { Told T.tells (SameOutside (T.files tree.old) (T.files tree.new)) }
-    ensures shown { Told T.tells (Told C.tells (ShowsRun (request_of (map string_bytes words.now)) (C.says children.old) (T.files tree.old) (C.known children.new) (verdict result))) }
-    ensures written { Told W.tells (Begins T.tells C.tells (request_of (map string_bytes words.now)) (C.says children.old) (T.files tree.old) (verdict result) (W.written output.old) (W.written output.new)) }
+    ensures more { Told C.tells (TellsMore (asked words.now) (C.known children.old) (C.known children.new)) }
+    ensures shown { Told T.tells (Told C.tells (ShowsRun (asked words.now) (C.says children.old)
+        (T.files tree.old) (C.known children.old) (C.known children.new) (verdict result))) }
+    ensures written { Told W.tells (Adds (Reports T.tells C.tells (asked words.now) (C.says children.old)
+        (T.files tree.old) (T.files tree.new) (verdict result)
+        (Rose (W.faults output.old) (W.faults output.new)))
+        (W.written output.old) (W.written output.new)) }
 {
     match read_words(words) {
         Request::Build { processor } => status_of(build(alloc, processor, tree, children, output)),
@@ -75,7 +85,9 @@ fn is_reported(status: &Status) -> bool
 fn finish<W: Sink>(alloc: Global, status: Status, output: &mut W) -> Status
     ensures status { Finishes (verdict status) (verdict result) }
     ensures later { W.faults output.old ≤ W.faults output.new }
-    ensures line { Told W.tells (AddsLine (verdict result) (Rose (W.faults output.old) (W.faults output.new)) (W.written output.old) (W.written output.new)) }
+    ensures line { Told W.tells (Adds (IsLine (verdict result)
+        (Rose (W.faults output.old) (W.faults output.new)))
+        (W.written output.old) (W.written output.new)) }
 {
     if is_reported(&status) {
         return status;
@@ -105,41 +117,50 @@ pub fn run<T: Tree, C: Children, R: Source, W: Sink>(
     output: &mut W,
 ) -> Status
     // A fault of an object comes only where its count rose, and no count falls.
-    ensures tree_fault { verdict result ≡ TreeFault → Rose (T.faults tree.old) (T.faults tree.new) }
-    ensures sink_fault { verdict result ≡ SinkFault → Rose (W.faults output.old) (W.faults output.new) }
-    ensures child_fault { ChildrenRose (verdict result) (C.faults children.old) (C.faults children.new) }
-    ensures later { T.faults tree.old ≤ T.faults tree.new }
-    ensures later_children { C.faults children.old ≤ C.faults children.new }
-    ensures later_source { R.faults input.old ≤ R.faults input.new }
-    ensures later_sink { W.faults output.old ≤ W.faults output.new }
+    ensures tree_cause { HasCause is_tree (verdict result) (T.faults tree.old) (T.faults tree.new) }
+    ensures child_cause { HasCause is_children (verdict result) (C.faults children.old)
+        (C.faults children.new) }
+    ensures sink_cause { HasCause is_sink (verdict result) (W.faults output.old) (W.faults output.new) }
 
     // The source is not touched.
     ensures input { input.new ≡ input.old }
 
     // Every child that was started is stopped, and none but the processor's was tried; none where a source is refused.
     ensures live { C.live children.new ≡ C.live children.old }
-    ensures starts { Starts (request_of (map string_bytes words.now)) (verdict result) (C.starts children.old) (C.starts children.new) }
+    ensures starts { Starts (asked words.now) (verdict result) (C.starts children.old) (C.starts children.new) }
     ensures says { Told C.tells (C.says children.new ≡ C.says children.old) }
-    ensures tried { Told C.tells (Tries (request_of (map string_bytes words.now)) (C.tried children.old) (C.tried children.new)) }
-    ensures starts_unread { Told T.tells (StartsUnread (request_of (map string_bytes words.now)) (T.files tree.old) (C.starts children.old) (C.starts children.new)) }
-    ensures tries_unread { Told T.tells (Told C.tells (TriesUnread (request_of (map string_bytes words.now)) (T.files tree.old) (C.tried children.old) (C.tried children.new))) }
-    ensures named { NamesChild (request_of (map string_bytes words.now)) (verdict result) }
+    ensures tried { Told C.tells (Tries (asked words.now) (C.tried children.old) (C.tried children.new)) }
+    ensures starts_unread { Told T.tells (StartsUnread (asked words.now)
+        (T.files tree.old) (C.starts children.old) (C.starts children.new)) }
+    ensures tries_unread { Told T.tells (Told C.tells (TriesUnread (asked words.now)
+        (T.files tree.old) (C.tried children.old) (C.tried children.new))) }
+    ensures named { NamesChild (asked words.now) (verdict result) }
 
-    // The answer is the clean build's, unless it is a fault or want of memory.
-    ensures answer { Told T.tells (Told C.tells (OrFree (answer_of (request_of (map string_bytes words.now)) (C.says children.old) (T.files tree.old)) (verdict result))) }
+    // The answer is the clean build's, unless it is a fault or want of memory; words that no command has change nothing.
+    ensures off_table { OffTable (asked words.now) (verdict result)
+        tree.old tree.new children.old children.new }
+    ensures answer { Answers T.tells C.tells (asked words.now) (C.says children.old) (T.files tree.old)
+        (verdict result) }
 
     // What is published is the clean build's; after any other answer the former output stands. Of the tree nothing else changes.
-    ensures published { Told T.tells (Told C.tells (PublishesClean (request_of (map string_bytes words.now)) (C.says children.old) (T.files tree.old) (T.files tree.new) (verdict result))) }
+    ensures published { PublishesClean T.tells C.tells (asked words.now) (C.says children.old)
+        (T.files tree.old) (T.files tree.new) (verdict result) }
     ensures leaves { Told T.tells (Leaves (verdict result) (T.files tree.old) (T.files tree.new)) }
     ensures kept { Told T.tells (KeepsOutput (T.files tree.old) (T.files tree.new) (verdict result)) }
     ensures stand { Told T.tells (StoresStand (T.files tree.old) → StoresStand (T.files tree.new)) }
     ensures outside { Told T.tells (SameOutside (T.files tree.old) (T.files tree.new)) }
 
-    // The child is shown exactly the run.
-    ensures shown { Told T.tells (Told C.tells (ShowsRun (request_of (map string_bytes words.now)) (C.says children.old) (T.files tree.old) (C.known children.new) (verdict result))) }
+    // A new child is shown exactly the run.
+    ensures more { Told C.tells (TellsMore (asked words.now) (C.known children.old) (C.known children.new)) }
+    ensures shown { Told T.tells (Told C.tells (ShowsRun (asked words.now) (C.says children.old)
+        (T.files tree.old) (C.known children.old) (C.known children.new) (verdict result))) }
 
     // What is written is the clean build's report, or ends in the refusal's line.
-    ensures written { Told W.tells (Writes T.tells C.tells (request_of (map string_bytes words.now)) (C.says children.old) (T.files tree.old) (verdict result) (Rose (W.faults output.old) (W.faults output.new)) (W.written output.old) (W.written output.new)) }
+    ensures written { Told W.tells (Writes (Reports T.tells C.tells (asked words.now) (C.says children.old)
+        (T.files tree.old) (T.files tree.new) (verdict result)
+        (Rose (W.faults output.old) (W.faults output.new)))
+        (IsLine (verdict result) (Rose (W.faults output.old) (W.faults output.new)))
+        (W.written output.old) (W.written output.new)) }
 {
     let status = work(alloc, words, tree, children, output);
     finish(alloc, status, output)
@@ -148,10 +169,11 @@ pub fn run<T: Tree, C: Children, R: Source, W: Sink>(
 /// The refusal of words after which another word stands that is no text: the place is that of the first word that no
 /// command has there, counted from 0, which is the word after these at the latest.
 pub fn refuse_cut_words<W: Sink>(alloc: Global, words: &[String], output: &mut W) -> Status
-    ensures answer { verdict result ≢ Memory → verdict result ≡ BadWords (cut_at (map string_bytes words.now)) }
-    ensures refused { verdict result ≢ Done }
+    ensures answer { OrMemory (Refused (BadWords (cut_at (map string_bytes words.now)))) (verdict result) }
     ensures later { W.faults output.old ≤ W.faults output.new }
-    ensures line { Told W.tells (AddsLine (verdict result) (Rose (W.faults output.old) (W.faults output.new)) (W.written output.old) (W.written output.new)) }
+    ensures line { Told W.tells (Adds (IsLine (verdict result)
+        (Rose (W.faults output.old) (W.faults output.new)))
+        (W.written output.old) (W.written output.new)) }
 {
     let count = words.len() as u64;
     let at = match read_words(words) {

@@ -9,7 +9,6 @@ mod build;
 mod call;
 mod project;
 mod publish;
-mod refusal;
 mod report;
 mod status;
 mod words;

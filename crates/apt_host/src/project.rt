@@ -1,15 +1,15 @@
 // The units of a project.
-ghost use Rattle.std.specs.Prelude.{◌≡◌, ◌≢◌, ◌≤◌, IfOk, Ok, Some, None, drop};
+ghost use Rattle.std.specs.Prelude.{◌≡◌, IfErr, Ok, Some, None, drop, false};
 ghost use Rattle.std.specs.FinMap as fin;
-ghost use Rattle.apt_outside.specs.Count.{Rose, Told};
+ghost use Rattle.apt_outside.specs.Count.{Told};
 ghost use Rattle.apt_outside.specs.Held.{files_of};
 ghost use Rattle.source_form.specs.Form.{form_of};
-ghost use Rattle.apt_host.specs.Verdicts.{TreeFault, SinkFault};
-ghost use Rattle.apt_host.specs.Refusals.{ended};
+ghost use Rattle.apt_host.specs.Verdicts.{verdict, is_tree, HasCause};
+ghost use Rattle.apt_host.specs.Endings.{ended, EndsEarly};
 ghost use Rattle.apt_host.specs.Project.{enter_form, enter_all, units_of};
-ghost use Rattle.apt_host.specs.Entering.{Enters, EntersAll, IsUntouched};
+ghost use Rattle.apt_host.specs.Entering.{Enters, EntersAll, StopsLeast};
 
-use crate::refusal::Refusal;
+use crate::Status;
 use apt_base::NoMemory;
 use apt_outside::Tree;
 use source_form::{MAX_SOURCE, SourceForm, read_form};
@@ -48,7 +48,8 @@ fn enter_source(
     count: usize,
     source: &RawSource,
 ) -> Result<bool, NoMemory>
-    ensures { Enters (enter_form (files_of units.old) count (form_of source.now.bytes)) (files_of units.new) result }
+    ensures { Enters (enter_form (files_of units.old) count (form_of source.now.bytes)) (files_of units.new)
+        result }
 {
     match read_form(alloc, source.bytes.as_slice())? {
         None => Ok(false),
@@ -57,14 +58,14 @@ fn enter_source(
 }
 
 /// Enters all sources, or refuses the first that cannot be entered.
-fn enter_all(alloc: Global, sources: &[RawSource]) -> Result<BTreeMap<String, Vec<u8>>, Refusal>
+fn enter_all(alloc: Global, sources: &[RawSource]) -> Result<BTreeMap<String, Vec<u8>>, Status>
     ensures units { EntersAll (enter_all fin.empty 0 sources.now) result }
-    ensures no_tree { ended result ≢ TreeFault }
+    ensures early { IfErr result (λ status. EndsEarly (λ _. false) (verdict status)) }
 {
     let mut units = BTreeMap::new(alloc);
     for (count, source) in sources.iter().enumerate() {
         if !enter_source(alloc, &mut units, count, source)? {
-            return Err(Refusal::UnbuiltForm {
+            return Err(Status::UnbuiltForm {
                 path: source.path.copy()?,
             });
         }
@@ -73,16 +74,12 @@ fn enter_all(alloc: Global, sources: &[RawSource]) -> Result<BTreeMap<String, Ve
 }
 
 /// Reads the sources, and enters them.
-pub fn read_units<T: Tree>(
-    alloc: Global,
-    tree: &mut T,
-) -> Result<BTreeMap<String, Vec<u8>>, Refusal>
-    ensures tree_fault { ended result ≡ TreeFault → Rose (T.faults tree.old) (T.faults tree.new) }
-    ensures no_sink { ended result ≢ SinkFault }
-    ensures no_child { IsUntouched (ended result) }
-    ensures later { T.faults tree.old ≤ T.faults tree.new }
+pub fn read_units<T: Tree>(alloc: Global, tree: &mut T) -> Result<BTreeMap<String, Vec<u8>>, Status>
+    ensures cause { HasCause is_tree (ended result) (T.faults tree.old) (T.faults tree.new) }
+    ensures early { IfErr result (λ status. EndsEarly is_tree (verdict status)) }
     ensures same { Told T.tells (T.files tree.new ≡ T.files tree.old) }
     ensures units { Told T.tells (EntersAll (units_of (T.files tree.old)) result) }
+    ensures least { Told T.tells (StopsLeast (T.files tree.old) result) }
 {
     let sources = read_sources(alloc, tree, MAX_SOURCE)?;
     enter_all(alloc, sources.as_slice())

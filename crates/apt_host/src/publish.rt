@@ -1,18 +1,17 @@
 // Publishes what a run made.
-ghost use Rattle.std.specs.Prelude.{◌≡◌, ◌≢◌, ◌≤◌, ◌<◌, ◌^◌, All, IfOk, length, map, true, string_bytes};
+ghost use Rattle.std.specs.Prelude.{◌≡◌, ◌≢◌, [], ◌<◌, ◌^◌, All, IfOk, IfErr, OnOk, OnErr, length, map, true};
 ghost use Rattle.apt_base.specs.Fields.{is_text};
-ghost use Rattle.apt_outside.specs.Count.{Rose, Told};
+ghost use Rattle.apt_outside.specs.Count.{Told};
 ghost use Rattle.tree_store.specs.RecordFormat.{IsEntry};
 ghost use Rattle.tree_store.specs.Output.{SameOutside};
-ghost use Rattle.tree_store.specs.Storing.{AreDistinct, AreAbsent};
-ghost use Rattle.apt_host.specs.Verdicts.{Done, TreeFault, SinkFault, OrFree};
-ghost use Rattle.apt_host.specs.Refusals.{refused, ended, sink_verdict};
-ghost use Rattle.apt_host.specs.Entering.{IsUntouched};
+ghost use Rattle.tree_store.specs.Storing.{AreDistinct, AreAbsent, AddsToStore};
+ghost use Rattle.apt_host.specs.Verdicts.{verdict, Done, OrFree, is_tree, is_sink, is_output, HasCause};
+ghost use Rattle.apt_host.specs.Endings.{ended, sink_verdict, EndsEarly};
 ghost use Rattle.apt_host.specs.Report.{errors_report};
-ghost use Rattle.apt_host.specs.Listed.{entry_of, entry_with, numbered_of, summary_of, Spells, Places};
-ghost use Rattle.apt_host.specs.Promises.{Leaves, KeepsOutput, KeepsStores, AddsFront};
+ghost use Rattle.apt_host.specs.Listed.{entry_of, entry_with, numbered_of, summary_of, Spells, GainsFirst, Places};
+ghost use Rattle.apt_host.specs.Promises.{Adds, IsFront};
 
-use crate::refusal::Refusal;
+use crate::Status;
 use crate::report::{Summary, errors_report, report};
 use apt_base::{List, Name, NoMemory};
 use apt_outside::{Fault, Sink, Tree};
@@ -51,7 +50,8 @@ fn entry_of(path: Name, store: u32, bytes: &List<u8>) -> StoredFile
 }
 
 fn prepare(alloc: Global, made: List<Made>) -> Result<Prepared, NoMemory>
-    requires sizes { All (λ file. (file.store < 2 ^ 32) × (length file.path < 2 ^ 32) × (length file.bytes < 2 ^ 32)) made }
+    requires sizes { All (λ file. (file.store < 2 ^ 32) × (length file.path < 2 ^ 32) ×
+        (length file.bytes < 2 ^ 32)) made }
     requires texts { All (λ file. is_text file.path ≡ true) made }
     ensures entries { IfOk result (λ prepared. prepared.entries ≡ map entry_of made) }
     ensures stored { IfOk result (λ prepared. prepared.stored ≡ map numbered_of made) }
@@ -80,9 +80,11 @@ pub fn spell(
     made: List<Made>,
 ) -> Result<Written, NoMemory>
     requires count { length made < 2 ^ 32 }
-    requires sizes { All (λ file. (file.store < 2 ^ 32) × (length file.path < 2 ^ 32) × (length file.bytes < 2 ^ 32)) made }
+    requires sizes { All (λ file. (file.store < 2 ^ 32) × (length file.path < 2 ^ 32) ×
+        (length file.bytes < 2 ^ 32)) made }
     requires texts { All (λ file. is_text file.path ≡ true) made }
-    ensures { IfOk result (λ written. Spells (summary_of processor.now summary.now) made written.stored written.record_bytes written.report.items) }
+    ensures { IfOk result (λ written. Spells (summary_of processor.now summary.now)
+        made written.stored written.record_bytes written.report.items) }
 {
     let prepared = prepare(alloc, made)?;
     let report = report(alloc, processor, summary, prepared.entries.as_slice())?;
@@ -94,12 +96,12 @@ pub fn spell(
     })
 }
 
-fn of_sink(fault: Fault) -> Refusal
-    ensures { refused result ≡ sink_verdict fault }
+fn of_sink(fault: Fault) -> Status
+    ensures { verdict result ≡ sink_verdict fault }
 {
     match fault {
-        Fault::Failed => Refusal::SinkFault,
-        Fault::Memory => Refusal::Memory,
+        Fault::Failed => Status::SinkFault,
+        Fault::Memory => Status::Memory,
     }
 }
 
@@ -109,13 +111,13 @@ pub fn tell_errors<W: Sink>(
     processor: &str,
     summary: &Summary,
     output: &mut W,
-) -> Result<(), Refusal>
-    ensures no_tree { ended result ≢ TreeFault }
-    ensures sink_fault { ended result ≡ SinkFault → Rose (W.faults output.old) (W.faults output.new) }
-    ensures no_child { IsUntouched (ended result) }
-    ensures later_sink { W.faults output.old ≤ W.faults output.new }
+) -> Result<(), Status>
+    ensures cause { HasCause is_sink (ended result) (W.faults output.old) (W.faults output.new) }
+    ensures early { IfErr result (λ status. EndsEarly is_sink (verdict status)) }
     ensures free { OrFree Done (ended result) }
-    ensures written { Told W.tells (AddsFront (errors_report (summary_of processor.now summary.now)) (ended result) (W.written output.old) (W.written output.new)) }
+    ensures written { Told W.tells (Adds
+        (IsFront ⊥ (errors_report (summary_of processor.now summary.now)) (ended result))
+        (W.written output.old) (W.written output.new)) }
 {
     let report = errors_report(alloc, processor, summary)?;
     match output.write_all(&report) {
@@ -130,21 +132,21 @@ pub fn publish<T: Tree, W: Sink>(
     tree: &mut T,
     written: &Written,
     output: &mut W,
-) -> Result<(), Refusal>
+) -> Result<(), Status>
+    requires some { written.now.report.items ≢ [] }
     requires distinct { AreDistinct written.now.stored }
     requires absent { Told T.tells (AreAbsent (T.files tree.old) written.now.stored) }
-    ensures tree_fault { ended result ≡ TreeFault → Rose (T.faults tree.old) (T.faults tree.new) }
-    ensures sink_fault { ended result ≡ SinkFault → Rose (W.faults output.old) (W.faults output.new) }
-    ensures no_child { IsUntouched (ended result) }
-    ensures later { T.faults tree.old ≤ T.faults tree.new }
-    ensures later_sink { W.faults output.old ≤ W.faults output.new }
+    ensures tree_cause { HasCause is_tree (ended result) (T.faults tree.old) (T.faults tree.new) }
+    ensures sink_cause { HasCause is_sink (ended result) (W.faults output.old) (W.faults output.new) }
+    ensures early { IfErr result (λ status. EndsEarly is_output (verdict status)) }
     ensures free { OrFree Done (ended result) }
-    ensures placed { Told T.tells (ended result ≡ Done → Places written.now.stored written.now.record_bytes (T.files tree.old) (T.files tree.new)) }
-    ensures leaves { Told T.tells (Leaves (ended result) (T.files tree.old) (T.files tree.new)) }
-    ensures kept { Told T.tells (KeepsOutput (T.files tree.old) (T.files tree.new) (ended result)) }
-    ensures stand { Told T.tells (KeepsStores (T.files tree.old) (T.files tree.new) (ended result)) }
+    ensures placed { Told T.tells (OnOk result
+        (Places written.now.stored written.now.record_bytes (T.files tree.old) (T.files tree.new))) }
+    ensures adds { Told T.tells (OnErr result (AddsToStore (T.files tree.old) (T.files tree.new))) }
     ensures outside { Told T.tells (SameOutside (T.files tree.old) (T.files tree.new)) }
-    ensures written { Told W.tells (AddsFront (written.now.report.items) (ended result) (W.written output.old) (W.written output.new)) }
+    ensures written { Told W.tells (Adds (λ text. IsFront ⊥ written.now.report.items (ended result) text
+        × Told T.tells (GainsFirst (ended result) text written.now.stored (T.files tree.old) (T.files tree.new)))
+        (W.written output.old) (W.written output.new)) }
 {
     put_files(alloc, tree, &written.stored)?;
     if let Err(fault) = output.write_all(&written.report) {
@@ -152,6 +154,6 @@ pub fn publish<T: Tree, W: Sink>(
     }
     match commit(tree, &written.record_bytes) {
         Ok(()) => Ok(()),
-        Err(fault) => Err(Refusal::from(fault)),
+        Err(fault) => Err(Status::from(fault)),
     }
 }

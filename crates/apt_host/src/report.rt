@@ -90,7 +90,8 @@ fn add_messages(
     processor: &str,
     messages: &[Placed],
 ) -> Result<(), AllocError>
-    ensures { OnOk result (report.new.items ≡ report.old.items ++ flat_map (message_line processor.now) messages.now) }
+    ensures { OnOk result (report.new.items ≡ report.old.items ++ flat_map (message_line processor.now)
+        messages.now) }
 {
     for placed in messages {
         add_message(alloc, report, processor, placed)?;
@@ -109,7 +110,8 @@ fn add_closing_lines(alloc: Global, report: &mut Vec<u8>, unread: &[Name]) -> Re
 
 /// The mode line, the messages and the closing lines.
 fn told_lines(alloc: Global, processor: &str, summary: &Summary) -> Result<Vec<u8>, AllocError>
-    ensures { IfOk result (λ text. text.items ≡ mode_line summary.now.started ++ told_lines (summary_of processor.now summary.now)) }
+    ensures { IfOk result (λ text. text.items ≡ mode_line summary.now.started ++ told_lines
+        (summary_of processor.now summary.now)) }
 {
     let started = summary.started;
     let mode = format!(in alloc; "mode: clean (Full), started {started}\n")?;
@@ -148,7 +150,8 @@ pub fn report(
     summary: &Summary,
     files: &[StoredFile],
 ) -> Result<Vec<u8>, AllocError>
-    ensures { IfOk result (λ text. text.items ≡ report_of (summary_of processor.now summary.now) (map listed files.now)) }
+    ensures { IfOk result (λ text. text.items ≡ report_of (summary_of processor.now summary.now)
+        (map listed files.now)) }
 {
     let mut report = told_lines(alloc, processor, summary)?;
     add_files(alloc, &mut report, files)?;

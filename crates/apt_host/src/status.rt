@@ -1,8 +1,13 @@
 // How a call of `run` ends.
-ghost use Rattle.std.specs.Prelude.{◌≡◌};
-ghost use Rattle.apt_host.specs.Verdicts.{verdict, code_of};
+ghost use Rattle.std.specs.Prelude.{◌≡◌, IfOk};
+ghost use Rattle.round_engine.specs.Faults.{stop_of};
+ghost use Rattle.apt_host.specs.declared.status.Status.TheVariants as code;
+ghost use Rattle.apt_host.specs.Verdicts.{verdict, stopped, code_of};
+ghost use Rattle.apt_host.specs.Endings.{of_store};
 
-use apt_base::Name;
+use apt_base::{Name, NoMemory};
+use std::alloc::{AllocError, AllocFailed};
+use tree_store::StoreFault;
 
 /// How a call of `run` ends. A fault of the tree, the sink or the children comes only where its count rose in the call.
 #[derive(Drop)]
@@ -57,7 +62,91 @@ pub enum Status {
     Memory,
 }
 
+impl From<round_engine::Refusal> for Status {
+    ghost from_gives = { λ refusal e. verdict e ≡ stopped (stop_of refusal) };
+
+    fn from(refusal: round_engine::Refusal) -> Status {
+        match refusal {
+            round_engine::Refusal::ChildFault { processor } => Status::ChildFault { processor },
+            round_engine::Refusal::UnbuiltTalk { processor } => Status::UnbuiltTalk { processor },
+            round_engine::Refusal::TooManyQuestions { processor, limit } => {
+                Status::TooManyQuestions { processor, limit }
+            }
+            round_engine::Refusal::UnbuiltForm { path } => Status::UnbuiltForm { path },
+            round_engine::Refusal::GeneratedDuplicate { name } => {
+                Status::GeneratedDuplicate { name }
+            }
+            round_engine::Refusal::TooManyRounds => Status::TooManyRounds,
+            round_engine::Refusal::Memory => Status::Memory,
+        }
+    }
+}
+
+impl From<StoreFault> for Status {
+    ghost from_gives = { λ fault e. e ≡ of_store fault };
+
+    fn from(fault: StoreFault) -> Status {
+        match fault {
+            StoreFault::Failed => Status::TreeFault,
+            StoreFault::Memory => Status::Memory,
+        }
+    }
+}
+
+impl From<NoMemory> for Status {
+    ghost from_gives = { λ _ e. e ≡ code.Memory };
+
+    fn from(_: NoMemory) -> Status {
+        Status::Memory
+    }
+}
+
+impl From<AllocError> for Status {
+    ghost from_gives = { λ _ e. e ≡ code.Memory };
+
+    fn from(_: AllocError) -> Status {
+        Status::Memory
+    }
+}
+
+impl<T: Drop> From<AllocFailed<T>> for Status {
+    ghost from_gives = { λ _ e. e ≡ code.Memory };
+
+    fn from(_: AllocFailed<T>) -> Status {
+        Status::Memory
+    }
+}
+
 impl Status {
+    /// An equal status.
+    pub fn copy(&self) -> Result<Status, NoMemory>
+        ensures { IfOk result (λ status. status ≡ self.now) }
+    {
+        match self {
+            Status::Done => Ok(Status::Done),
+            Status::Errors { count } => Ok(Status::Errors { count: *count }),
+            Status::BadWords { at } => Ok(Status::BadWords { at: *at }),
+            Status::UnbuiltForm { path } => Ok(Status::UnbuiltForm { path: path.copy()? }),
+            Status::UnbuiltTalk { processor } => Ok(Status::UnbuiltTalk {
+                processor: processor.copy()?,
+            }),
+            Status::TooManyQuestions { processor, limit } => Ok(Status::TooManyQuestions {
+                processor: processor.copy()?,
+                limit: *limit,
+            }),
+            Status::GeneratedDuplicate { name } => {
+                Ok(Status::GeneratedDuplicate { name: name.copy()? })
+            }
+            Status::TooManyRounds => Ok(Status::TooManyRounds),
+            Status::TreeFault => Ok(Status::TreeFault),
+            Status::SinkFault => Ok(Status::SinkFault),
+            Status::ChildFault { processor } => Ok(Status::ChildFault {
+                processor: processor.copy()?,
+            }),
+            Status::Memory => Ok(Status::Memory),
+        }
+    }
+
     /// The exit status of a program that ends so.
     pub fn code(&self) -> u8
         ensures { result ≡ code_of (verdict self.now) }

@@ -20,7 +20,7 @@ abbrev Go : Type 0
 Go = Frames → Filings → List Message → Act
 
 -- one turn of a round
-turn_zero : (stream : Stream) (sent : Frames) (made : Filings) (printed : List Message) → round_from stream 0 sent made printed ≡ after_turn (turn_at (answer_to stream sent)) sent made printed (λ s f m. Overasked sent)
+turn_zero : (stream : Stream) (sent : Frames) (made : Filings) (printed : List Message) → round_from stream 0 sent made printed ≡ after_turn (turn_at (answer_to stream sent)) sent made printed (λ s f m. Overasked sent made)
 unfolding round_from
 turn_zero stream sent made printed = refl
 
@@ -29,7 +29,7 @@ unfolding round_from
 turn_suc stream left sent made printed = refl
 
 any_turn : (stream : Stream) (left : ℕ) (sent : Frames) (made : Filings) (printed : List Message) → (go : Go) × (round_from stream left sent made printed ≡ after_turn (turn_at (answer_to stream sent)) sent made printed go)
-any_turn stream zero sent made printed = ((λ s f m. Overasked sent), turn_zero stream sent made printed)
+any_turn stream zero sent made printed = ((λ s f m. Overasked sent made), turn_zero stream sent made printed)
 any_turn stream (suc left) sent made printed = (round_from stream left, turn_suc stream left sent made printed)
 
 module _ (child : ℕ) (says : Says) where
@@ -114,8 +114,8 @@ module _ (child : ℕ) (says : Says) where
             command = x.command;
             comes = (
               sym x.rest ∙ ap (λ n. round_from stream n b.sent made1 printed) none ∙ turn_zero stream b.sent made1 printed
-                  ∙ ap (λ o. after_turn (turn_at o) b.sent made1 printed (λ s f m. Overasked b.sent)) (sym x.answer_is)
-                  ∙ ap (λ t. after_turn t b.sent made1 printed (λ s f m. Overasked b.sent)) turn,
+                  ∙ ap (λ o. after_turn (turn_at o) b.sent made1 printed (λ s f m. Overasked b.sent made1)) (sym x.answer_is)
+                  ∙ ap (λ t. after_turn t b.sent made1 printed (λ s f m. Overasked b.sent made1)) turn,
               refl,
             );
             answered = tt;

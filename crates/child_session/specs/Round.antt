@@ -60,19 +60,19 @@ reply_frame filings request = spelling (frame.Reply (reply_to filings request))
 pub data Act : Type 0 where
   Answered : (sent : List (List ℕ)) (filings : Filings) (printed : List Message) → Act
   -- its bytes left the form
-  Broken : (sent : List (List ℕ)) → Act
+  Broken : (sent : List (List ℕ)) (filings : Filings) → Act
   -- it asked once more than it may in a round
-  Overasked : (sent : List (List ℕ)) → Act
+  Overasked : (sent : List (List ℕ)) (filings : Filings) → Act
 
 -- what comes after a turn; go says what comes after an answer
 abbrev pub after_turn : Turn → List (List ℕ) → Filings → List Message → (List (List ℕ) → Filings → List Message → Act) → Act
 after_turn Ends sent filings printed go = Answered sent filings printed
 after_turn (Asks request) sent filings printed go = go (sent ++ reply_frame filings request ∷ []) (filed_after filings request) (printed_after printed request)
-after_turn Leaves sent filings printed go = Broken sent
+after_turn Leaves sent filings printed go = Broken sent filings
 
 -- the answer to the frames that were sent, where the child may ask so many times more
 unfoldable pub round_from : Stream → ℕ → List (List ℕ) → Filings → List Message → Act
-round_from stream zero sent filings printed = after_turn (turn_at (answer_to stream sent)) sent filings printed (λ s f m. Overasked sent)
+round_from stream zero sent filings printed = after_turn (turn_at (answer_to stream sent)) sent filings printed (λ s f m. Overasked sent filings)
 round_from stream (suc left) sent filings printed = after_turn (turn_at (answer_to stream sent)) sent filings printed (round_from stream left)
 
 -- the answer to a round, sent after these frames, in which the child may ask so many times
@@ -84,8 +84,8 @@ answer_of_round stream limit sent round filings = round_from stream limit (sent 
 -- a call's result, with the frames that were sent and what the filer has, is this act, unless it is a free one
 abbrev pub Comes : Act → ℕ → Result (List Message) SessionFault → List (List ℕ) → Filings → Type 0
 Comes act limit (Ok printed) sent filings = act ≡ Answered sent filings printed
-Comes act limit (Err Unbuilt) sent filings = act ≡ Broken sent
-Comes act limit (Err (TooManyQuestions most)) sent filings = (act ≡ Overasked sent) × (most ≡ limit)
+Comes act limit (Err Unbuilt) sent filings = act ≡ Broken sent filings
+Comes act limit (Err (TooManyQuestions most)) sent filings = (act ≡ Overasked sent filings) × (most ≡ limit)
 Comes act limit (Err Failed) sent filings = Unit {0}
 Comes act limit (Err Memory) sent filings = Unit {0}
 

@@ -21,18 +21,21 @@ fn receive_more<C: Children>(
     ensures cause { HasCause (C.faults children.old) (C.faults children.new) result }
     ensures starts { C.starts children.new ≡ C.starts children.old }
     ensures live { C.live children.new ≡ C.live children.old }
-    ensures attends { Told C.tells (Attends child (C.says children.old) (C.says children.new) (C.tried children.old) (C.tried children.new) (C.known children.old) (C.known children.new)) }
+    ensures attends { Told C.tells (Attends child (C.says children.old) (C.says children.new)
+        (C.tried children.old) (C.tried children.new) (C.known children.old) (C.known children.new)) }
     ensures fits { IfOk result (λ n. n ≤ length room.old) }
     ensures counted { IfOk result (λ n. length bytes.new.items ≡ length bytes.old.items + n) }
-    ensures taken { Told C.tells (IfOk result (λ n. TakesMore child (C.known children.old) (C.known children.new) bytes.old.items bytes.new.items)) }
-    ensures ended { Told C.tells (IfOk result (λ n. n ≡ 0 → IfSome (C.known children.old child) (λ before. before.waiting ≡ []))) }
+    ensures taken { Told C.tells (IfOk result (λ n. TakesMore child (C.known children.old)
+        (C.known children.new) bytes.old.items bytes.new.items)) }
+    ensures ended { Told C.tells (IfOk result (λ n. n ≡ 0 → IfSome (C.known children.old child)
+        (λ before. before.waiting ≡ []))) }
 {
     let got = children.receive(child, room)?;
     bytes.extend_from_slice(&room[..got])?;
     Ok(got)
 }
 
-/// Takes so many bytes from a child, or none where it ends before.
+/// Takes `count` bytes from a child, or none where it ends before.
 fn receive_bytes<C: Children>(
     alloc: Global,
     children: &mut C,
@@ -43,9 +46,11 @@ fn receive_bytes<C: Children>(
     ensures cause { HasCause (C.faults children.old) (C.faults children.new) result }
     ensures starts { C.starts children.new ≡ C.starts children.old }
     ensures live { C.live children.new ≡ C.live children.old }
-    ensures attends { Told C.tells (Attends child (C.says children.old) (C.says children.new) (C.tried children.old) (C.tried children.new) (C.known children.old) (C.known children.new)) }
+    ensures attends { Told C.tells (Attends child (C.says children.old) (C.says children.new)
+        (C.tried children.old) (C.tried children.new) (C.known children.old) (C.known children.new)) }
     ensures counted { IfOk result (λ found. IfSome found (λ bytes. length bytes.items ≡ count)) }
-    ensures taken { Told C.tells (IfOk result (λ found. TakesCount child (C.known children.old) (C.known children.new) count (option_map (λ bytes. bytes.items) found))) }
+    ensures taken { Told C.tells (IfOk result (λ found. TakesCount child (C.known children.old)
+        (C.known children.new) count (option_map (λ bytes. bytes.items) found))) }
 {
     let mut room = [0u8; ROOM];
     let mut bytes = Vec::new(alloc);
@@ -69,8 +74,10 @@ fn read_frame<C: Children>(
     ensures cause { HasCause (C.faults children.old) (C.faults children.new) result }
     ensures starts { C.starts children.new ≡ C.starts children.old }
     ensures live { C.live children.new ≡ C.live children.old }
-    ensures attends { Told C.tells (Attends child (C.says children.old) (C.says children.new) (C.tried children.old) (C.tried children.new) (C.known children.old) (C.known children.new)) }
-    ensures taken { Told C.tells (IfOk result (λ found. TakesFrame child (C.known children.old) (C.known children.new) found)) }
+    ensures attends { Told C.tells (Attends child (C.says children.old) (C.says children.new)
+        (C.tried children.old) (C.tried children.new) (C.known children.old) (C.known children.new)) }
+    ensures taken { Told C.tells (IfOk result (λ found. TakesFrame child (C.known children.old)
+        (C.known children.new) found)) }
 {
     let Some(head) = receive_bytes(alloc, children, child, 4)? else {
         return Ok(None);
@@ -98,8 +105,11 @@ pub fn exchange<C: Children>(
     ensures cause { HasCause (C.faults children.old) (C.faults children.new) result }
     ensures starts { C.starts children.new ≡ C.starts children.old }
     ensures live { C.live children.new ≡ C.live children.old }
-    ensures attends { Told C.tells (Attends child (C.says children.old) (C.says children.new) (C.tried children.old) (C.tried children.new) (C.known children.old) (C.known children.new)) }
-    ensures answer { Told C.tells (IfOk result (λ answer. Exchanges child (C.says children.old) (C.known children.old) (C.known children.new) frame.now answer)) }
+    ensures attends { Told C.tells (Attends child (C.says children.old) (C.says children.new)
+        (C.tried children.old) (C.tried children.new) (C.known children.old) (C.known children.new)) }
+    ensures answer { Told C.tells (IfOk result
+        (λ answer. Exchanges child (C.says children.old) (C.known children.old) (C.known children.new)
+        frame.now answer)) }
 {
     children.send(child, frame)?;
     read_frame(alloc, children, child)

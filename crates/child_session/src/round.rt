@@ -92,22 +92,25 @@ fn take_turn<C: Children>(
     ensures reason { HasReason (C.faults children.old) (C.faults children.new) result }
     ensures starts { C.starts children.new ≡ C.starts children.old }
     ensures live { C.live children.new ≡ C.live children.old }
-    ensures attends { Told C.tells (Attends child (C.says children.old) (C.says children.new) (C.tried children.old) (C.tried children.new) (C.known children.old) (C.known children.new)) }
+    ensures attends { Told C.tells (Attends child (C.says children.old) (C.says children.new)
+        (C.tried children.old) (C.tried children.new) (C.known children.old) (C.known children.new)) }
     ensures filed { OnOk result (filer.new ≡ filed_after filer.old request) }
     ensures printed { OnOk result (printed.new ≡ printed_after printed.old request) }
     ensures free { IsFree result }
-    ensures answer { Told C.tells (IfOk result (λ answer. Exchanges child (C.says children.old) (C.known children.old) (C.known children.new) (reply_frame filer.old request) answer)) }
+    ensures answer { Told C.tells (IfOk result
+        (λ answer. Exchanges child (C.says children.old) (C.known children.old) (C.known children.new)
+        (reply_frame filer.old request) answer)) }
 {
     let reply = serve(filer, printed, request)?;
     let frame = reply_bytes(alloc, reply)?;
     Ok(exchange(alloc, children, child, frame.as_slice())?)
 }
 
-/// Shows a round to a child, which may ask so many times in it, and gives what it prints. What it creates is added to
+/// Shows a round to a child, which may ask `limit` times in it, and gives what it prints. What it creates is added to
 /// the files that were made before.
 ///
 /// `Unbuilt` comes exactly where the child's bytes are not the frames of a round, and `TooManyQuestions` exactly where
-/// it asks once more than `limit`.
+/// it asks once more than `limit`. After either the filer has what was accepted up to then.
 pub fn show_round<C: Children>(
     alloc: Global,
     children: &mut C,
@@ -120,8 +123,10 @@ pub fn show_round<C: Children>(
     ensures reason { HasReason (C.faults children.old) (C.faults children.new) result }
     ensures starts { C.starts children.new ≡ C.starts children.old }
     ensures live { C.live children.new ≡ C.live children.old }
-    ensures attends { Told C.tells (Attends child (C.says children.old) (C.says children.new) (C.tried children.old) (C.tried children.new) (C.known children.old) (C.known children.new)) }
-    ensures shown { Told C.tells (Shows child (C.says children.old) (C.known children.old) (C.known children.new) (record { limit = limit; round = round.now }) filer.old filer.new result) }
+    ensures attends { Told C.tells (Attends child (C.says children.old) (C.says children.new)
+        (C.tried children.old) (C.tried children.new) (C.known children.old) (C.known children.new)) }
+    ensures shown { Told C.tells (Shows child (C.says children.old) (C.known children.old)
+        (C.known children.new) (record { limit = limit; round = round.now }) filer.old filer.new result) }
 {
     let mut printed = List::new(alloc);
     let mut answer = exchange(alloc, children, child, round)?;

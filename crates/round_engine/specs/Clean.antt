@@ -1,30 +1,36 @@
 -- The clean run over a project, from nothing.
-use Rattle.std.specs.Prelude.{◌≡◌, ◌⊎◌, ℕ, ◌==◌, ◌+◌, ◌≤◌, ◌<◌, ◌^◌, ◌||◌, Bool, true, false, List, [], ◌∷◌, length, take, map, filter, All, Result, Ok, Err}
+use Rattle.std.specs.Prelude.{◌≡◌, ◌⊎◌, ℕ, ◌==◌, ◌+◌, ◌≤◌, ◌<◌, ◌^◌, ◌||◌, Bool, true, false, List, [], ◌∷◌, length, take, map, filter, All, Result, Ok, Err, IfErr, IfSome}
 use Rattle.std.specs.FinMap as fin
 use Rattle.apt_base.specs.Fields.{is_text}
-use Rattle.apt_outside.specs.Count.{Rose}
+use Rattle.apt_outside.specs.Count.{Told}
 use Rattle.apt_outside.specs.Files.{Files}
-use Rattle.apt_outside.specs.Child.{Says, Try, Known}
+use Rattle.apt_outside.specs.Child.{Says, Try, Known, AllKept}
 use Rattle.wire_frames.specs.declared.frame.Creation.{Creation}
 use Rattle.wire_frames.specs.declared.frame.Message.{Message}
 use Rattle.round_engine.specs.declared.messages.Placed.{Placed}
+use Rattle.round_engine.specs.declared.project.Key.{Key}
 use Rattle.round_engine.specs.declared.project.KeyProcessor.{KeyProcessor}
 use Rattle.round_engine.specs.declared.numbering.Made.{Made}
 use Rattle.round_engine.specs.declared.running.Finished as declared
-use Rattle.round_engine.specs.declared.fault.RunFault.{RunFault}
-use Rattle.round_engine.specs.declared.fault.RunFault.TheVariants as fault
-use Rattle.round_engine.specs.declared.refusal.Refusal.{Refusal}
-use Rattle.round_engine.specs.declared.refusal.Refusal.TheVariants as code
+use Rattle.round_engine.specs.declared.refusal.Refusal as code
+use Rattle.round_engine.specs.Refusals.{named_by}
+use Rattle.round_engine.specs.Faults.{stop_of, is_due}
 use Rattle.round_engine.specs.Units.{Units}
 use Rattle.round_engine.specs.Numbering.{AreLeast}
-use Rattle.round_engine.specs.Shown.{IsShown, TriedOnce}
-use Rattle.round_engine.specs.Run.{Run, Finished, Refused, UnbuiltTalk, TooManyQuestions, UnbuiltForm, GeneratedDuplicate, TooManyRounds, files_among, run_of}
+use Rattle.round_engine.specs.Shown.{ShowsNew, TellsOneMore, TriedOnce, StopsAs}
+use Rattle.round_engine.specs.Run.{Run, Finished, Refused, level, files_among, run_of}
 
 -- a processor's name and command
 abbrev pub try_of : KeyProcessor → Try
 try_of processor = (processor.name, processor.command)
 
--- so far a project has at most one processor; without one, two rounds run in which nothing is asked
+-- so far a build is one of this level, without options, and with at most one processor
+pub record IsPlain (key : Key) : Type 0 where
+  pub at_level : key.level ≡ level
+  pub no_options : key.options ≡ []
+  pub one : length key.processors ≤ 1
+
+-- without a processor, two rounds run in which nothing is asked
 abbrev pub clean_run : Says → List KeyProcessor → Units → Run
 clean_run says [] units = Finished [] 2 [] [] []
 clean_run says (processor ∷ others) units = run_of says (try_of processor) units
@@ -42,19 +48,6 @@ abbrev pub count_of : (Message → Bool) → List Placed → ℕ
 count_of p messages = length (filter (λ placed. p placed.message) messages)
 
 -- ---- what a clean run says
-
--- a refusal as that of the processor with this name
-abbrev pub refusal_of : List ℕ → RunFault → Refusal
-refusal_of processor fault.Failed = code.ChildFault processor
-refusal_of processor fault.UnbuiltTalk = code.UnbuiltTalk processor
-refusal_of processor (fault.TooManyQuestions most) = code.TooManyQuestions processor most
-refusal_of processor (fault.UnbuiltForm path) = code.UnbuiltForm path
-refusal_of processor (fault.GeneratedDuplicate name) = code.GeneratedDuplicate name
-refusal_of processor fault.TooManyRounds = code.TooManyRounds
-refusal_of processor fault.Memory = code.Memory
-
-abbrev pub RefusedAs : List ℕ → RunFault → Refusal → Type 0
-RefusedAs processor fault refusal = (refusal ≡ refusal_of processor fault) ⊎ (refusal ≡ code.Memory)
 
 -- files that are ready for the store: they ascend by path, and each has the least number that is left, and room in its fields
 pub record AreNumbered (taken : List ℕ) (files : List Made) : Type 0 where
@@ -79,9 +72,9 @@ frames_of (Finished sent rounds made messages unread) = sent
 frames_of (Refused sent fault) = sent
 
 -- the child that was started for the processor was shown exactly the frames of the run
-abbrev pub ShowsAll : List KeyProcessor → Run → Known → Type 0
-ShowsAll [] run known = Unit {0}
-ShowsAll (processor ∷ others) run known = (child : ℕ) × IsShown (try_of processor) (frames_of run) known child
+abbrev pub ShowsAll : List KeyProcessor → Run → Known → Known → Type 0
+ShowsAll [] run known known' = AllKept known known'
+ShowsAll (processor ∷ others) run known known' = ShowsNew (try_of processor) (frames_of run) known known'
 
 -- the processor has this name
 abbrev pub IsNamed : List KeyProcessor → List ℕ → Type 0
@@ -89,35 +82,8 @@ IsNamed [] name = ⊥
 IsNamed (processor ∷ others) name = name ≡ processor.name
 
 -- a refusal that names a processor names this one
-abbrev pub NamesProcessor : List KeyProcessor → Result declared.Finished Refusal → Type 0
-NamesProcessor processors (Ok finished) = Unit {0}
-NamesProcessor processors (Err (code.ChildFault processor)) = IsNamed processors processor
-NamesProcessor processors (Err (code.UnbuiltTalk processor)) = IsNamed processors processor
-NamesProcessor processors (Err (code.TooManyQuestions processor most)) = IsNamed processors processor
-NamesProcessor processors (Err (code.UnbuiltForm path)) = Unit {0}
-NamesProcessor processors (Err (code.GeneratedDuplicate name)) = Unit {0}
-NamesProcessor processors (Err code.TooManyRounds) = Unit {0}
-NamesProcessor processors (Err code.Memory) = Unit {0}
-
--- a refusal of the code is this run
-abbrev pub RefusesAs : List KeyProcessor → Run → Refusal → Type 0
-RefusesAs processors whole (code.UnbuiltTalk processor) = (whole ≡ Refused (frames_of whole) UnbuiltTalk) × IsNamed processors processor
-RefusesAs processors whole (code.TooManyQuestions processor most) = (whole ≡ Refused (frames_of whole) (TooManyQuestions most)) × IsNamed processors processor
-RefusesAs processors whole (code.UnbuiltForm path) = whole ≡ Refused (frames_of whole) (UnbuiltForm path)
-RefusesAs processors whole (code.GeneratedDuplicate name) = whole ≡ Refused (frames_of whole) (GeneratedDuplicate name)
-RefusesAs processors whole code.TooManyRounds = whole ≡ Refused (frames_of whole) TooManyRounds
-RefusesAs processors whole (code.ChildFault processor) = Unit {0}
-RefusesAs processors whole code.Memory = Unit {0}
-
--- a fault of the children or want of memory, which may come at any point
-abbrev pub is_free : Refusal → Bool
-is_free (code.ChildFault processor) = true
-is_free code.Memory = true
-is_free (code.UnbuiltTalk processor) = false
-is_free (code.TooManyQuestions processor most) = false
-is_free (code.UnbuiltForm path) = false
-is_free (code.GeneratedDuplicate name) = false
-is_free code.TooManyRounds = false
+abbrev pub NamesProcessor : List KeyProcessor → Result declared.Finished code.Refusal → Type 0
+NamesProcessor processors result = IfErr result (λ refusal. IfSome (named_by (stop_of refusal)) (IsNamed processors))
 
 -- a finished run is this run, and has its files
 pub record FinishesAs (processors : List KeyProcessor) (whole : Run) (finished : declared.Finished) : Type 0 where
@@ -126,15 +92,30 @@ pub record FinishesAs (processors : List KeyProcessor) (whole : Run) (finished :
   pub has : Has made finished
   pub started : finished.started ≡ length (take 1 processors)
 
--- what came of it is the run, and the child was shown exactly its frames, unless the refusal is a free one
-abbrev pub Cleans : List KeyProcessor → Run → Known → Result declared.Finished Refusal → Type 0
-Cleans processors whole known (Ok finished) = FinishesAs processors whole finished × ShowsAll processors whole known
-Cleans processors whole known (Err refusal) = RefusesAs processors whole refusal × (is_free refusal ≡ false → ShowsAll processors whole known)
+-- nothing is told anew but of one child, and of none where there is no processor
+abbrev pub TellsMore : List KeyProcessor → Known → Known → Type 0
+TellsMore [] known known' = AllKept known known'
+TellsMore (processor ∷ others) known known' = TellsOneMore known known'
+
+-- what came of it is the run, and where the answer is due the child was shown exactly the run's frames
+abbrev pub ComesOf : List KeyProcessor → Run → Result declared.Finished code.Refusal → Type 0
+ComesOf processors whole (Ok finished) = FinishesAs processors whole finished
+ComesOf processors whole (Err refusal) = StopsAs whole (frames_of whole) (stop_of refusal)
+
+pub record Cleans (processors : List KeyProcessor) (whole : Run) (known known' : Known) (result : Result declared.Finished code.Refusal) : Type 0 where
+  pub comes : ComesOf processors whole result
+  pub more : TellsMore processors known known'
+  pub shown : is_due result ≡ true → ShowsAll processors whole known known'
+
+-- a fact on which what children say bears, where they tell it; without a processor none is asked
+abbrev pub Talked : Bool → List KeyProcessor → Type 0 → Type 0
+Talked talks [] P = P
+Talked talks (processor ∷ others) P = Told talks P
 
 -- ---- starts and counts
 
 -- one child was started for each processor, or at most one where the run was refused
-abbrev pub Starts : List KeyProcessor → Result declared.Finished Refusal → ℕ → ℕ → Type 0
+abbrev pub Starts : List KeyProcessor → Result declared.Finished code.Refusal → ℕ → ℕ → Type 0
 Starts processors (Ok finished) old new = (finished.started ≡ length (take 1 processors)) × (new ≡ old + finished.started)
 Starts processors (Err refusal) old new = new ≤ old + length (take 1 processors)
 
@@ -142,18 +123,3 @@ Starts processors (Err refusal) old new = new ≤ old + length (take 1 processor
 abbrev pub Tries : List KeyProcessor → List Try → List Try → Type 0
 Tries [] old new = new ≡ old
 Tries (processor ∷ others) old new = TriedOnce (try_of processor) old new
-
-abbrev pub IsChildFault : Result declared.Finished Refusal → Type 0
-IsChildFault (Ok finished) = ⊥
-IsChildFault (Err (code.ChildFault processor)) = Unit {0}
-IsChildFault (Err code.Memory) = ⊥
-IsChildFault (Err (code.UnbuiltTalk processor)) = ⊥
-IsChildFault (Err (code.TooManyQuestions processor most)) = ⊥
-IsChildFault (Err (code.UnbuiltForm path)) = ⊥
-IsChildFault (Err (code.GeneratedDuplicate name)) = ⊥
-IsChildFault (Err code.TooManyRounds) = ⊥
-
--- the count of the children never falls, and a fault of theirs comes only where it rose
-pub record HasReason (before now : ℕ) (result : Result declared.Finished Refusal) : Type 0 where
-  pub later : before ≤ now
-  pub failed : IsChildFault result → Rose before now

@@ -1,24 +1,34 @@
--- Which refusal of a run a fault within it is.
-use Rattle.std.specs.Prelude.{ℕ, ◌≤◌, Result, IsErrOf}
+-- What a refusal of the code is, and which one a fault below it comes to.
+use Rattle.std.specs.Prelude.{◌≡◌, ℕ, ◌≤◌, Bool, true, List, Result, Ok, Err, IfErr}
 use Rattle.apt_outside.specs.Count.{Rose}
-use Rattle.apt_outside.specs.declared.fault.Fault.{Fault}
-use Rattle.apt_outside.specs.declared.fault.Fault.TheVariants as outside
 use Rattle.child_session.specs.declared.fault.SessionFault.{SessionFault}
 use Rattle.child_session.specs.declared.fault.SessionFault.TheVariants as session
-use Rattle.round_engine.specs.declared.fault.RunFault.{RunFault}
-use Rattle.round_engine.specs.declared.fault.RunFault.TheVariants.{Failed, UnbuiltTalk, TooManyQuestions, Memory}
+use Rattle.round_engine.specs.declared.refusal.Refusal as declared
+use Rattle.round_engine.specs.declared.refusal.Refusal.TheVariants as code
+use Rattle.round_engine.specs.Refusals.{UnbuiltForm, UnbuiltTalk, TooManyQuestions, GeneratedDuplicate, TooManyRounds, Children, Stop, Refused, Failed, Memory, is_refusal, is_failure}
 
-abbrev pub of_session : SessionFault → RunFault
-of_session session.Failed = Failed
-of_session session.Unbuilt = UnbuiltTalk
-of_session (session.TooManyQuestions limit) = TooManyQuestions limit
-of_session session.Memory = Memory
+abbrev pub stop_of : declared.Refusal → Stop
+stop_of (code.ChildFault processor) = Failed (Children processor)
+stop_of (code.UnbuiltTalk processor) = Refused (UnbuiltTalk processor)
+stop_of (code.TooManyQuestions processor most) = Refused (TooManyQuestions processor most)
+stop_of (code.UnbuiltForm path) = Refused (UnbuiltForm path)
+stop_of (code.GeneratedDuplicate name) = Refused (GeneratedDuplicate name)
+stop_of code.TooManyRounds = Refused TooManyRounds
+stop_of code.Memory = Memory
 
-abbrev pub of_outside : Fault → RunFault
-of_outside outside.Failed = Failed
-of_outside outside.Memory = Memory
+-- a fault of a session of the processor with this name
+abbrev pub of_session : List ℕ → SessionFault → Stop
+of_session processor session.Failed = Failed (Children processor)
+of_session processor session.Unbuilt = Refused (UnbuiltTalk processor)
+of_session processor (session.TooManyQuestions most) = Refused (TooManyQuestions processor most)
+of_session processor session.Memory = Memory
 
--- the count never falls, and a run failed only where it rose
-pub record HasReason {T : Type 0} (before now : ℕ) (result : Result T RunFault) : Type 0 where
+-- whether a call did its work or was refused, so that its answer is due
+abbrev pub is_due : {T : Type 0} → Result T declared.Refusal → Bool
+is_due (Ok value) = true
+is_due (Err refusal) = is_refusal (stop_of refusal)
+
+-- the count of the children never falls, and a fault of theirs comes only where it rose
+pub record HasReason {T : Type 0} (before now : ℕ) (result : Result T declared.Refusal) : Type 0 where
   pub later : before ≤ now
-  pub failed : IsErrOf result Failed → Rose before now
+  pub failed : IfErr result (λ refusal. is_failure (stop_of refusal) ≡ true → Rose before now)

@@ -1,3 +1,4 @@
+pub mod Refusals
 pub mod Units
 pub mod Run
 pub mod Faults

@@ -18,7 +18,8 @@ use Rattle.apt_filer.specs.Filing.{Filings, path_of, content_of}
 use Rattle.child_session.specs.Talk.{Stream, answer_to}
 use Rattle.child_session.specs.Round.{Act, Answered, Broken, Overasked, Showing, act_of}
 use Rattle.round_engine.specs.declared.messages.Placed.{Placed}
-use Rattle.round_engine.specs.Units.{Units, is_present, Table, Entered, SourceRefusal, IsUnbuilt, IsDuplicate, enter_all}
+use Rattle.round_engine.specs.Refusals.{Refusal, UnbuiltTalk, TooManyQuestions, TooManyRounds}
+use Rattle.round_engine.specs.Units.{Units, is_present, Table, Entered, enter_all}
 
 -- ---- the frames of the host
 
@@ -139,32 +140,17 @@ unread_among made = fin.keys (gathered with_unread fin.empty made)
 
 -- ---- the run
 
--- why a run is refused
-pub data Fault : Type 0 where
-  -- the child's bytes left the form
-  UnbuiltTalk : Fault
-  -- it asked once more than so often in one round
-  TooManyQuestions : (most : ℕ) → Fault
-  UnbuiltForm : (path : List ℕ) → Fault
-  GeneratedDuplicate : (name : List ℕ) → Fault
-  -- round 64 would not be the last
-  TooManyRounds : Fault
-
 -- a run, with the frames that its child was sent
 pub data Run : Type 0 where
   -- so many rounds, the files, the messages, and the sources of the last round by their names
   Finished : (sent : List (List ℕ)) (rounds : ℕ) (made : List Creation) (messages : List Placed) (unread : List (List ℕ)) → Run
-  Refused : (sent : List (List ℕ)) (fault : Fault) → Run
+  Refused : (sent : List (List ℕ)) (refusal : Refusal) → Run
 
-abbrev pub fault_of : SourceRefusal → Fault
-fault_of (IsUnbuilt path) = UnbuiltForm path
-fault_of (IsDuplicate name) = GeneratedDuplicate name
-
--- what follows an act in a round with these roots, unless it is a refusal
-abbrev pub after_act : Units → Act → (List (List ℕ) → Filings → List Message → Run) → Run
-after_act roots (Answered sent filings printed) go = go sent filings printed
-after_act roots (Broken sent) go = Refused sent UnbuiltTalk
-after_act roots (Overasked sent) go = Refused sent (TooManyQuestions (limit roots))
+-- what follows an act of this processor in a round with these roots, unless it is refused
+abbrev pub after_act : List ℕ → Units → Act → (List (List ℕ) → Filings → List Message → Run) → Run
+after_act processor roots (Answered sent filings printed) go = go sent filings printed
+after_act processor roots (Broken sent filings) go = Refused sent (UnbuiltTalk processor)
+after_act processor roots (Overasked sent filings) go = Refused sent (TooManyQuestions processor (limit roots))
 
 abbrev pub last_of : ℕ → Bool → Round
 last_of number error = record { number = number; over = true; error = error; roots = fin.empty }
@@ -173,34 +159,34 @@ abbrev pub next_of : ℕ → Units → Round
 next_of number roots = record { number = number; over = false; error = false; roots = roots }
 
 -- The last round has no roots, and nothing is offered in it. Its sources are kept and not read.
-abbrev pub last_round : Stream → List ℕ → ℕ → Bool → List (List ℕ) → Progress → Run
-last_round stream pattern number error sent p = after_act fin.empty (act stream pattern (last_of number error) sent p) (λ sent' filings printed.
+abbrev pub last_round : List ℕ → Stream → List ℕ → ℕ → Bool → List (List ℕ) → Progress → Run
+last_round processor stream pattern number error sent p = after_act processor fin.empty (act stream pattern (last_of number error) sent p) (λ sent' filings printed.
     Finished sent' number filings.made (p.messages ++ place number 0 printed) (unread_among (new_since p.filings filings)))
 
-abbrev pub enter_next : List (List ℕ) → Result Entered SourceRefusal → (Entered → Run) → Run
+abbrev pub enter_next : List (List ℕ) → Result Entered Refusal → (Entered → Run) → Run
 enter_next sent (Ok entered) go = go entered
-enter_next sent (Err refusal) go = Refused sent (fault_of refusal)
+enter_next sent (Err refusal) go = Refused sent refusal
 
 -- After a round with an ERROR, or one that created no source, comes the last one. Else its sources are read and entered in
 -- order of path, and their units are the roots of the next.
-abbrev pub after_round : Stream → List ℕ → ℕ → List (List ℕ) → Progress → List Creation → List Message → (Entered → Run) → Run
-after_round stream pattern number sent p new printed go =
-    if has_error printed || not (creates_source new) then last_round stream pattern (suc number) (has_error printed) sent p
+abbrev pub after_round : List ℕ → Stream → List ℕ → ℕ → List (List ℕ) → Progress → List Creation → List Message → (Entered → Run) → Run
+after_round processor stream pattern number sent p new printed go =
+    if has_error printed || not (creates_source new) then last_round processor stream pattern (suc number) (has_error printed) sent p
     else enter_next sent (enter_all (record { table = p.table; roots = fin.empty }) (fin.entries (sources_among new))) go
 
 abbrev pub with_table : Progress → Table → Progress
 with_table p table = record { table = table; asked = p.asked; filings = p.filings; messages = p.messages }
 
 -- A round that is not the last, and what follows it; go says what follows where its sources are entered.
-abbrev pub round_then : Stream → List ℕ → Round → List (List ℕ) → Progress → (Round → List (List ℕ) → Progress → Run) → Run
-round_then stream pattern r sent p go = after_act r.roots (act stream pattern r sent p) (λ sent' filings printed.
-    after_round stream pattern r.number sent' (progress pattern r p filings printed) (new_since p.filings filings) printed (λ entered.
+abbrev pub round_then : List ℕ → Stream → List ℕ → Round → List (List ℕ) → Progress → (Round → List (List ℕ) → Progress → Run) → Run
+round_then processor stream pattern r sent p go = after_act processor r.roots (act stream pattern r sent p) (λ sent' filings printed.
+    after_round processor stream pattern r.number sent' (progress pattern r p filings printed) (new_since p.filings filings) printed (λ entered.
     go (next_of (suc r.number) entered.roots) sent' (with_table (progress pattern r p filings printed) entered.table)))
 
 -- the rounds from one on that is not the last, where so many rounds may come that are not the last
-unfoldable pub rounds_from : Stream → List ℕ → ℕ → Round → List (List ℕ) → Progress → Run
-rounds_from stream pattern zero r sent p = Refused sent TooManyRounds
-rounds_from stream pattern (suc left) r sent p = round_then stream pattern r sent p (rounds_from stream pattern left)
+unfoldable pub rounds_from : List ℕ → Stream → List ℕ → ℕ → Round → List (List ℕ) → Progress → Run
+rounds_from processor stream pattern zero r sent p = Refused sent TooManyRounds
+rounds_from processor stream pattern (suc left) r sent p = round_then processor stream pattern r sent p (rounds_from processor stream pattern left)
 
 -- a run has 64 rounds at most, the last included
 abbrev pub rounds_before_last : ℕ
@@ -213,16 +199,16 @@ new_filings units = record { initial = fin.keys units; made = [] }
 abbrev pub start : Units → Progress
 start units = record { table = record { initial = units; created = fin.empty }; asked = false; filings = new_filings units; messages = [] }
 
-abbrev pub after_hello : Stream → List (List ℕ) → Units → Option (List ℕ) → Run
-after_hello stream sent units None = Refused sent UnbuiltTalk
-after_hello stream sent units (Some pattern) = rounds_from stream pattern rounds_before_last (next_of 1 units) sent (start units)
+abbrev pub after_hello : List ℕ → Stream → List (List ℕ) → Units → Option (List ℕ) → Run
+after_hello processor stream sent units None = Refused sent (UnbuiltTalk processor)
+after_hello processor stream sent units (Some pattern) = rounds_from processor stream pattern rounds_before_last (next_of 1 units) sent (start units)
 
 -- the run of a processor with this name and command
 abbrev pub run_of : Says → Try → Units → Run
 run_of says processor units =
     let stream = says processor.0 processor.1 in
     let sent = init_frame processor.0 ∷ [] in
-    after_hello stream sent units (pattern_of (answer_to stream sent))
+    after_hello processor.0 stream sent units (pattern_of (answer_to stream sent))
 
 -- ---- what is published
 

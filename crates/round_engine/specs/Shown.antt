@@ -1,19 +1,20 @@
 -- What the calls of the engine say: what came of a run that is under way.
-use Rattle.std.specs.Prelude.{◌≡◌, ◌⊎◌, ◌+◌, ◌≤◌, ℕ, Bool, true, false, List, [], ◌∷◌, ◌++◌, Some, Result, Ok, Err, IsSomeAnd}
-use Rattle.apt_outside.specs.Child.{Says, Try, Child, Known, OthersKept}
+use Rattle.std.specs.Prelude.{◌≡◌, ◌⊎◌, ◌+◌, ◌≤◌, ℕ, Bool, true, false, List, [], ◌∷◌, ◌++◌, None, Some, Result, Ok, Err, IsSomeAnd}
+use Rattle.apt_outside.specs.Child.{Says, Try, Child, Known, OthersKept, AllKept}
 use Rattle.apt_filer.specs.Filing.{Filings}
 use Rattle.wire_frames.specs.declared.frame.Message.{Message}
 use Rattle.child_session.specs.declared.fault.SessionFault.{SessionFault}
 use Rattle.child_session.specs.Talk.{HasAnswered, WasAnswered}
 use Rattle.child_session.specs.Round.{Comes, OnAnswered}
-use Rattle.round_engine.specs.declared.fault.RunFault.{RunFault}
-use Rattle.round_engine.specs.declared.fault.RunFault.TheVariants as code
+use Rattle.round_engine.specs.declared.refusal.Refusal as declared
 use Rattle.round_engine.specs.declared.rounds.Rounds.{Rounds}
 use Rattle.round_engine.specs.declared.rounds.Round as code_round
 use Rattle.round_engine.specs.declared.messages.Placed.{Placed}
+use Rattle.round_engine.specs.Refusals as stop
+use Rattle.round_engine.specs.Refusals.{Stop}
+use Rattle.round_engine.specs.Faults.{stop_of, is_due}
 use Rattle.round_engine.specs.Units.{Units, Table}
 use Rattle.round_engine.specs.Run.{Round, Progress, limit, act, Run, Finished, Refused, rounds_from, run_of}
-use Rattle.round_engine.specs.Run as run
 
 -- ---- what the code has of these
 
@@ -42,32 +43,32 @@ abbrev pub Whole : Type 0
 Whole = Child → Run
 
 -- what is left of it from this round on decides what comes of the whole
-pub record Underway (says : Says) (whole : Whole) (pattern : List ℕ) (left : ℕ) (r : Round) (p : Progress) (before after : Child) : Type 0 where
+pub record Underway (says : Says) (whole : Whole) (processor pattern : List ℕ) (left : ℕ) (r : Round) (p : Progress) (before after : Child) : Type 0 where
   pub name : after.name ≡ before.name
   pub command : after.command ≡ before.command
   pub answered : HasAnswered says after
-  pub rest : rounds_from (says before.name before.command) pattern left r after.sent p ≡ whole before
+  pub rest : rounds_from processor (says before.name before.command) pattern left r after.sent p ≡ whole before
 
-pub record GoesOn (child : ℕ) (says : Says) (known known' : Known) (whole : Whole) (pattern : List ℕ) (left : ℕ) (r : Round) (p : Progress) : Type 0 where
-  pub way : WasAnswered child says known known' (Underway says whole pattern left r p)
+pub record GoesOn (child : ℕ) (says : Says) (known known' : Known) (whole : Whole) (processor pattern : List ℕ) (left : ℕ) (r : Round) (p : Progress) : Type 0 where
+  pub way : WasAnswered child says known known' (Underway says whole processor pattern left r p)
 
--- a result, with the frames that were sent and the files that were made, is this run, unless it is a free one
-abbrev pub ComesTo : Run → Result Rounds RunFault → List (List ℕ) → Filings → Type 0
+-- a run that was sent these frames stopped so, unless it is a stop that may come at any point
+abbrev pub StopsAs : Run → List (List ℕ) → Stop → Type 0
+StopsAs whole sent (stop.Refused refusal) = whole ≡ Refused sent refusal
+StopsAs whole sent (stop.Failed object) = Unit {0}
+StopsAs whole sent stop.Memory = Unit {0}
+
+-- a result, with the frames that were sent and the files that were made, is this run
+abbrev pub ComesTo : Run → Result Rounds declared.Refusal → List (List ℕ) → Filings → Type 0
 ComesTo whole (Ok rounds) sent filings = whole ≡ Finished sent rounds.count filings.made rounds.messages rounds.unread
-ComesTo whole (Err code.UnbuiltTalk) sent filings = whole ≡ Refused sent run.UnbuiltTalk
-ComesTo whole (Err (code.TooManyQuestions most)) sent filings = whole ≡ Refused sent (run.TooManyQuestions most)
-ComesTo whole (Err (code.UnbuiltForm path)) sent filings = whole ≡ Refused sent (run.UnbuiltForm path)
-ComesTo whole (Err (code.GeneratedDuplicate name)) sent filings = whole ≡ Refused sent (run.GeneratedDuplicate name)
-ComesTo whole (Err code.TooManyRounds) sent filings = whole ≡ Refused sent run.TooManyRounds
-ComesTo whole (Err code.Failed) sent filings = Unit {0}
-ComesTo whole (Err code.Memory) sent filings = Unit {0}
+ComesTo whole (Err refusal) sent filings = StopsAs whole sent (stop_of refusal)
 
-pub record Ended (whole : Whole) (filings' : Filings) (result : Result Rounds RunFault) (before after : Child) : Type 0 where
+pub record Ended (whole : Whole) (filings' : Filings) (result : Result Rounds declared.Refusal) (before after : Child) : Type 0 where
   pub name : after.name ≡ before.name
   pub command : after.command ≡ before.command
   pub comes : ComesTo (whole before) result after.sent filings'
 
-pub record Ends (child : ℕ) (says : Says) (known known' : Known) (whole : Whole) (filings' : Filings) (result : Result Rounds RunFault) : Type 0 where
+pub record Ends (child : ℕ) (says : Says) (known known' : Known) (whole : Whole) (filings' : Filings) (result : Result Rounds declared.Refusal) : Type 0 where
   pub ended : WasAnswered child says known known' (Ended whole filings' result)
 
 -- ---- a child from its start to its stop
@@ -77,12 +78,12 @@ abbrev pub begun : Says → Try → Child
 begun says processor = record { name = processor.0; command = processor.1; sent = []; waiting = says processor.0 processor.1 [] }
 
 -- the child was just started, and nothing was made before: what came of it is the run
-pub record CameTo (whole : Run) (processor : Try) (filings' : Filings) (result : Result Rounds RunFault) (after : Child) : Type 0 where
+pub record CameTo (whole : Run) (processor : Try) (filings' : Filings) (result : Result Rounds declared.Refusal) (after : Child) : Type 0 where
   pub name : after.name ≡ processor.0
   pub command : after.command ≡ processor.1
   pub comes : ComesTo whole result after.sent filings'
 
-pub record Came (child : ℕ) (says : Says) (name : List ℕ) (units : Units) (filings' : Filings) (known known' : Known) (result : Result Rounds RunFault) : Type 0 where
+pub record Came (child : ℕ) (says : Says) (name : List ℕ) (units : Units) (filings' : Filings) (known known' : Known) (result : Result Rounds declared.Refusal) : Type 0 where
   pub came : (command : List (List ℕ)) → known child ≡ Some (begun says (name, command)) → IsSomeAnd (known' child) (CameTo (run_of says (name, command) units) (name, command) filings' result)
 
 -- a child of the processor that was sent these frames
@@ -91,38 +92,34 @@ pub record IsSent (processor : Try) (sent : List (List ℕ)) (child : Child) : T
   pub command : child.command ≡ processor.1
   pub frames : child.sent ≡ sent
 
--- the child was shown exactly these frames
-abbrev pub IsShown : Try → List (List ℕ) → Known → ℕ → Type 0
-IsShown processor sent known child = IsSomeAnd (known child) (IsSent processor sent)
+-- a child of which nothing was told before is that of the processor and was shown exactly these frames; nothing is told
+-- anew of any other
+pub record ShowsNew (processor : Try) (sent : List (List ℕ)) (known known' : Known) : Type 0 where
+  pub child : ℕ
+  pub new : known child ≡ None
+  pub others : OthersKept child known known'
+  pub shown : IsSomeAnd (known' child) (IsSent processor sent)
 
--- whether a fault is one of the children or want of memory, which may come at any point
-abbrev pub is_free : {T : Type 0} → Result T RunFault → Bool
-is_free (Ok value) = false
-is_free (Err code.Failed) = true
-is_free (Err code.Memory) = true
-is_free (Err code.UnbuiltTalk) = false
-is_free (Err (code.TooManyQuestions most)) = false
-is_free (Err (code.UnbuiltForm path)) = false
-is_free (Err (code.GeneratedDuplicate name)) = false
-is_free (Err code.TooManyRounds) = false
+-- nothing is told anew, or only of a child of which nothing was told before
+abbrev pub TellsOneMore : Known → Known → Type 0
+TellsOneMore known known' = AllKept known known' ⊎ ((child : ℕ) × (known child ≡ None) × OthersKept child known known')
 
 -- what came of it is the run, and the child that was started for it was shown exactly that run's frames
-pub record RanAs (whole : Run) (processor : Try) (filings' : Filings) (known' : Known) (child : ℕ) (result : Result Rounds RunFault) : Type 0 where
+pub record RanAs (whole : Run) (processor : Try) (filings' : Filings) (known known' : Known) (result : Result Rounds declared.Refusal) : Type 0 where
   pub sent : List (List ℕ)
   pub comes : ComesTo whole result sent filings'
-  pub shown : IsShown processor sent known' child
+  pub shown : ShowsNew processor sent known known'
 
--- what came of it is the run, unless it is a free fault; nothing is told anew of any other child
-pub record Runs (says : Says) (processor : Try) (units : Units) (filings' : Filings) (known known' : Known) (result : Result Rounds RunFault) : Type 0 where
-  pub child : ℕ
-  pub others : OthersKept child known known'
-  pub ran : is_free result ≡ false → RanAs (run_of says processor units) processor filings' known' child result
+-- what came of it is the run, where its answer is due
+pub record Runs (says : Says) (processor : Try) (units : Units) (filings' : Filings) (known known' : Known) (result : Result Rounds declared.Refusal) : Type 0 where
+  pub more : TellsOneMore known known'
+  pub ran : is_due result ≡ true → RanAs (run_of says processor units) processor filings' known known' result
 
 -- at most this start was tried
 abbrev pub TriedOnce : Try → List Try → List Try → Type 0
 TriedOnce processor old new = (new ≡ old) ⊎ (new ≡ old ++ processor ∷ [])
 
 -- one child was started, or at most one where the run was refused
-abbrev pub StartedOnce : {T : Type 0} → Result T RunFault → ℕ → ℕ → Type 0
+abbrev pub StartedOnce : {T : Type 0} → Result T declared.Refusal → ℕ → ℕ → Type 0
 StartedOnce (Ok rounds) old new = new ≡ old + 1
 StartedOnce (Err fault) old new = new ≤ old + 1

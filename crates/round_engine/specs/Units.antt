@@ -8,6 +8,7 @@ use Rattle.std.specs.FinMap as fin
 use Rattle.std.specs.FinMap.{FinMap}
 use Rattle.source_form.specs.declared.form.SourceForm.{SourceForm}
 use Rattle.source_form.specs.Form.{form_of, canonical}
+use Rattle.round_engine.specs.Refusals.{Refusal, UnbuiltForm, GeneratedDuplicate}
 
 abbrev pub Units : Type 0
 Units = FinMap (slice_cmp nat_cmp) (List ℕ)
@@ -17,13 +18,6 @@ abbrev pub is_present : Units → List ℕ → Bool
 is_present units name = list_any (λ annotation. bytes_eq annotation name) (fin.values units)
 
 -- ---- reading created sources
-
--- why a created source is refused
-pub data SourceRefusal : Type 0 where
-  -- it is not of the form that is read so far
-  IsUnbuilt : (path : List ℕ) → SourceRefusal
-  -- it gives a name that the table has
-  IsDuplicate : (name : List ℕ) → SourceRefusal
 
 -- the units of a run: the initial ones, and those of created sources
 pub record Table : Type 0 where
@@ -44,15 +38,15 @@ add_unit form entered = record {
   roots = fin.insert entered.roots (canonical form) form.annotation;
 }
 
-abbrev pub enter_form : Entered → List ℕ → Option SourceForm → Result Entered SourceRefusal
-enter_form entered path None = Err (IsUnbuilt path)
-enter_form entered path (Some form) = if has_unit entered.table (canonical form) then Err (IsDuplicate (canonical form)) else Ok (add_unit form entered)
+abbrev pub enter_form : Entered → List ℕ → Option SourceForm → Result Entered Refusal
+enter_form entered path None = Err (UnbuiltForm path)
+enter_form entered path (Some form) = if has_unit entered.table (canonical form) then Err (GeneratedDuplicate (canonical form)) else Ok (add_unit form entered)
 
-abbrev pub enter_then : Result Entered SourceRefusal → (Entered → Result Entered SourceRefusal) → Result Entered SourceRefusal
+abbrev pub enter_then : Result Entered Refusal → (Entered → Result Entered Refusal) → Result Entered Refusal
 enter_then (Ok entered) next = next entered
 enter_then (Err refusal) next = Err refusal
 
 -- sources, each by its path and its bytes, are read and entered one after another
-abbrev pub enter_all : Entered → List (List ℕ × List ℕ) → Result Entered SourceRefusal
+abbrev pub enter_all : Entered → List (List ℕ × List ℕ) → Result Entered Refusal
 enter_all entered [] = Ok entered
 enter_all entered (source ∷ sources) = enter_then (enter_form entered source.0 (form_of source.1)) (λ next. enter_all next sources)

@@ -54,7 +54,8 @@ pub fn round_bytes(
     round: Round,
     roots: List<Name>,
 ) -> Result<List<u8>, NoMemory>
-    ensures { IfOk result (λ bytes. bytes ≡ spelling (frames.Round round.number round.over round.error (if present then pattern.now ∷ [] else []) roots)) }
+    ensures { IfOk result (λ bytes. bytes ≡ spelling
+        (frames.Round round.number round.over round.error (if present then pattern.now ∷ [] else []) roots)) }
 {
     let frame = Frame::Round {
         number: round.number,
@@ -68,7 +69,8 @@ pub fn round_bytes(
 
 // The one pattern that is a name, of a processor that has no options and always claims.
 fn one_pattern(hello: &Hello) -> Result<Option<Name>, NoMemory>
-    ensures { IfOk result (λ pattern. pattern ≡ one_pattern hello.now.patterns hello.now.options hello.now.claim) }
+    ensures { IfOk result (λ pattern. pattern ≡ one_pattern hello.now.patterns hello.now.options
+        hello.now.claim) }
 {
     let [pattern] = hello.patterns.as_slice() else {
         return Ok(None);

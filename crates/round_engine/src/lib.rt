@@ -6,7 +6,6 @@
 #![tactic(auto)]
 
 mod child;
-mod fault;
 mod frames;
 mod messages;
 mod numbering;

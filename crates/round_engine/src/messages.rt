@@ -1,9 +1,10 @@
 // The messages of a run.
-ghost use Rattle.std.specs.Prelude.{◌≡◌, ◌++◌, OnOk};
+ghost use Rattle.std.specs.Prelude.{◌≡◌, ◌++◌, IfOk, OnOk};
 ghost use Rattle.round_engine.specs.Run.{place, has_error};
 ghost use Rattle.round_engine.specs.Clean.{is_error, is_warning, count_of};
 
 use apt_base::{List, NoMemory};
+use std::alloc::Global;
 use wire_frames::Message;
 
 /// A message with its place in the order of a run's messages.
@@ -17,6 +18,31 @@ pub struct Placed {
     pub number: u32,
     /// The message.
     pub message: Message,
+}
+
+impl Placed {
+    /// An equal message at an equal place.
+    pub fn copy(&self, alloc: Global) -> Result<Placed, NoMemory>
+        ensures { IfOk result (λ placed. placed ≡ self.now) }
+    {
+        Ok(Placed {
+            round: self.round,
+            processor: self.processor,
+            number: self.number,
+            message: self.message.copy(alloc)?,
+        })
+    }
+}
+
+/// Equal messages in the same order.
+pub fn copy_messages(alloc: Global, messages: &[Placed]) -> Result<List<Placed>, NoMemory>
+    ensures { IfOk result (λ list. list ≡ messages.now) }
+{
+    let mut copies = List::new(alloc);
+    for each in messages {
+        copies.push(each.copy(alloc)?)?;
+    }
+    Ok(copies)
 }
 
 /// Whether one of the messages is an error.

@@ -24,6 +24,31 @@ pub struct Made {
     pub bytes: List<u8>,
 }
 
+impl Made {
+    /// An equal file.
+    pub fn copy(&self, alloc: Global) -> Result<Made, NoMemory>
+        ensures { IfOk result (λ made. made ≡ self.now) }
+    {
+        Ok(Made {
+            path: self.path.copy()?,
+            store: self.store,
+            written: self.written,
+            bytes: List::from_vec(self.bytes.as_slice().to_vec(alloc)?),
+        })
+    }
+}
+
+/// Equal files in the same order.
+pub fn copy_files(alloc: Global, files: &[Made]) -> Result<List<Made>, NoMemory>
+    ensures { IfOk result (λ list. list ≡ files.now) }
+{
+    let mut copies = List::new(alloc);
+    for each in files {
+        copies.push(each.copy(alloc)?)?;
+    }
+    Ok(copies)
+}
+
 // The numbers that are left: those from `next` on but for the taken ones.
 #[derive(Drop)]
 struct Numbers<'a> {
@@ -62,7 +87,7 @@ impl Numbers<'_> {
     }
 }
 
-// Whether so many bytes, or files, are written as a `u32`.
+// Whether that number of bytes, or of files, is written as a `u32`.
 fn fits(count: usize) -> bool
     ensures { IsTrue result ↔ (count < 2 ^ 32) }
 {
@@ -71,7 +96,13 @@ fn fits(count: usize) -> bool
 
 // The file under its number, which takes no memory. It fails where the path or the file has 2^32 bytes or more.
 fn made_file(alloc: Global, path: String, store: u32, bytes: Vec<u8>) -> Result<Made, NoMemory>
-    ensures file { IfOk result (λ file. file ≡ record { path = string_bytes path; store = store; written = true; bytes = bytes.items }) }
+    ensures file { IfOk result (λ file. file ≡ record {
+      path = string_bytes path;
+      store = store;
+      written =
+          true;
+      bytes = bytes.items;
+    }) }
     ensures text { IfOk result (λ file. is_text file.path ≡ true) }
     ensures store { store < 2 ^ 32 }
     ensures fits { IsOk result ↔ ((length (string_bytes path) < 2 ^ 32) × (length bytes.items < 2 ^ 32)) }
@@ -98,7 +129,8 @@ pub fn number_files(
     made: BTreeMap<String, Vec<u8>>,
 ) -> Result<List<Made>, NoMemory>
     requires { IsStrictlyIncreasing taken.now }
-    ensures files { IfOk result (λ files. map (λ file. (file.path, file.bytes)) files ≡ fin.entries (files_of made)) }
+    ensures files { IfOk result (λ files. map (λ file. (file.path, file.bytes)) files ≡ fin.entries
+        (files_of made)) }
     ensures numbers { IfOk result (λ files. AreLeast taken.now [] (map (λ file. file.store) files)) }
     ensures texts { IfOk result (All (λ file. is_text file.path ≡ true)) }
     ensures written { IfOk result (All (λ file. file.written ≡ true)) }

@@ -1,5 +1,10 @@
-use apt_base::{Kind, List, Name};
+// What a build depends on.
+ghost use Rattle.std.specs.Prelude.{◌≡◌, IfOk};
+
+use apt_base::{Kind, List, Name, NoMemory, copy_names};
+use std::alloc::Global;
 use std::collections::BTreeMap;
+use wire_frames::copy_options;
 
 /// A processor of a project.
 #[derive(Drop)]
@@ -14,6 +19,50 @@ pub struct KeyProcessor {
     pub kind: Kind,
 }
 
+impl KeyProcessor {
+    /// An equal processor.
+    pub fn copy(&self, alloc: Global) -> Result<KeyProcessor, NoMemory>
+        ensures { IfOk result (λ processor. processor ≡ self.now) }
+    {
+        Ok(KeyProcessor {
+            name: self.name.copy()?,
+            command: copy_names(alloc, self.command.as_slice())?,
+            version: self.version.copy()?,
+            kind: self.kind,
+        })
+    }
+}
+
+fn copy_processors(
+    alloc: Global,
+    processors: &[KeyProcessor],
+) -> Result<List<KeyProcessor>, NoMemory>
+    ensures { IfOk result (λ list. list ≡ processors.now) }
+{
+    let mut copies = List::new(alloc);
+    for each in processors {
+        copies.push(each.copy(alloc)?)?;
+    }
+    Ok(copies)
+}
+
+fn copy_stub(alloc: Global, stub: &(Name, List<u8>)) -> Result<(Name, List<u8>), NoMemory>
+    ensures { IfOk result (λ copy. copy ≡ stub.now) }
+{
+    let bytes = List::from_vec(stub.1.as_slice().to_vec(alloc)?);
+    Ok((stub.0.copy()?, bytes))
+}
+
+fn copy_stubs(alloc: Global, stubs: &[(Name, List<u8>)]) -> Result<List<(Name, List<u8>)>, NoMemory>
+    ensures { IfOk result (λ list. list ≡ stubs.now) }
+{
+    let mut copies = List::new(alloc);
+    for each in stubs {
+        copies.push(copy_stub(alloc, each)?)?;
+    }
+    Ok(copies)
+}
+
 /// All on which a build depends, but for its sources.
 #[derive(Drop)]
 pub struct Key {
@@ -25,6 +74,20 @@ pub struct Key {
     pub processors: List<KeyProcessor>,
     /// The stub files, as paths and their bytes, ascending by path.
     pub stubs: List<(Name, List<u8>)>,
+}
+
+impl Key {
+    /// An equal key.
+    pub fn copy(&self, alloc: Global) -> Result<Key, NoMemory>
+        ensures { IfOk result (λ key. key ≡ self.now) }
+    {
+        Ok(Key {
+            level: self.level,
+            options: copy_options(alloc, self.options.as_slice())?,
+            processors: copy_processors(alloc, self.processors.as_slice())?,
+            stubs: copy_stubs(alloc, self.stubs.as_slice())?,
+        })
+    }
 }
 
 /// A project, read.

@@ -1,10 +1,12 @@
 // Why a run over a project was refused.
 ghost use Rattle.std.specs.Prelude.{◌≡◌, IfOk};
 ghost use Rattle.round_engine.specs.declared.refusal.Refusal.TheVariants as code;
-ghost use Rattle.round_engine.specs.Clean.{RefusedAs};
+ghost use Rattle.round_engine.specs.Refusals.{Names, OrMemory};
+ghost use Rattle.round_engine.specs.Faults.{stop_of, of_session};
 
-use crate::fault::RunFault;
 use apt_base::{Name, NoMemory};
+use child_session::SessionFault;
+use std::alloc::{AllocError, AllocFailed};
 
 /// Why a run over a project was refused.
 #[derive(Drop)]
@@ -42,6 +44,32 @@ pub enum Refusal {
     Memory,
 }
 
+impl Refusal {
+    /// An equal refusal.
+    pub fn copy(&self) -> Result<Refusal, NoMemory>
+        ensures { IfOk result (λ refusal. refusal ≡ self.now) }
+    {
+        match self {
+            Refusal::ChildFault { processor } => Ok(Refusal::ChildFault {
+                processor: processor.copy()?,
+            }),
+            Refusal::UnbuiltTalk { processor } => Ok(Refusal::UnbuiltTalk {
+                processor: processor.copy()?,
+            }),
+            Refusal::TooManyQuestions { processor, limit } => Ok(Refusal::TooManyQuestions {
+                processor: processor.copy()?,
+                limit: *limit,
+            }),
+            Refusal::UnbuiltForm { path } => Ok(Refusal::UnbuiltForm { path: path.copy()? }),
+            Refusal::GeneratedDuplicate { name } => {
+                Ok(Refusal::GeneratedDuplicate { name: name.copy()? })
+            }
+            Refusal::TooManyRounds => Ok(Refusal::TooManyRounds),
+            Refusal::Memory => Ok(Refusal::Memory),
+        }
+    }
+}
+
 impl From<NoMemory> for Refusal {
     ghost from_gives = { λ _ e. e ≡ code.Memory };
 
@@ -50,20 +78,34 @@ impl From<NoMemory> for Refusal {
     }
 }
 
-/// The refusal of a run of the processor with this name, or `Memory` where there is none for a copy of the name.
-pub fn refusal_of(name: &Name, fault: RunFault) -> Refusal
-    ensures { RefusedAs name.now fault result }
+impl From<AllocError> for Refusal {
+    ghost from_gives = { λ _ e. e ≡ code.Memory };
+
+    fn from(_: AllocError) -> Refusal {
+        Refusal::Memory
+    }
+}
+
+impl<T: Drop> From<AllocFailed<T>> for Refusal {
+    ghost from_gives = { λ _ e. e ≡ code.Memory };
+
+    fn from(_: AllocFailed<T>) -> Refusal {
+        Refusal::Memory
+    }
+}
+
+/// The refusal of a run whose session with this processor failed so, or `Memory` where there is none for the name.
+pub fn refusal_of(processor: &Name, fault: SessionFault) -> Refusal
+    ensures is { OrMemory (of_session processor.now fault) (stop_of result) }
+    ensures named { Names processor.now (stop_of result) }
 {
-    let Ok(processor) = name.copy() else {
+    let Ok(processor) = processor.copy() else {
         return Refusal::Memory;
     };
     match fault {
-        RunFault::Failed => Refusal::ChildFault { processor },
-        RunFault::UnbuiltTalk => Refusal::UnbuiltTalk { processor },
-        RunFault::TooManyQuestions { limit } => Refusal::TooManyQuestions { processor, limit },
-        RunFault::UnbuiltForm { path } => Refusal::UnbuiltForm { path },
-        RunFault::GeneratedDuplicate { name } => Refusal::GeneratedDuplicate { name },
-        RunFault::TooManyRounds => Refusal::TooManyRounds,
-        RunFault::Memory => Refusal::Memory,
+        SessionFault::Failed => Refusal::ChildFault { processor },
+        SessionFault::Unbuilt => Refusal::UnbuiltTalk { processor },
+        SessionFault::TooManyQuestions { limit } => Refusal::TooManyQuestions { processor, limit },
+        SessionFault::Memory => Refusal::Memory,
     }
 }

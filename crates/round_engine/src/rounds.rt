@@ -1,18 +1,19 @@
 // The rounds of a run.
-ghost use Rattle.std.specs.Prelude.{◌≡◌, ◌+◌, ◌*◌, ◌||◌, not, Contains, IfOk, drop, length, true};
+ghost use Rattle.std.specs.Prelude.{◌≡◌, ◌+◌, ◌*◌, ◌||◌, not, Contains, IfOk, IfErr, drop, length, true};
 ghost use Rattle.apt_outside.specs.Count.{Told};
 ghost use Rattle.apt_outside.specs.Held.{files_of};
 ghost use Rattle.child_session.specs.Faults as session;
 ghost use Rattle.child_session.specs.Talk.{Attends, HasAnswered};
-ghost use Rattle.round_engine.specs.Faults.{HasReason};
+ghost use Rattle.round_engine.specs.Refusals.{Names};
+ghost use Rattle.round_engine.specs.Faults.{stop_of, HasReason};
 ghost use Rattle.round_engine.specs.Run.{is_asked, creates_source, rounds_from, rounds_before_last, last_round, next_of, new_filings, start};
 ghost use Rattle.round_engine.specs.Units.{Table};
 ghost use Rattle.round_engine.specs.declared.messages.Placed.{Placed};
 ghost use Rattle.round_engine.specs.Shown.{shown_round, standing, Acts, Ends};
 
-use crate::fault::RunFault;
 use crate::frames::round_bytes;
 use crate::messages::{Placed, has_error, place};
+use crate::refusal::{Refusal, refusal_of};
 use crate::sources::{creates_source, enter_all, sources_among, unread_among};
 use crate::units::{is_present, roots_of, roots_or};
 use apt_base::{List, Name, NoMemory};
@@ -23,7 +24,7 @@ use std::alloc::Global;
 use std::collections::BTreeMap;
 use wire_frames::{Creation, Message};
 
-// A run has so many rounds at most, the last included.
+// The most rounds of a run, the last included.
 const MAX_ROUNDS: u32 = 64;
 
 /// A round: its number and its flags.
@@ -48,7 +49,7 @@ pub struct Rounds {
     pub unread: List<Name>,
 }
 
-// How often a child may ask in a round with so many roots. More than fits is answered as want of memory.
+// How often a child may ask in a round with these roots. More than fits is answered as want of memory.
 fn limit_of(roots: &[Name]) -> Result<u32, NoMemory>
     ensures { IfOk result (λ most. most ≡ 65536 + 4096 * length roots.now) }
 {
@@ -72,9 +73,12 @@ fn act<C: Children>(
     ensures reason { session.HasReason (C.faults children.old) (C.faults children.new) result }
     ensures starts { C.starts children.new ≡ C.starts children.old }
     ensures live { C.live children.new ≡ C.live children.old }
-    ensures attends { Told C.tells (Attends child (C.says children.old) (C.says children.new) (C.tried children.old) (C.tried children.new) (C.known children.old) (C.known children.new)) }
+    ensures attends { Told C.tells (Attends child (C.says children.old) (C.says children.new)
+        (C.tried children.old) (C.tried children.new) (C.known children.old) (C.known children.new)) }
     ensures asked { IfOk result (λ _. asked.new ≡ is_asked pattern.now (files_of roots.now) asked.old) }
-    ensures acts { Told C.tells ((table : Table) (messages : List Placed) → Acts child (C.says children.old) (C.known children.old) (C.known children.new) pattern.now (shown_round round (files_of roots.now)) (standing table asked.old filer.old messages) filer.new result) }
+    ensures acts { Told C.tells ((table : Table) (messages : List Placed) → Acts child (C.says children.old)
+        (C.known children.old) (C.known children.new) pattern.now (shown_round round (files_of roots.now))
+        (standing table asked.old filer.old messages) filer.new result) }
 {
     let present = is_present(roots, pattern.as_str().as_bytes());
     if !present && !*asked {
@@ -87,7 +91,7 @@ fn act<C: Children>(
     show_round(alloc, children, child, frame.as_slice(), most, filer)
 }
 
-// What was made since there were so many files.
+// What was made since there were `count` files.
 fn made_since(filer: &Filer, count: usize) -> &[Creation]
     ensures { result.now ≡ drop count filer.now.made }
 {
@@ -103,27 +107,36 @@ fn finish<C: Children>(
     alloc: Global,
     children: &mut C,
     child: u32,
+    processor: &Name,
     pattern: &Name,
     round: Round,
     asked: bool,
     filer: &mut Filer,
     messages: List<Placed>,
-) -> Result<Rounds, RunFault>
+) -> Result<Rounds, Refusal>
     requires lives { Contains (C.live children.old) child }
     requires last { round.over ≡ true }
     ensures reason { HasReason (C.faults children.old) (C.faults children.new) result }
+    ensures named { IfErr result (λ refusal. Names processor.now (stop_of refusal)) }
     ensures starts { C.starts children.new ≡ C.starts children.old }
     ensures live { C.live children.new ≡ C.live children.old }
-    ensures attends { Told C.tells (Attends child (C.says children.old) (C.says children.new) (C.tried children.old) (C.tried children.new) (C.known children.old) (C.known children.new)) }
-    ensures ends { Told C.tells ((table : Table) → Ends child (C.says children.old) (C.known children.old) (C.known children.new) (λ before. last_round (C.says children.old before.name before.command) pattern.now round.number round.error before.sent (standing table asked filer.old messages)) filer.new result) }
+    ensures attends { Told C.tells (Attends child (C.says children.old) (C.says children.new)
+        (C.tried children.old) (C.tried children.new) (C.known children.old) (C.known children.new)) }
+    ensures ends { Told C.tells ((table : Table) → Ends child (C.says children.old) (C.known children.old)
+        (C.known children.new) (λ before. last_round processor.now
+        (C.says children.old before.name before.command) pattern.now round.number round.error before.sent
+        (standing table asked filer.old messages)) filer.new result) }
 {
     let roots = BTreeMap::new(alloc);
     let count = filer.made().len();
     let mut asked = asked;
     let mut messages = messages;
-    let printed = act(
+    let printed = match act(
         alloc, children, child, pattern, round, &roots, &mut asked, filer,
-    )?;
+    ) {
+        Ok(printed) => printed,
+        Err(fault) => return Err(refusal_of(processor, fault)),
+    };
     place(&mut messages, round.number, printed)?;
     let unread = unread_among(alloc, made_since(filer, count))?;
     Ok(Rounds {
@@ -146,17 +159,23 @@ pub fn show_rounds<C: Children>(
     alloc: Global,
     children: &mut C,
     child: u32,
+    processor: &Name,
     pattern: &Name,
     units: &BTreeMap<String, Vec<u8>>,
     filer: &mut Filer,
-) -> Result<Rounds, RunFault>
+) -> Result<Rounds, Refusal>
     requires lives { Contains (C.live children.old) child }
     requires new { filer.old ≡ new_filings (files_of units.now) }
     ensures reason { HasReason (C.faults children.old) (C.faults children.new) result }
+    ensures named { IfErr result (λ refusal. Names processor.now (stop_of refusal)) }
     ensures starts { C.starts children.new ≡ C.starts children.old }
     ensures live { C.live children.new ≡ C.live children.old }
-    ensures attends { Told C.tells (Attends child (C.says children.old) (C.says children.new) (C.tried children.old) (C.tried children.new) (C.known children.old) (C.known children.new)) }
-    ensures ends { Told C.tells (Ends child (C.says children.old) (C.known children.old) (C.known children.new) (λ before. rounds_from (C.says children.old before.name before.command) pattern.now rounds_before_last (next_of 1 (files_of units.now)) before.sent (start (files_of units.now))) filer.new result) }
+    ensures attends { Told C.tells (Attends child (C.says children.old) (C.says children.new)
+        (C.tried children.old) (C.tried children.new) (C.known children.old) (C.known children.new)) }
+    ensures ends { Told C.tells (Ends child (C.says children.old) (C.known children.old)
+        (C.known children.new) (λ before. rounds_from processor.now
+        (C.says children.old before.name before.command) pattern.now rounds_before_last
+        (next_of 1 (files_of units.now)) before.sent (start (files_of units.now))) filer.new result) }
 {
     let mut created = BTreeMap::new(alloc);
     let mut entered = None;
@@ -170,9 +189,12 @@ pub fn show_rounds<C: Children>(
         };
         let roots = roots_or(units, &entered);
         let count = filer.made().len();
-        let printed = act(
+        let printed = match act(
             alloc, children, child, pattern, round, roots, &mut asked, filer,
-        )?;
+        ) {
+            Ok(printed) => printed,
+            Err(fault) => return Err(refusal_of(processor, fault)),
+        };
         let error = has_error(printed.as_slice());
         place(&mut messages, number, printed)?;
         if is_followed_by_last(error, made_since(filer, count)) {
@@ -182,11 +204,11 @@ pub fn show_rounds<C: Children>(
                 error,
             };
             return finish(
-                alloc, children, child, pattern, last, asked, filer, messages,
+                alloc, children, child, processor, pattern, last, asked, filer, messages,
             );
         }
         let sources = sources_among(alloc, made_since(filer, count))?;
         entered = Some(enter_all(alloc, units, &mut created, sources)?);
     }
-    Err(RunFault::TooManyRounds)
+    Err(Refusal::TooManyRounds)
 }

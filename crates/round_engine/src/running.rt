@@ -3,17 +3,18 @@ ghost use Rattle.std.specs.Prelude.{◌≡◌, map, IfOk, string_bytes};
 ghost use Rattle.std.specs.List.Sorted.{IsStrictlyIncreasing};
 ghost use Rattle.apt_outside.specs.Count.{Told};
 ghost use Rattle.apt_outside.specs.Held.{files_of};
-ghost use Rattle.round_engine.specs.Clean.{clean_run, AreNumbered, Has, Cleans, NamesProcessor, Starts, Tries, HasReason};
+ghost use Rattle.round_engine.specs.Faults.{HasReason};
+ghost use Rattle.round_engine.specs.Clean.{IsPlain, clean_run, AreNumbered, Has, Cleans, NamesProcessor, Talked, Starts, Tries};
 
 use crate::child::run_processor;
-use crate::messages::{Placed, count_errors, count_warnings};
-use crate::numbering::{Made, number_files};
+use crate::messages::{Placed, copy_messages, count_errors, count_warnings};
+use crate::numbering::{Made, copy_files, number_files};
 use crate::project::Project;
-use crate::refusal::{Refusal, refusal_of};
+use crate::refusal::Refusal;
 use crate::rounds::Rounds;
 use crate::sources::files_among;
 use crate::units::roots_of;
-use apt_base::{List, Name, NoMemory};
+use apt_base::{List, Name, NoMemory, copy_names};
 use apt_filer::Filer;
 use apt_outside::Children;
 use std::alloc::Global;
@@ -38,6 +39,23 @@ pub struct Finished {
     pub unread: List<Name>,
 }
 
+impl Finished {
+    /// An equal run.
+    pub fn copy(&self, alloc: Global) -> Result<Finished, NoMemory>
+        ensures { IfOk result (λ finished. finished ≡ self.now) }
+    {
+        Ok(Finished {
+            errors: self.errors,
+            warnings: self.warnings,
+            rounds: self.rounds,
+            started: self.started,
+            files: copy_files(alloc, self.files.as_slice())?,
+            messages: copy_messages(alloc, self.messages.as_slice())?,
+            unread: copy_names(alloc, self.unread.as_slice())?,
+        })
+    }
+}
+
 /// The words of a command.
 fn words_of(alloc: Global, command: &[Name]) -> Result<Vec<String>, NoMemory>
     ensures { IfOk result (λ words. map string_bytes words.items ≡ command.now) }
@@ -55,12 +73,14 @@ fn finish_run(
     taken: &[u32],
     started: u32,
     rounds: Rounds,
-    made: &[Creation],
+    made: List<Creation>,
 ) -> Result<Finished, NoMemory>
     requires { IsStrictlyIncreasing taken.now }
-    ensures is { IfOk result (λ finished. (finished.rounds ≡ rounds.count) × (finished.messages ≡ rounds.messages) × (finished.unread ≡ rounds.unread) × (finished.started ≡ started)) }
+    ensures is { IfOk result (λ finished. (finished.rounds ≡ rounds.count) ×
+        (finished.messages ≡ rounds.messages) × (finished.unread ≡ rounds.unread) ×
+        (finished.started ≡ started)) }
     ensures numbered { IfOk result (λ finished. AreNumbered taken.now finished.files) }
-    ensures has { IfOk result (Has made.now) }
+    ensures has { IfOk result (Has made) }
 {
     let errors = count_errors(rounds.messages.as_slice());
     let warnings = count_warnings(rounds.messages.as_slice());
@@ -79,8 +99,8 @@ fn finish_run(
     })
 }
 
-/// Runs the rounds over a project, from nothing, as far as they are built: at most one processor, which is the first of
-/// the key. A file gets the least number that is neither taken nor an earlier file's; the taken numbers ascend.
+/// Runs the rounds over a project, from nothing, as far as they are built: at level 11, without options and with at most
+/// one processor. A file gets the least number that is neither taken nor an earlier file's; the taken numbers ascend.
 ///
 /// A fault of the children comes only where their count rose. Want of memory may come at any point, and each other
 /// refusal comes exactly where the run has it (JSR 269, `Processor`, `RoundEnvironment` and `Filer`).
@@ -90,15 +110,19 @@ pub fn clean<C: Children>(
     taken: &[u32],
     children: &mut C,
 ) -> Result<Finished, Refusal>
-    requires { IsStrictlyIncreasing taken.now }
+    requires plain { IsPlain project.now.key }
+    requires ascending { IsStrictlyIncreasing taken.now }
     ensures reason { HasReason (C.faults children.old) (C.faults children.new) result }
     ensures starts { Starts project.now.key.processors result (C.starts children.old) (C.starts children.new) }
     ensures live { C.live children.new ≡ C.live children.old }
     ensures says { Told C.tells (C.says children.new ≡ C.says children.old) }
-    ensures tried { Told C.tells (Tries project.now.key.processors (C.tried children.old) (C.tried children.new)) }
+    ensures tried { Told C.tells (Tries project.now.key.processors (C.tried children.old)
+        (C.tried children.new)) }
     ensures numbered { IfOk result (λ finished. AreNumbered taken.now finished.files) }
     ensures named { NamesProcessor project.now.key.processors result }
-    ensures cleans { Told C.tells (Cleans project.now.key.processors (clean_run (C.says children.old) project.now.key.processors (files_of project.now.initial)) (C.known children.new) result) }
+    ensures cleans { Talked C.tells project.now.key.processors
+        (Cleans project.now.key.processors (clean_run (C.says children.old) project.now.key.processors
+        (files_of project.now.initial)) (C.known children.old) (C.known children.new) result) }
 {
     let mut filer = Filer::new(alloc, &roots_of(alloc, &project.initial)?)?;
     let Some((processor, _)) = project.key.processors.as_slice().split_first() else {
@@ -107,7 +131,7 @@ pub fn clean<C: Children>(
             messages: List::new(alloc),
             unread: List::new(alloc),
         };
-        return Ok(finish_run(alloc, taken, 0, none, &[])?);
+        return Ok(finish_run(alloc, taken, 0, none, List::new(alloc))?);
     };
     let words = words_of(alloc, processor.command.as_slice())?;
     match run_processor(
@@ -118,7 +142,7 @@ pub fn clean<C: Children>(
         &project.initial,
         &mut filer,
     ) {
-        Err(fault) => Err(refusal_of(&processor.name, fault)),
-        Ok(rounds) => Ok(finish_run(alloc, taken, 1, rounds, filer.made().as_slice())?),
+        Err(refusal) => Err(refusal),
+        Ok(rounds) => Ok(finish_run(alloc, taken, 1, rounds, filer.into_made())?),
     }
 }

@@ -1,14 +1,16 @@
 // The sources among the files that a run made, and the units that they give.
-ghost use Rattle.std.specs.Prelude.{◌≡◌, ℕ, List, IfOk, OnOk, Some};
+ghost use Rattle.std.specs.Prelude.{◌≡◌, ℕ, List, IfOk, IfErr, OnOk, None, Some};
 ghost use Rattle.std.specs.FinMap as fin;
 ghost use Rattle.apt_outside.specs.Held.{files_of};
 ghost use Rattle.source_form.specs.Form.{form_of};
 ghost use Rattle.round_engine.specs.Units.{enter_form, enter_all};
 ghost use Rattle.round_engine.specs.Run.{is_source, creates_source, with_source, with_unread, with_file, sources_among, unread_among, files_among};
+ghost use Rattle.round_engine.specs.Refusals.{named_by};
+ghost use Rattle.round_engine.specs.Faults.{stop_of};
 ghost use Rattle.round_engine.specs.Entering.{entered, Enters, EntersAll};
 ghost use Rattle.apt_filer.specs.Filing.{content_of};
 
-use crate::fault::RunFault;
+use crate::refusal::Refusal;
 use crate::units::roots_of;
 use apt_base::{List, Name, NoMemory};
 use apt_filer::path_of;
@@ -101,15 +103,18 @@ fn enter_form(
     created: &mut BTreeMap<String, Vec<u8>>,
     roots: &mut BTreeMap<String, Vec<u8>>,
     form: &SourceForm,
-) -> Result<(), RunFault>
-    ensures { (path : List ℕ) → Enters (enter_form (entered (files_of units.now) (files_of created.old) (files_of roots.old)) path (Some form.now)) (entered (files_of units.now) (files_of created.new) (files_of roots.new)) result }
+) -> Result<(), Refusal>
+    ensures unnamed { IfErr result (λ refusal. named_by (stop_of refusal) ≡ None) }
+    ensures enters { (path : List ℕ) → Enters (enter_form
+        (entered (files_of units.now) (files_of created.old) (files_of roots.old)) path (Some form.now))
+        (entered (files_of units.now) (files_of created.new) (files_of roots.new)) result }
 {
     let name = form.canonical(alloc)?;
     if units.get(name.as_str()).is_some() {
-        return Err(RunFault::GeneratedDuplicate { name });
+        return Err(Refusal::GeneratedDuplicate { name });
     }
     if created.get(name.as_str()).is_some() {
-        return Err(RunFault::GeneratedDuplicate { name });
+        return Err(Refusal::GeneratedDuplicate { name });
     }
     let key = String::from_str(alloc, name.as_str())?;
     let annotation = form.annotation.as_str().as_bytes().to_vec(alloc)?;
@@ -128,11 +133,14 @@ fn enter_source(
     roots: &mut BTreeMap<String, Vec<u8>>,
     path: &str,
     content: &[u8],
-) -> Result<(), RunFault>
-    ensures { Enters (enter_form (entered (files_of units.now) (files_of created.old) (files_of roots.old)) path.now (form_of content.now)) (entered (files_of units.now) (files_of created.new) (files_of roots.new)) result }
+) -> Result<(), Refusal>
+    ensures unnamed { IfErr result (λ refusal. named_by (stop_of refusal) ≡ None) }
+    ensures enters { Enters (enter_form (entered (files_of units.now) (files_of created.old)
+        (files_of roots.old)) path.now (form_of content.now))
+        (entered (files_of units.now) (files_of created.new) (files_of roots.new)) result }
 {
     match read_form(alloc, content)? {
-        None => Err(RunFault::UnbuiltForm {
+        None => Err(Refusal::UnbuiltForm {
             path: Name::new(alloc, path)?,
         }),
         Some(form) => enter_form(alloc, units, created, roots, &form),
@@ -145,8 +153,14 @@ pub fn enter_all(
     units: &BTreeMap<String, Vec<u8>>,
     created: &mut BTreeMap<String, Vec<u8>>,
     sources: BTreeMap<String, Vec<u8>>,
-) -> Result<BTreeMap<String, Vec<u8>>, RunFault>
-    ensures { EntersAll (enter_all (entered (files_of units.now) (files_of created.old) fin.empty) (fin.entries (files_of sources))) (record { initial = files_of units.now; created = files_of created.new }) result }
+) -> Result<BTreeMap<String, Vec<u8>>, Refusal>
+    ensures unnamed { IfErr result (λ refusal. named_by (stop_of refusal) ≡ None) }
+    ensures enters { EntersAll (enter_all (entered (files_of units.now) (files_of created.old) fin.empty)
+        (fin.entries (files_of sources))) (record {
+          initial = files_of units.now;
+          created = files_of
+              created.new;
+        }) result }
 {
     let mut roots = BTreeMap::new(alloc);
     for (path, content) in sources {
@@ -155,36 +169,38 @@ pub fn enter_all(
     Ok(roots)
 }
 
-fn content_of(creation: &Creation) -> &[u8]
-    ensures { result.now ≡ content_of creation.now }
+fn into_content(creation: Creation) -> Vec<u8>
+    ensures { result.items ≡ content_of creation }
 {
     match creation {
-        Creation::Source { content, .. } => content.as_slice(),
-        Creation::Resource { content, .. } => content.as_slice(),
-        Creation::Class { content, .. } => content.as_slice(),
+        Creation::Source { content, .. } => content.into_vec(),
+        Creation::Resource { content, .. } => content.into_vec(),
+        Creation::Class { content, .. } => content.into_vec(),
     }
 }
 
 fn add_file(
     alloc: Global,
     files: &mut BTreeMap<String, Vec<u8>>,
-    creation: &Creation,
+    creation: Creation,
 ) -> Result<(), NoMemory>
-    ensures { OnOk result (files_of files.new ≡ with_file (files_of files.old) creation.now) }
+    ensures { OnOk result (files_of files.new ≡ with_file (files_of files.old) creation) }
 {
-    let path = path_of(alloc, creation)?;
+    let path = path_of(alloc, &creation)?;
     let path = String::from_str(alloc, path.as_str())?;
-    let content = content_of(creation).to_vec(alloc)?;
-    files.insert(path, content)?;
+    files.insert(path, into_content(creation))?;
     Ok(())
 }
 
 /// The files that were made, by their paths.
-pub fn files_among(alloc: Global, made: &[Creation]) -> Result<BTreeMap<String, Vec<u8>>, NoMemory>
-    ensures { IfOk result (λ files. files_of files ≡ files_among made.now) }
+pub fn files_among(
+    alloc: Global,
+    made: List<Creation>,
+) -> Result<BTreeMap<String, Vec<u8>>, NoMemory>
+    ensures { IfOk result (λ files. files_of files ≡ files_among made) }
 {
     let mut files = BTreeMap::new(alloc);
-    for creation in made {
+    for creation in made.into_vec() {
         add_file(alloc, &mut files, creation)?;
     }
     Ok(files)

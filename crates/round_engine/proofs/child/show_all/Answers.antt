@@ -11,8 +11,8 @@ returns-in-None-clause-came g c = λ told. record {
   came = λ command at0.
       let C = g.C.Children in
       let init_is : c.as_slice.result.now ≡ init_frame c.args.name.now = search rules in
-      let answer = subst (λ f. Exchanges c.args.child (C.says c.args.children.now) (C.known c.args.children.now) (C.known c.exchange.new.children) f c.in_ok-answer.answer) init_is (c.in_ok-answer.ensures.answer told) in
-      came_unbuilt c.args.child (C.says c.args.children.now) c.args.name.now command (files_of c.args.units.now) (C.known c.args.children.now) (C.known c.exchange.new.children) at0 c.in_ok-answer.answer answer _ (sym c.in_ok-pattern_of.ensures ∙ c.in-None.is);
+      let answer = subst (λ f. Exchanges c.args.child (C.says c.args.children.now) (C.known c.args.children.now) (C.known c.exchange.new.children) f c.in-Ok.answer) init_is (c.in-Ok.ensures.answer told) in
+      came_unbuilt c.args.child (C.says c.args.children.now) c.args.name.now command (files_of c.args.units.now) (C.known c.args.children.now) (C.known c.exchange.new.children) at0 c.in-Ok.answer answer _ c.refusal_of-in-None.result c.refusal_of-in-None.ensures.is (sym c.in_ok-pattern_of.ensures ∙ c.in-None.is);
 }
 
 pub returns-clause-came : goal.returns-clause-came
@@ -20,8 +20,8 @@ returns-clause-came g c = λ told. record {
   came = λ command at0.
       let C = g.C.Children in
       let init_is : c.as_slice.result.now ≡ init_frame c.args.name.now = search rules in
-      let answer = subst (λ f. Exchanges c.args.child (C.says c.args.children.now) (C.known c.args.children.now) (C.known c.exchange.new.children) f c.in_ok-answer.answer) init_is (c.in_ok-answer.ensures.answer told) in
-      let said : C.says c.exchange.new.children ≡ C.says c.args.children.now = (c.in_ok-answer.ensures.attends told).same_says in
-      let ends = subst (λ says. Ends c.args.child says (C.known c.exchange.new.children) (C.known c.show_rounds.new.children) (λ before. rounds_from (says before.name before.command) c.in-Some.pattern rounds_before_last (next_of 1 (files_of c.args.units.now)) before.sent (start (files_of c.args.units.now))) c.show_rounds.new.filer c.show_rounds.result) said (c.show_rounds.ensures.ends told) in
-      came_on c.args.child (C.says c.args.children.now) c.args.name.now command (files_of c.args.units.now) (C.known c.args.children.now) (C.known c.exchange.new.children) at0 c.in_ok-answer.answer answer (C.known c.show_rounds.new.children) c.show_rounds.new.filer c.in-Some.pattern c.show_rounds.result (sym c.in_ok-pattern_of.ensures ∙ c.in-Some.is) ends;
+      let answer = subst (λ f. Exchanges c.args.child (C.says c.args.children.now) (C.known c.args.children.now) (C.known c.exchange.new.children) f c.in-Ok.answer) init_is (c.in-Ok.ensures.answer told) in
+      let said : C.says c.exchange.new.children ≡ C.says c.args.children.now = (c.in-Ok.ensures.attends told).same_says in
+      let ends = subst (λ says. Ends c.args.child says (C.known c.exchange.new.children) (C.known c.show_rounds.new.children) (λ before. rounds_from c.args.name.now (says before.name before.command) c.in-Some.pattern rounds_before_last (next_of 1 (files_of c.args.units.now)) before.sent (start (files_of c.args.units.now))) c.show_rounds.new.filer c.show_rounds.result) said (c.show_rounds.ensures.ends told) in
+      came_on c.args.child (C.says c.args.children.now) c.args.name.now command (files_of c.args.units.now) (C.known c.args.children.now) (C.known c.exchange.new.children) at0 c.in-Ok.answer answer (C.known c.show_rounds.new.children) c.show_rounds.new.filer c.in-Some.pattern c.show_rounds.result (sym c.in_ok-pattern_of.ensures ∙ c.in-Some.is) ends;
 }

@@ -17,7 +17,7 @@ invariant-loop-number g l =
       live : C.live l.children ≡ C.live l.fn.children;
       attends : Told C.tells (Attends l.child (C.says l.fn.children) (C.says l.children) (C.tried l.fn.children) (C.tried l.children) (C.known l.fn.children) (C.known l.children));
       goes : Told C.tells (GoesOn l.child (C.says l.fn.children) (C.known l.fn.children) (C.known l.children)
-          (λ before. rounds_from (C.says l.fn.children before.name before.command) l.pattern rounds_before_last (next_of 1 (files_of l.units)) before.sent (start (files_of l.units)))
-          l.pattern (64 - l.number) (next_of l.number (shown_roots (files_of l.units) l.entered))
+          (λ before. rounds_from l.processor (C.says l.fn.children before.name before.command) l.pattern rounds_before_last (next_of 1 (files_of l.units)) before.sent (start (files_of l.units)))
+          l.processor l.pattern (64 - l.number) (next_of l.number (shown_roots (files_of l.units) l.entered))
           (standing (record { initial = files_of l.units; created = files_of l.created }) l.asked l.filer l.messages));
     }

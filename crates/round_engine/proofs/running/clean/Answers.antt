@@ -1,29 +1,29 @@
 use Rattle.std.proofs.Common.{◌≡◌, ◌∷◌, Ok, Err, map, string_bytes, sym, subst, rules}
 use Rattle.apt_outside.specs.Held.{files_of}
 use Rattle.round_engine.specs.Shown.{Runs, TriedOnce}
-use Rattle.round_engine.specs.Clean.{clean_run, Has, Cleans, NamesProcessor, Tries}
-use Rattle.round_engine.proofs.CleanLemmas.{cleans_ok, cleans_err, names_processor}
+use Rattle.round_engine.specs.Clean.{clean_run, Has, Cleans, Talked, NamesProcessor, Tries}
+use Rattle.round_engine.proofs.CleanLemmas.{cleans_ok, cleans_err}
 use Rattle.round_engine.proofs.running.clean.Goals as goal
 
 pub returns-in-Err-clause-cleans : goal.returns-in-Err-clause-cleans
-returns-in-Err-clause-cleans g c = λ told.
+returns-in-Err-clause-cleans g c =
     let C = g.C.Children in
     let units = files_of c.args.project.now.initial in
     let processor = c.in-Some.processor.now in
     let ps : c.args.project.now.key.processors ≡ processor ∷ c.in-Some.field-0-1.now = search rules in
     let command_is : map string_bytes c.deref.result.now ≡ processor.command = search rules in
-    let runs = subst (λ w. Runs (C.says c.args.children.now) (processor.name, w) units c.run_processor.new.filer (C.known c.args.children.now) (C.known c.run_processor.new.children) (Err c.in-Err.fault)) command_is (c.in-Err.ensures.runs told) in
-    subst (λ l. Cleans l (clean_run (C.says c.args.children.now) l units) (C.known c.run_processor.new.children) (Err c.refusal_of.result)) (sym ps)
-    (cleans_err (C.says c.args.children.now) processor c.in-Some.field-0-1.now units c.run_processor.new.filer (C.known c.args.children.now) (C.known c.run_processor.new.children) c.in-Err.fault c.refusal_of.result runs c.refusal_of.ensures)
+    subst (λ l. Talked C.tells l (Cleans l (clean_run (C.says c.args.children.now) l units) (C.known c.args.children.now) (C.known c.run_processor.new.children) (Err c.in-Err.refusal))) (sym ps) (λ told.
+    let runs = subst (λ w. Runs (C.says c.args.children.now) (processor.name, w) units c.run_processor.new.filer (C.known c.args.children.now) (C.known c.run_processor.new.children) (Err c.in-Err.refusal)) command_is (c.in-Err.ensures.runs told) in
+    cleans_err (C.says c.args.children.now) processor c.in-Some.field-0-1.now units c.run_processor.new.filer (C.known c.args.children.now) (C.known c.run_processor.new.children) c.in-Err.refusal runs)
 
 pub returns-in-Err-clause-named : goal.returns-in-Err-clause-named
 returns-in-Err-clause-named g c =
     let processor = c.in-Some.processor.now in
     let ps : c.args.project.now.key.processors ≡ processor ∷ c.in-Some.field-0-1.now = search rules in
-    subst (λ l. NamesProcessor l (Err c.refusal_of.result)) (sym ps) (names_processor processor c.in-Some.field-0-1.now c.in-Err.fault c.refusal_of.result c.refusal_of.ensures)
+    subst (λ l. NamesProcessor l (Err c.in-Err.refusal)) (sym ps) c.in-Err.ensures.named
 
-pub returns-clause-tried : goal.returns-clause-tried
-returns-clause-tried g c = λ told.
+pub returns-in_ok-finish_run-in-Ok-clause-tried : goal.returns-in_ok-finish_run-in-Ok-clause-tried
+returns-in_ok-finish_run-in-Ok-clause-tried g c = λ told.
     let C = g.C.Children in
     let processor = c.in-Some.processor.now in
     let ps : c.args.project.now.key.processors ≡ processor ∷ c.in-Some.field-0-1.now = search rules in
@@ -31,18 +31,36 @@ returns-clause-tried g c = λ told.
     subst (λ l. Tries l (C.tried c.args.children.now) (C.tried c.run_processor.new.children)) (sym ps)
     (subst (λ w. TriedOnce (processor.name, w) (C.tried c.args.children.now) (C.tried c.run_processor.new.children)) command_is (c.run_processor.ensures.tried told))
 
-pub returns-clause-cleans : goal.returns-clause-cleans
-returns-clause-cleans g c = λ told.
+pub returns-in_err-finish_run-in-Ok-clause-tried : goal.returns-in_err-finish_run-in-Ok-clause-tried
+returns-in_err-finish_run-in-Ok-clause-tried g c = λ told.
+    let C = g.C.Children in
+    let processor = c.in-Some.processor.now in
+    let ps : c.args.project.now.key.processors ≡ processor ∷ c.in-Some.field-0-1.now = search rules in
+    let command_is : map string_bytes c.deref.result.now ≡ processor.command = search rules in
+    subst (λ l. Tries l (C.tried c.args.children.now) (C.tried c.run_processor.new.children)) (sym ps)
+    (subst (λ w. TriedOnce (processor.name, w) (C.tried c.args.children.now) (C.tried c.run_processor.new.children)) command_is (c.run_processor.ensures.tried told))
+
+pub returns-in-Err-clause-tried : goal.returns-in-Err-clause-tried
+returns-in-Err-clause-tried g c = λ told.
+    let C = g.C.Children in
+    let processor = c.in-Some.processor.now in
+    let ps : c.args.project.now.key.processors ≡ processor ∷ c.in-Some.field-0-1.now = search rules in
+    let command_is : map string_bytes c.deref.result.now ≡ processor.command = search rules in
+    subst (λ l. Tries l (C.tried c.args.children.now) (C.tried c.run_processor.new.children)) (sym ps)
+    (subst (λ w. TriedOnce (processor.name, w) (C.tried c.args.children.now) (C.tried c.run_processor.new.children)) command_is (c.run_processor.ensures.tried told))
+
+pub returns-in_ok-finish_run-in-Ok-clause-cleans : goal.returns-in_ok-finish_run-in-Ok-clause-cleans
+returns-in_ok-finish_run-in-Ok-clause-cleans g c =
     let C = g.C.Children in
     let units = files_of c.args.project.now.initial in
     let processor = c.in-Some.processor.now in
     let finished = c.in_ok-finish_run-in-Ok.field-0 in
     let ps : c.args.project.now.key.processors ≡ processor ∷ c.in-Some.field-0-1.now = search rules in
     let command_is : map string_bytes c.deref.result.now ≡ processor.command = search rules in
-    let runs = subst (λ w. Runs (C.says c.args.children.now) (processor.name, w) units c.run_processor.new.filer (C.known c.args.children.now) (C.known c.run_processor.new.children) (Ok c.in-Ok.rounds)) command_is (c.in-Ok.ensures.runs told) in
-    let made_is : c.as_slice-in-Ok.result.now ≡ c.run_processor.new.filer.made = search rules in
+    let made_is : c.into_made.result ≡ c.run_processor.new.filer.made = search rules in
     let has = subst (λ made. Has made finished) made_is c.in_ok-finish_run-in-Ok.ensures.has in
     let same = c.in_ok-finish_run-in-Ok.ensures.is in
-    subst (λ l. Cleans l (clean_run (C.says c.args.children.now) l units) (C.known c.run_processor.new.children) (Ok finished)) (sym ps)
-    (cleans_ok (C.says c.args.children.now) processor c.in-Some.field-0-1.now units c.run_processor.new.filer (C.known c.args.children.now) (C.known c.run_processor.new.children) c.in-Ok.rounds finished runs
+    subst (λ l. Talked C.tells l (Cleans l (clean_run (C.says c.args.children.now) l units) (C.known c.args.children.now) (C.known c.run_processor.new.children) (Ok finished))) (sym ps) (λ told.
+    let runs = subst (λ w. Runs (C.says c.args.children.now) (processor.name, w) units c.run_processor.new.filer (C.known c.args.children.now) (C.known c.run_processor.new.children) (Ok c.in-Ok.rounds)) command_is (c.in-Ok.ensures.runs told) in
+    cleans_ok (C.says c.args.children.now) processor c.in-Some.field-0-1.now units c.run_processor.new.filer (C.known c.args.children.now) (C.known c.run_processor.new.children) c.in-Ok.rounds finished runs
     (record { rounds_are = same.0; messages_are = same.1; unread_are = same.2 }) has same.3)

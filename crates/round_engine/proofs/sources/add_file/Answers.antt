@@ -7,7 +7,7 @@ use Rattle.round_engine.proofs.sources.add_file.Goals as goal
 
 pub returns : goal.returns
 returns c =
-    let path_is : string_bytes c.in_ok-path-2.path ≡ path_of c.args.creation.now = search rules in
-    let content_is : c.in_ok-content.content.items ≡ content_of c.args.creation.now = search rules in
-    files_of-insert c.args.files.now c.insert.new.self (string_bytes c.in_ok-path-2.path) c.in_ok-content.content c.in_ok-insert.ensures.updates
-    ∙ ap (λ n. fin.insert (files_of c.args.files.now) n c.in_ok-content.content.items) path_is ∙ ap (fin.insert (files_of c.args.files.now) (path_of c.args.creation.now)) content_is
+    let path_is : string_bytes c.in_ok-path-2.path ≡ path_of c.args.creation = search rules in
+    let content_is : c.into_content.result.items ≡ content_of c.args.creation = search rules in
+    files_of-insert c.args.files.now c.insert.new.self (string_bytes c.in_ok-path-2.path) c.into_content.result c.in_ok-insert.ensures.updates
+    ∙ ap (λ n. fin.insert (files_of c.args.files.now) n c.into_content.result.items) path_is ∙ ap (fin.insert (files_of c.args.files.now) (path_of c.args.creation)) content_is

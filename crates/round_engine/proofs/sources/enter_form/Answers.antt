@@ -8,14 +8,14 @@ use Rattle.round_engine.proofs.Creations.{found_there}
 use Rattle.round_engine.proofs.EnterLemmas.{repeats_initial, repeats_created, enters_form}
 use Rattle.round_engine.proofs.sources.enter_form.Goals as goal
 
-pub returns-then-is_some : goal.returns-then-is_some
-returns-then-is_some c = λ path.
+pub returns-then-is_some-clause-enters : goal.returns-then-is_some-clause-enters
+returns-then-is_some-clause-enters c = λ path.
     let key : c.as_str.result.now ≡ canonical c.args.form.now = search rules in
     let name_is : c.in_ok-name.name ≡ canonical c.args.form.now = search rules in
     rw name_is (repeats_initial (files_of c.args.units.now) (files_of c.args.created.now) (files_of c.args.roots.now) path c.args.form.now (found_there c.args.units.now (canonical c.args.form.now) c.as_str.result.now c.get.result true key c.get.ensures.value (sym c.is_some.ensures ∙ c.if-is_some.true)))
 
-pub returns-then-is_some-2 : goal.returns-then-is_some-2
-returns-then-is_some-2 c = λ path.
+pub returns-then-is_some-2-clause-enters : goal.returns-then-is_some-2-clause-enters
+returns-then-is_some-2-clause-enters c = λ path.
     let key : c.as_str.result.now ≡ canonical c.args.form.now = search rules in
     let key2 : c.as_str-2.result.now ≡ canonical c.args.form.now = search rules in
     let name_is : c.in_ok-name.name ≡ canonical c.args.form.now = search rules in
@@ -23,8 +23,8 @@ returns-then-is_some-2 c = λ path.
     (found_there c.args.units.now (canonical c.args.form.now) c.as_str.result.now c.get.result false key c.get.ensures.value (sym c.is_some.ensures ∙ c.if-is_some.false))
     (found_there c.args.created.now (canonical c.args.form.now) c.as_str-2.result.now c.get-2.result true key2 c.get-2.ensures.value (sym c.is_some-2.ensures ∙ c.if-is_some-2.true)))
 
-pub returns : goal.returns
-returns c = λ path.
+pub returns-clause-enters : goal.returns-clause-enters
+returns-clause-enters c = λ path.
     let key : c.as_str.result.now ≡ canonical c.args.form.now = search rules in
     let key2 : c.as_str-2.result.now ≡ canonical c.args.form.now = search rules in
     let name_is : string_bytes c.in_ok-key.key ≡ canonical c.args.form.now = search rules in

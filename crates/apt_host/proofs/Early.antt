@@ -1,0 +1,46 @@
+-- What a part of a build that did not do its work is not.
+use Rattle.std.proofs.Common.{◌≡◌, ◌≢◌, ℕ, Bool, true, false, refl, sym, ◌∙◌, subst}
+use Rattle.std.proofs.lemmas.Bool.{false≢true}
+use Rattle.tree_store.specs.declared.fault.StoreFault.{StoreFault}
+use Rattle.tree_store.specs.declared.fault.StoreFault.TheVariants as store
+use Rattle.round_engine.specs.Refusals.{BadWords, Object, Tree, Sink, Children}
+use Rattle.apt_host.specs.Verdicts.{Verdict, Done, Errors, Refused, Failed, Memory, verdict, is_finished, is_tree, is_sink, is_output, fails, OrFree}
+use Rattle.apt_host.specs.Endings.{of_store, EndsEarly, IsConcluded}
+
+module _ (is : Object → Bool) where
+  pub not_done_early : (v : Verdict) → EndsEarly is v → v ≢ Done
+  not_done_early v early done = subst (EndsEarly is) done early
+
+  pub on_table_early : (v : Verdict) (at : ℕ) → EndsEarly is v → v ≢ Refused (BadWords at)
+  on_table_early v at early bad = subst (EndsEarly is) bad early
+
+  pub unfinished_early : (v : Verdict) → EndsEarly is v → is_finished v ≡ false
+  unfinished_early Done early = absurd early
+  unfinished_early (Errors count) early = absurd early
+  unfinished_early (Refused refusal) early = refl
+  unfinished_early (Failed object) early = refl
+  unfinished_early Memory early = refl
+
+  pub no_sink_early : (v : Verdict) → is Sink ≡ false → EndsEarly is v → fails is_sink v ≡ false
+  no_sink_early Done other early = absurd early
+  no_sink_early (Errors count) other early = absurd early
+  no_sink_early (Refused refusal) other early = refl
+  no_sink_early (Failed Tree) other early = refl
+  no_sink_early (Failed Sink) other early = absurd (false≢true (sym other ∙ early))
+  no_sink_early (Failed (Children processor)) other early = refl
+  no_sink_early Memory other early = refl
+
+-- what may come of a publishing
+pub concluded_early : (v : Verdict) → OrFree Done v → EndsEarly is_output v → IsConcluded v
+concluded_early Done free early = tt
+concluded_early (Errors count) free early = tt
+concluded_early (Refused refusal) free early = absurd (let e : Refused refusal ≡ Done = free refl in cc)
+concluded_early (Failed Tree) free early = refl
+concluded_early (Failed Sink) free early = refl
+concluded_early (Failed (Children processor)) free early = absurd cc
+concluded_early Memory free early = tt
+
+-- a fault of the store
+pub store_early : (fault : StoreFault) → EndsEarly is_tree (verdict (of_store fault))
+store_early store.Failed = refl
+store_early store.Memory = tt

@@ -1,0 +1,61 @@
+-- Why a call of the host ends before its work is done. Each refusal stands here once, with what its line names.
+use Rattle.std.specs.Prelude.{◌≡◌, ◌⊎◌, ℕ, Bool, true, false, List, Option, None, Some, IfSome}
+
+pub data Refusal : Type 0 where
+  -- the first word that no command has there, by its position
+  BadWords : (at : ℕ) → Refusal
+  -- a source, or a created source, is none that can be read so far
+  UnbuiltForm : (path : List ℕ) → Refusal
+  -- a child's bytes are none that can be read so far
+  UnbuiltTalk : (processor : List ℕ) → Refusal
+  -- a child asked once more than so often in one round
+  TooManyQuestions : (processor : List ℕ) (most : ℕ) → Refusal
+  -- a created source gives a type that is there
+  GeneratedDuplicate : (name : List ℕ) → Refusal
+  -- round 64 would not be the last
+  TooManyRounds : Refusal
+
+-- the processor that a refusal names, if it names one
+abbrev pub processor_of : Refusal → Option (List ℕ)
+processor_of (UnbuiltTalk processor) = Some processor
+processor_of (TooManyQuestions processor most) = Some processor
+processor_of other = None
+
+-- what stands outside the host and counts its faults
+pub data Object : Type 0 where
+  Tree : Object
+  Sink : Object
+  -- the children, called for the processor of this name
+  Children : (processor : List ℕ) → Object
+
+-- why a call ended early
+pub data Stop : Type 0 where
+  Refused : (refusal : Refusal) → Stop
+  -- the object failed, and its count of faults rose
+  Failed : (object : Object) → Stop
+  Memory : Stop
+
+-- A refusal comes exactly where it is due. A fault outside and want of memory may come at any point.
+abbrev pub is_refusal : Stop → Bool
+is_refusal (Refused refusal) = true
+is_refusal (Failed object) = false
+is_refusal Memory = false
+
+abbrev pub is_failure : Stop → Bool
+is_failure (Refused refusal) = false
+is_failure (Failed object) = true
+is_failure Memory = false
+
+-- the processor that a stop names, if it names one
+abbrev pub named_by : Stop → Option (List ℕ)
+named_by (Refused refusal) = processor_of refusal
+named_by (Failed (Children processor)) = Some processor
+named_by other = None
+
+-- where a stop names a processor, it names this one
+abbrev pub Names : List ℕ → Stop → Type 0
+Names processor stop = IfSome (named_by stop) (λ name. name ≡ processor)
+
+-- this stop, or want of memory in its place
+abbrev pub OrMemory : Stop → Stop → Type 0
+OrMemory expected stop = (stop ≡ expected) ⊎ (stop ≡ Memory)
