@@ -15,11 +15,14 @@ import tempfile
 import time
 
 HERE = os.path.dirname(os.path.abspath(__file__))
+sys.path.insert(0, os.path.join(HERE, "..", "examples"))
+import frames
+
 PROGRAM = os.path.join(HERE, "..", "crates", "apt_cli", "out", "apt_cli")
 SMALL, LARGE, TURNS, GOAL = 100, 1000, 15, 12
 
 # A child that supports q.A, creates nothing and reads what it is sent: Hello, and Done for each of the two rounds.
-ANSWERS = bytes.fromhex("00000011" "4000000001" "00000003712e41" "0000000000" "000000024101" "000000024101")
+ANSWERS = frames.hello("q.A") + 2 * frames.done()
 CHILD = ["sh", "-c", "printf '" + "".join(f"\\{byte:03o}" for byte in ANSWERS) + "'; cat > /dev/null"]
 
 

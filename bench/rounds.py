@@ -20,25 +20,23 @@ import tempfile
 import time
 
 HERE = os.path.dirname(os.path.abspath(__file__))
+sys.path.insert(0, os.path.join(HERE, "..", "examples"))
+import frames
+
 PROGRAM = os.path.join(HERE, "..", "crates", "apt_cli", "out", "apt_cli")
 IN_MEMORY = "/dev/shm"
 TURNS, DISK_TURNS, GOAL = 15, 3, 12
 
-HELLO = bytes.fromhex("00000011" "4000000001" "00000003712e41" "0000000000")
-DONE = bytes.fromhex("00000002" "4101")
+HELLO, DONE = frames.hello("q.A"), frames.done()
 
 # A child that says all that it says, and reads what it is sent. What it does not read at first fits into a pipe.
 CHILD = ["sh", "-c", 'cat answers; exec cat > /dev/null']
 
 
-def field(content):
-    return len(content).to_bytes(4, "big") + content
-
-
 def source(number):
     """The creation of a source that gives a type with this number."""
-    content = f"package p; @q.A class D{number:05} {{}}\n".encode()
-    return field(b"\x42" + field(f"p.D{number:05}".encode()) + field(content) + bytes(4))
+    content = f"package p; @q.A class D{number:05} {{}}\n"
+    return frames.create_source(f"p.D{number:05}", content.encode())
 
 
 def in_one_round(count):

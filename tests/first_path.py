@@ -4,20 +4,23 @@
     tests/first_path.py [PROGRAM]
 
 PROGRAM is crates/apt_cli/out/apt_cli where it is left out. Each case prints a line. The first that fails ends the run
-with status 1. The last line is 'first path: N passed, M failed'.
+with status 1. The last line is 'first path: N passed, M failed'. The cases that look at the host's calls of the system
+are not run where there is no strace.
 """
 import os
 import shutil
 import subprocess
+import sys
 import time
 
 from host import (ACCEPTED, BAD_WORDS, CHILD_FAULT, CREATE, DONE, DONE_STATUS, EXISTS, FIRST_ROUND, HELLO, INIT,
                   LAST_ROUND, SECONDS, SINK_FAULT, SOURCE, TREE_FAULT, UNBUILT_FORM, UNBUILT_TALK, Cases, Failure,
-                  expect, former_stands, frame_of, processes_of, program, record_of, refused, text_of)
+                  NotRun, by_hand, expect, former_stands, frames, processes_of, program, record_of, refused, say,
+                  says)
 
 # The steps of a child that creates one file, and of one that creates nothing.
-CREATES = ["read", "say:" + HELLO, "read", "say:" + CREATE, "read", "say:" + DONE, "read", "say:" + DONE, "rest"]
-CREATES_NOTHING = ["read", "say:" + HELLO, "read", "say:" + DONE, "read", "say:" + DONE, "rest"]
+CREATES = ["read", say(HELLO), "read", say(CREATE), "read", say(DONE), "read", say(DONE), "rest"]
+CREATES_NOTHING = ["read", say(HELLO), "read", say(DONE), "read", say(DONE), "rest"]
 
 REPORT_OF_ONE_FILE = (
     b"mode: clean (Full), started 1\n"
@@ -46,7 +49,7 @@ def one_round_publishes_a_file(project):
 
 @case
 def hello_is_answered_by_done(project):
-    refused(project, project.scripted(["read", "say:" + DONE, "rest"]), UNBUILT_TALK, "UnbuiltTalk(maker)")
+    refused(project, project.scripted(["read", say(DONE), "rest"]), UNBUILT_TALK, "UnbuiltTalk(maker)")
 
 
 @case
@@ -143,22 +146,27 @@ def long_words(project):
 
 @case
 def a_program_that_is_not_there(project):
-    refused(project, ["build", "maker", "no-such-program"], CHILD_FAULT, "ChildFault(maker)")
+    not_started(project, "no-such-program", "No such file or directory (os error 2)")
 
 
 @case
 def a_path_that_is_not_there(project):
-    refused(project, ["build", "maker", "./no-such-program"], CHILD_FAULT, "ChildFault(maker)")
+    not_started(project, "./no-such-program", "No such file or directory (os error 2)")
 
 
 @case
 def a_file_that_is_no_program(project):
-    refused(project, ["build", "maker", "./src/p/C.java"], CHILD_FAULT, "ChildFault(maker)")
+    not_started(project, "./src/p/C.java", "Permission denied (os error 13)")
 
 
 @case
 def a_folder_as_a_program(project):
-    refused(project, ["build", "maker", "./src"], CHILD_FAULT, "ChildFault(maker)")
+    not_started(project, "./src", "Permission denied (os error 13)")
+
+
+def not_started(project, word, reason):
+    run = refused(project, ["build", "maker", word], CHILD_FAULT, "ChildFault(maker)")
+    says(run, f"cannot start {word}: {reason}")
 
 
 @case
@@ -170,7 +178,8 @@ def what_a_child_complains(project):
 
 @case
 def a_program_without_a_name(project):
-    refused(project, ["build", "maker", ""], CHILD_FAULT, "ChildFault(maker)")
+    run = refused(project, ["build", "maker", ""], CHILD_FAULT, "ChildFault(maker)")
+    says(run, 'cannot start "": No such file or directory (os error 2)')
 
 
 @case
@@ -208,24 +217,55 @@ def a_child_that_ends_at_once(project):
 
 @case
 def a_child_that_ends_after_init(project):
-    refused(project, project.scripted(["read"]), UNBUILT_TALK, "UnbuiltTalk(maker)")
+    run = refused(project, project.scripted(["read"]), UNBUILT_TALK, "UnbuiltTalk(maker)")
+    says(run)
+
+
+@case
+def a_child_that_ends_with_a_status(project):
+    run = ended_by(project, "exit 7")
+    says(run, "processor /bin/sh ended with status 7")
+
+
+@case
+def a_child_that_a_signal_ends(project):
+    run = ended_by(project, "kill -KILL $$")
+    says(run, "processor /bin/sh ended by signal 9")
+
+
+def ended_by(project, command):
+    """A build whose child does all that it should, and then this. Its output is published."""
+    shell = ["/bin/sh", "-c", '"$@"; ' + command, "sh"]
+    run = project.run(["build", "maker", *shell, *project.scripted(CREATES)[2:]])
+    expect("the output", run.output, REPORT_OF_ONE_FILE)
+    expect("the status", run.status, DONE_STATUS)
+    return run
+
+
+@case
+def a_child_that_ends_badly_where_the_build_is_refused(project):
+    # It ends with status 3 where its input ends before the frame that it waits for.
+    run = refused(project, project.scripted([say(DONE), "read", "read"]), UNBUILT_TALK, "UnbuiltTalk(maker)")
+    says(run, f"processor {sys.executable} ended with status 3")
 
 
 @case
 def a_child_that_ends_inside_a_frame(project):
-    refused(project, project.scripted(["read", "say:" + HELLO[:-2]]), UNBUILT_TALK, "UnbuiltTalk(maker)")
+    refused(project, project.scripted(["read", say(HELLO[:-1])]), UNBUILT_TALK, "UnbuiltTalk(maker)")
 
 
 @case
 def a_child_that_closes_its_input_before_the_last_round(project):
-    steps = CREATES[:5] + ["deaf", "say:" + DONE]
-    refused(project, project.scripted(steps), CHILD_FAULT, "ChildFault(maker)")
+    steps = CREATES[:5] + ["deaf", say(DONE)]
+    run = refused(project, project.scripted(steps), CHILD_FAULT, "ChildFault(maker)")
+    says(run, f"cannot send to {sys.executable}: Broken pipe (os error 32)")
 
 
 @case
 def a_child_that_closes_its_input(project):
-    steps = ["read", "deaf", "say:" + HELLO, "wait:0.1"]
-    refused(project, project.scripted(steps), CHILD_FAULT, "ChildFault(maker)")
+    steps = ["read", "deaf", say(HELLO), "wait:0.1"]
+    run = refused(project, project.scripted(steps), CHILD_FAULT, "ChildFault(maker)")
+    says(run, f"cannot send to {sys.executable}: Broken pipe (os error 32)")
 
 
 @case
@@ -244,7 +284,7 @@ def a_child_that_writes_a_megabyte_at_once(project):
 
 @case
 def a_child_that_writes_a_megabyte_in_a_round(project):
-    steps = ["read", "say:" + HELLO, "read", "flood:1048576", "rest"]
+    steps = ["read", say(HELLO), "read", "flood:1048576", "rest"]
     refused(project, project.scripted(steps), UNBUILT_TALK, "UnbuiltTalk(maker)")
 
 
@@ -258,7 +298,7 @@ def a_child_that_writes_a_megabyte_at_the_end(project):
 
 @case
 def a_child_that_never_reads(project):
-    steps = ["say:" + HELLO + CREATE + DONE + DONE, "wait:1"]
+    steps = [say(HELLO + CREATE + DONE + DONE), "wait:1"]
     start = time.monotonic()
     run = project.run(project.scripted(steps))
     expect("the output", run.output, REPORT_OF_ONE_FILE)
@@ -271,20 +311,19 @@ def frames_longer_than_a_pipe_holds(project):
     shutil.rmtree(project.path("src"))
     for name in names:
         project.write(f"src/p/{name[2:]}.java", f"package p; @q.A class {name[2:]} {{}}\n".encode())
-    shown = "02000000010000" "0000000100000003712e41" "000003e8" + "".join(text_of(name) for name in names)
     content = bytes(range(256)) * 256
-    create = "4300" "00000000" + text_of("big") + "00010000" + content.hex() + "00000000"
-    steps = ["read", "say:" + HELLO, "read", f"make:{os.path.join(project.folder, 'frame')}", *CREATES[4:]]
-    project.write("frame", bytes.fromhex(frame_of(create)))
+    steps = ["read", say(HELLO), "read", f"make:{os.path.join(project.folder, 'frame')}", *CREATES[4:]]
+    project.write("frame", frames.create_resource("big", content))
     run = project.run(project.scripted(steps))
     expect("the output", run.output, REPORT_OF_ONE_FILE.replace(b"/x 2", b"/big 65536"))
-    expect("what the child was sent", project.sent(), INIT + frame_of(shown) + ACCEPTED + LAST_ROUND)
+    first = frames.round_frame(1, names, offered=["q.A"])
+    expect("what the child was sent", project.sent(), INIT + first + ACCEPTED + LAST_ROUND)
     expect("the published files", project.published(), {"CLASS_OUTPUT/big": content})
 
 
 @case
 def a_child_that_creates_a_file_twice(project):
-    run = project.run(project.scripted(CREATES[:5] + ["say:" + CREATE, "read"] + CREATES[5:]))
+    run = project.run(project.scripted(CREATES[:5] + [say(CREATE), "read"] + CREATES[5:]))
     expect("the output", run.output, REPORT_OF_ONE_FILE)
     expect("what the child was sent", project.sent(), INIT + FIRST_ROUND + ACCEPTED + EXISTS + LAST_ROUND)
     expect("the published files", project.published(), {"CLASS_OUTPUT/x": b"hi"})
@@ -292,7 +331,7 @@ def a_child_that_creates_a_file_twice(project):
 
 @case
 def a_done_with_one_byte_more(project):
-    steps = ["read", "say:" + HELLO, "read", "say:" "00000003" "410100", "rest"]
+    steps = ["read", say(HELLO), "read", say(by_hand("00000003 410100")), "rest"]
     refused(project, project.scripted(steps), UNBUILT_TALK, "UnbuiltTalk(maker)")
 
 
@@ -302,14 +341,18 @@ def a_done_with_one_byte_more(project):
 @case
 def out_is_a_file(project):
     project.write("out", b"")
-    refused_by_the_tree(project.run(project.scripted(CREATES)))
+    run = project.run(project.scripted(CREATES))
+    refused_by_the_tree(run)
+    says(run, "cannot list out/store: Not a directory (os error 20)")
     expect("the file", project.read("out"), b"")
 
 
 @case
 def the_store_is_a_file(project):
     project.write("out/store", b"")
-    refused_by_the_tree(project.run(project.scripted(CREATES)))
+    run = project.run(project.scripted(CREATES))
+    refused_by_the_tree(run)
+    says(run, "cannot list out/store: Not a directory (os error 20)")
     expect("the file", project.read("out/store"), b"")
 
 
@@ -328,7 +371,9 @@ def refused_by_the_tree(run):
 def a_link_where_a_store_file_goes(project):
     os.makedirs(project.path("out/store"))
     os.symlink(project.path("elsewhere"), project.path("out/store/0"))
-    refused_by_the_tree(project.run(project.scripted(CREATES)))
+    run = project.run(project.scripted(CREATES))
+    refused_by_the_tree(run)
+    says(run, "cannot write out/store/0: File exists (os error 17)")
     expect("whether the link was followed", os.path.exists(project.path("elsewhere")), False)
 
 
@@ -336,7 +381,9 @@ def a_link_where_a_store_file_goes(project):
 def a_file_that_came_where_a_store_file_goes(project):
     # The processor makes it, after the host has listed the store. What is there is never written over.
     makes = ["/bin/sh", "-c", 'mkdir -p out/store; printf early >out/store/0; exec "$@"', "sh"]
-    refused_by_the_tree(project.run(["build", "maker", *makes, *project.scripted(CREATES)[2:]]))
+    run = project.run(["build", "maker", *makes, *project.scripted(CREATES)[2:]])
+    refused_by_the_tree(run)
+    says(run, "cannot write out/store/0: File exists (os error 17)")
     expect("the file", project.read("out/store/0"), b"early")
     expect("the files below out", sorted(os.listdir(project.path("out"))), ["store"])
 
@@ -351,15 +398,63 @@ def the_record_is_a_folder(project):
         expect("the status", run.status, TREE_FAULT)
     else:
         refused_by_the_tree(run)
+    says(run, "cannot replace out/record: Is a directory (os error 21)")
     expect("the folder", os.listdir(project.path("out/record")), ["below"])
     expect("leftovers", set(os.listdir(project.path("out"))) - {"record", "store"}, set())
 
 
 @case
+def a_folder_where_the_record_is_first_written(project):
+    os.makedirs(project.path("out/\\unfinished"))
+    run = project.run(project.scripted(CREATES_NOTHING))
+    expect("the output", run.output, REPORT_OF_NO_FILE + b"refused: TreeFault\n")
+    expect("the status", run.status, TREE_FAULT)
+    says(run, "cannot replace out/record: out/\\\\unfinished: Is a directory (os error 21)")
+
+
+@case
 def a_name_of_a_source_that_is_no_text(project):
-    with open(os.path.join(os.fsencode(project.folder), b"src/p/\xff.java"), "wb") as file:
+    named(project, b"\xff.java", "\\xff.java")
+
+
+@case
+def a_name_of_a_source_that_is_no_text_in_part(project):
+    named(project, b"a \\\n\x1b\xc3\xb6\xe2\x82.java", "a \\\\\\n\\u{1b}\u00f6\\xe2\\x82.java")
+
+
+def named(project, name, shown):
+    """A source with a name that is no text is not listed, and its name is shown so."""
+    with open(os.path.join(os.fsencode(project.folder), b"src/p", name), "wb") as file:
         file.write(SOURCE)
-    refused(project, project.scripted(CREATES), TREE_FAULT, "TreeFault")
+    run = refused(project, project.scripted(CREATES), TREE_FAULT, "TreeFault")
+    says(run, f"cannot list src: src/p/{shown}: its name is not UTF-8")
+
+
+@case
+def a_source_that_cannot_be_read(project):
+    os.symlink("/proc/self/mem", project.path("src/p/D.java"))
+    run = refused(project, ["build"], TREE_FAULT, "TreeFault")
+    says(run, "cannot read src/p/D.java: Input/output error (os error 5)")
+
+
+@case
+def a_folder_that_is_no_folder(project):
+    shutil.rmtree(project.path("src"))
+    project.write("src", SOURCE)
+    run = refused(project, ["build"], TREE_FAULT, "TreeFault")
+    says(run, "cannot list src: Not a directory (os error 20)")
+
+
+@case
+def messages_that_cannot_be_written(project):
+    project.write("out", b"")
+    with open("/dev/full", "wb") as full:
+        refused_by_the_tree(project.run(["build"], stderr=full))
+    reader, writer = os.pipe()
+    os.close(reader)
+    refused_by_the_tree(project.run(["build"], stderr=writer))
+    os.close(writer)
+    refused_by_the_tree(project.run(["build"], before=["/bin/sh", "-c", 'exec "$@" 2>&-', "sh"]))
 
 
 @case
@@ -400,9 +495,38 @@ def links_below_the_sources(project):
     os.symlink("nowhere", project.path("src/p/Gone.java"))
     run = project.run(project.scripted(CREATES))
     expect("the output", run.output, REPORT_OF_ONE_FILE)
-    names = "00000002" "00000003702e43" "00000003702e44"
-    shown = "00000024" "02000000010000" "0000000100000003712e41" + names
-    expect("what the child was sent", project.sent(), INIT + shown + ACCEPTED + LAST_ROUND)
+    first = frames.round_frame(1, ["p.C", "p.D"], offered=["q.A"])
+    expect("what the child was sent", project.sent(), INIT + first + ACCEPTED + LAST_ROUND)
+
+
+@case
+def links_in_a_circle(project):
+    os.symlink("D.java", project.path("src/p/D.java"))
+    os.symlink("F.java", project.path("src/p/E.java"))
+    os.symlink("E.java", project.path("src/p/F.java"))
+    run = project.run(project.scripted(CREATES))
+    expect("the output", run.output, REPORT_OF_ONE_FILE)
+    expect("the status", run.status, DONE_STATUS)
+    says(run)
+    expect("what the child was sent", project.sent(), INIT + FIRST_ROUND + ACCEPTED + LAST_ROUND)
+
+
+@case
+def sources_in_a_circle(project):
+    shutil.rmtree(project.path("src"))
+    os.symlink("src", project.path("src"))
+    run = project.run(["build"])
+    expect("the output", run.output, REPORT_WITHOUT_PROCESSOR)
+    expect("the status", run.status, DONE_STATUS)
+    says(run)
+
+
+@case
+def an_output_in_a_circle(project):
+    os.symlink("out", project.path("out"))
+    run = project.run(project.scripted(CREATES))
+    refused_by_the_tree(run)
+    says(run, "cannot write out/store/0: out/store: Too many levels of symbolic links (os error 40)")
 
 
 @case
@@ -420,6 +544,7 @@ def a_closed_output(project):
     project.publish_former()
     run = project.run(project.scripted(CREATES), before=["/bin/sh", "-c", 'exec "$@" >&-', "sh"])
     expect("the status", run.status, SINK_FAULT)
+    says(run, *2 * ["cannot write the standard output: Bad file descriptor (os error 9)"])
     former_stands(project)
 
 
@@ -449,6 +574,8 @@ def a_full_output(project):
     with open("/dev/full", "wb") as full:
         run = project.run(project.scripted(CREATES), stdout=full)
     expect("the status", run.status, SINK_FAULT)
+    # Neither the report nor the line of the refusal.
+    says(run, *2 * ["cannot write the standard output: No space left on device (os error 28)"])
     former_stands(project)
 
 
@@ -460,7 +587,92 @@ def an_output_that_nobody_reads(project):
     run = project.run(project.scripted(CREATES), stdout=writer)
     os.close(writer)
     expect("the status", run.status, SINK_FAULT)
+    says(run, *2 * ["cannot write the standard output: Broken pipe (os error 32)"])
     former_stands(project)
+
+
+# When the files of a build are stored, as far as the host's calls show it.
+
+
+def traced(project, words, *how):
+    """Runs the program, and gives how the run ended, and what it had stored and renamed, in order, by path."""
+    if not shutil.which("strace"):
+        raise NotRun("there is no strace")
+    trace = project.path("trace")
+    calls = "fsync,rename,renameat,renameat2"
+    run = project.run(words, before=["strace", "-qq", "-y", "-o", trace, "-e", "trace=" + calls, *how])
+    if not os.path.exists(trace) or not os.path.getsize(trace):
+        raise NotRun("strace traces nothing")
+    with open(trace, encoding="utf-8") as file:
+        return run, [shown_call(project, line) for line in file if "(" in line]
+
+
+def shown_call(project, line):
+    """A file or folder that is stored, by its path in the project, or the path that something is renamed to."""
+    if line.startswith("fsync("):
+        path = line.partition("<")[2].partition(">")[0]
+        return os.path.relpath(path.replace("\\\\", "\\"), os.path.realpath(project.folder))
+    return "renamed to " + line.split('"')[3]
+
+
+STORED_AND_REPLACED = ["out/\\unfinished", "out", "out/store", "renamed to out/record", "out"]
+
+
+@case
+def store_files_are_stored_before_the_record(project):
+    creates = CREATES[:5] + [say(frames.create_resource("y", b"ho")), "read"] + CREATES[5:]
+    run, calls = traced(project, project.scripted(creates))
+    expect("the status", run.status, DONE_STATUS)
+    expect("what was stored", calls, ["out/store/0", "out/store/1", *STORED_AND_REPLACED])
+
+
+@case
+def a_record_of_no_files(project):
+    run, calls = traced(project, ["build"])
+    expect("the status", run.status, DONE_STATUS)
+    expect("what was stored", calls, ["out/\\unfinished", "renamed to out/record", "out"])
+
+
+@case
+def a_store_file_that_cannot_be_stored(project):
+    project.publish_former()
+    run, calls = traced(project, project.scripted(CREATES), "-e", "inject=fsync:error=EIO:when=1")
+    refused_by_the_tree(run)
+    says(run, "cannot write out/store/1: Input/output error (os error 5)")
+    expect("what was stored", calls, ["out/store/1"])
+    expect("the files of the store", os.listdir(project.path("out/store")), ["0"])
+    former_stands(project)
+
+
+@case
+def a_store_that_cannot_be_stored(project):
+    project.publish_former()
+    run, calls = traced(project, project.scripted(CREATES), "-e", "inject=fsync:error=EIO:when=4")
+    expect("the output", run.output, REPORT_OF_ONE_FILE + b"refused: TreeFault\n")
+    expect("the status", run.status, TREE_FAULT)
+    says(run, "cannot replace out/record: out/store: Input/output error (os error 5)")
+    expect("what was stored", calls, ["out/store/1", "out/\\unfinished", "out", "out/store"])
+    expect("the files below out", sorted(os.listdir(project.path("out"))), ["record", "store"])
+    former_stands(project)
+
+
+@case
+def a_system_that_stores_no_folders(project):
+    run, calls = traced(project, project.scripted(CREATES), "-e", "inject=fsync:error=EINVAL:when=3+")
+    expect("the output", run.output, REPORT_OF_ONE_FILE)
+    expect("the status", run.status, DONE_STATUS)
+    says(run)
+    expect("what was stored", calls, ["out/store/0", *STORED_AND_REPLACED])
+    expect("the published files", project.published(), {"CLASS_OUTPUT/x": b"hi"})
+
+
+@case
+def a_folder_that_cannot_be_stored_after_the_record(project):
+    run, calls = traced(project, project.scripted(CREATES), "-e", "inject=fsync:error=EIO:when=5")
+    expect("the output", run.output, REPORT_OF_ONE_FILE)
+    expect("the status", run.status, DONE_STATUS)
+    says(run)
+    expect("what was stored", calls, ["out/store/0", *STORED_AND_REPLACED])
 
 
 # A stop of the machine, as far as a killed host shows it.
@@ -469,7 +681,7 @@ def an_output_that_nobody_reads(project):
 @case
 def a_host_that_is_killed(project):
     project.publish_former()
-    command = [program(), *project.scripted(["read", "say:" + HELLO, "read", "rest"])]
+    command = [program(), *project.scripted(["read", say(HELLO), "read", "rest"])]
     host = subprocess.Popen(command, cwd=project.folder, stdin=subprocess.DEVNULL, stdout=subprocess.DEVNULL,
                             stderr=subprocess.DEVNULL, start_new_session=True)
     wanted = len(INIT + FIRST_ROUND) // 2

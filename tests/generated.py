@@ -10,16 +10,17 @@ import os
 
 from host import (ACCEPTED, BAD_NAME, CREATE, DONE, DONE_STATUS, ERRORS, EXISTS, FIRST_ROUND, GENERATED_DUPLICATE,
                   HELLO, HERE, INIT, LAST_ROUND, NOTED, TOO_LARGE, TOO_MANY_QUESTIONS, TOO_MANY_ROUNDS, UNBUILT_FORM,
-                  UNBUILT_TALK, UNSUPPORTED, Cases, Failure, bytes_of, expect, former_stands, frame_of, number_of,
-                  record_of, refused, text_of, texts_of)
+                  UNBUILT_TALK, UNSUPPORTED, Cases, Failure, by_hand, expect, former_stands, frames as spelling,
+                  record_of, refused, say)
 
 case = Cases("generated")
 
-ERROR, WARNING, MANDATORY_WARNING, NOTE, OTHER = range(5)
-CLASS_OUTPUT, SOURCE_OUTPUT, NATIVE_HEADER_OUTPUT = range(3)
+ERROR, WARNING, NOTE, OTHER = spelling.ERROR, spelling.WARNING, spelling.NOTE, spelling.OTHER
+MANDATORY_WARNING = spelling.MANDATORY_WARNING
+SOURCE_OUTPUT, NATIVE_HEADER_OUTPUT = spelling.SOURCE_OUTPUT, spelling.NATIVE_HEADER_OUTPUT
 
-NO_ORIGINS = number_of(0)
-ONE_ORIGIN = number_of(1) + text_of("p.C") + number_of(0)
+NO_ORIGINS = spelling.NO_ORIGINS
+ONE_ORIGIN = spelling.number_field(1) + spelling.text_field("p.C") + spelling.number_field(0)
 
 # The most bytes of one content, and of all contents and paths together.
 LONGEST, ALL = 8_388_608, 67_108_864
@@ -35,29 +36,27 @@ def source_of(name):
 
 
 def create_source(name, content=None, origins=NO_ORIGINS):
-    return frame_of("42" + text_of(name) + bytes_of(source_of(name) if content is None else content) + origins)
+    return spelling.create_source(name, source_of(name) if content is None else content, origins)
 
 
-def create_resource(relative, content=b"hi", package="", location=CLASS_OUTPUT, origins=NO_ORIGINS):
-    fields = f"{location:02x}" + text_of(package) + text_of(relative) + bytes_of(content)
-    return frame_of("43" + fields + origins)
+def create_resource(relative, content=b"hi", **place):
+    return spelling.create_resource(relative, content, **place)
 
 
-def create_class(name, content=b"", origins=NO_ORIGINS):
-    return frame_of("44" + text_of(name) + bytes_of(content) + origins)
+def create_class(name, content=b"", **origins):
+    return spelling.create_class(name, content, **origins)
 
 
-def message(kind, text, element="00"):
-    return frame_of("45" + f"{kind:02x}" + element + text_of(text))
+def message(kind, text, **element):
+    return spelling.message(kind, text, **element)
 
 
-def round_frame(number, roots, over=False, error=False, offered=("q.A",)):
-    flags = f"{over:02x}{error:02x}"
-    return frame_of("02" + number_of(number) + flags + texts_of(offered) + texts_of(roots))
+def round_frame(number, roots, offered=("q.A",)):
+    return spelling.round_frame(number, roots, offered)
 
 
 def last_round(number, error=False):
-    return round_frame(number, (), over=True, error=error, offered=())
+    return spelling.round_frame(number, [], over=True, error=error)
 
 
 def talk(*rounds):
@@ -65,18 +64,18 @@ def talk(*rounds):
 
     A list among the frames is steps that stand as they are.
     """
-    steps = ["read", "say:" + HELLO]
+    steps = ["read", say(HELLO)]
     for frames in rounds:
         steps.append("read")
         for frame in frames:
-            steps += frame if isinstance(frame, list) else ["say:" + frame, "read"]
-        steps.append("say:" + DONE)
+            steps += frame if isinstance(frame, list) else [say(frame), "read"]
+        steps.append(say(DONE))
     return steps + ["rest"]
 
 
 def from_file(project, name, *frames):
     """Steps that send frames too long for words, and wait for their replies."""
-    project.write(name, bytes.fromhex("".join(frames)))
+    project.write(name, b"".join(frames))
     return ["make:" + project.path(name), *["read"] * len(frames)]
 
 
@@ -107,7 +106,7 @@ def publishes(project, rounds, wanted, files, sent=None):
     expect("the status", run.status, DONE_STATUS)
     expect("the published files", project.published(), files)
     if sent is not None:
-        expect("what the child was sent", project.sent(), INIT + "".join(sent))
+        expect("what the child was sent", project.sent(), INIT + b"".join(sent))
 
 
 def errs(project, rounds, wanted, sent=None):
@@ -118,7 +117,7 @@ def errs(project, rounds, wanted, sent=None):
     expect("the status", run.status, ERRORS)
     nothing_changed(project)
     if sent is not None:
-        expect("what the child was sent", project.sent(), INIT + "".join(sent))
+        expect("what the child was sent", project.sent(), INIT + b"".join(sent))
 
 
 def nothing_changed(project):
@@ -136,34 +135,54 @@ def answers(project, frames, wanted):
     """The replies to the frames of round 1."""
     run = project.run(project.scripted(talk(frames, [])))
     expect("the status", run.status, DONE_STATUS)
-    expect("what the child was sent", project.sent(), INIT + FIRST_ROUND + "".join(wanted) + LAST_ROUND)
+    expect("what the child was sent", project.sent(), INIT + FIRST_ROUND + b"".join(wanted) + LAST_ROUND)
     return run
 
 
-# The frames as these cases write them, against the same written out by hand.
+# The frames that are spelled for these scripts, against the same written out by hand.
+
+WRITTEN_OUT = [
+    (INIT, "00000010 01 00000005 6d616b6572 000b 00000000"),
+    (FIRST_ROUND, "0000001d 02 00000001 00 00 00000001 00000003 712e41 00000001 00000003 702e43"),
+    (LAST_ROUND, "0000000f 02 00000002 01 00 00000000 00000000"),
+    (last_round(2, error=True), "0000000f 02 00000002 01 01 00000000 00000000"),
+    (round_frame(258, ["p.C", "p.D"], offered=[]),
+     "0000001d 02 00000102 00 00 00000000 00000002 00000003 702e43 00000003 702e44"),
+    (ACCEPTED, "00000002 17 00"),
+    (EXISTS, "00000002 17 01"),
+    (UNSUPPORTED, "00000002 17 02"),
+    (BAD_NAME, "00000002 17 03"),
+    (TOO_LARGE, "00000002 17 04"),
+    (NOTED, "00000001 18"),
+    (HELLO, "00000011 40 00000001 00000003 712e41 00000000 00"),
+    (DONE, "00000002 41 01"),
+    (create_source("p.D"),
+     "0000002a 42 00000003 702e44 0000001a 7061636b61676520703b2040712e4120636c6173732044207b7d 00000000"),
+    (CREATE, "00000015 43 00 00000000 00000001 78 00000002 6869 00000000"),
+    (create_resource("x", b"", package="p.q", location=NATIVE_HEADER_OUTPUT),
+     "00000016 43 02 00000003 702e71 00000001 78 00000000 00000000"),
+    (create_class("p.D"), "00000010 44 00000003 702e44 00000000 00000000"),
+    (create_class("D", b"x", origins=ONE_ORIGIN),
+     "0000001a 44 00000001 44 00000001 78 00000001 00000003 702e43 00000000"),
+    (message(ERROR, "bad"), "0000000a 45 00 00 00000003 626164"),
+    (message(OTHER, "\u00e4"), "00000009 45 04 00 00000002 c3a4"),
+]
 
 
 @case
 def frames_written_out(_project):
-    expect("a created source", create_source("p.D"),
-           "0000002a" "42" "00000003702e44"
-           "0000001a" "7061636b61676520703b2040712e4120636c6173732044207b7d" "00000000")
-    expect("a created resource", create_resource("x"), CREATE)
-    expect("a created class", create_class("p.D"), "00000010" "44" "00000003702e44" "00000000" "00000000")
-    expect("an error", message(ERROR, "bad"), "0000000a" "45" "00" "00" "00000003626164")
-    expect("the first round", round_frame(1, ["p.C"]), FIRST_ROUND)
-    expect("the last round", last_round(2), LAST_ROUND)
-    expect("a last round after an error", last_round(2, error=True), "0000000f" "02" "00000002" "01" "01" + "00" * 8)
+    for spelled, digits in WRITTEN_OUT:
+        expect("a frame", spelled.hex(), digits.replace(" ", ""))
 
 
 @case
 def the_exchange_of_the_document(project):
     with open(os.path.join(HERE, "..", "docs", "PROTOCOL.md"), encoding="utf-8") as file:
         exchange, wanted = file.read().split("```\n")[1::2]
-    frames = [(sender, "".join(digits)) for sender, _, *digits in map(str.split, exchange.splitlines())]
-    steps = ["read" if sender == "host" else "say:" + frame for sender, frame in frames]
+    frames = [(sender, by_hand("".join(digits))) for sender, _, *digits in map(str.split, exchange.splitlines())]
+    steps = ["read" if sender == "host" else say(frame) for sender, frame in frames]
     run = project.run(project.scripted([*steps, "rest"]))
-    expect("what the child was sent", project.sent(), "".join(frame for sender, frame in frames if sender == "host"))
+    expect("what the child was sent", project.sent(), b"".join(frame for sender, frame in frames if sender == "host"))
     expect("the output", run.output, wanted.encode())
     expect("the status", run.status, DONE_STATUS)
 
@@ -175,10 +194,10 @@ def the_exchange_of_the_document(project):
 def a_created_source_is_the_root_of_the_next_round(project):
     publishes(project, [[create_source("p.D")], [], []], ["file SOURCE_OUTPUT/p/D.java 26", done(3, 1)],
               {"SOURCE_OUTPUT/p/D.java": b"package p; @q.A class D {}"},
-              sent=["0000001d" "02" "00000001" "00" "00" "00000001" "00000003712e41" "00000001" "00000003702e43",
-                    "00000002" "17" "00",
-                    "0000001d" "02" "00000002" "00" "00" "00000001" "00000003712e41" "00000001" "00000003702e44",
-                    "0000000f" "02" "00000003" "01" "00" "00000000" "00000000"])
+              sent=[by_hand("0000001d 02 00000001 00 00 00000001 00000003 712e41 00000001 00000003 702e43"),
+                    by_hand("00000002 17 00"),
+                    by_hand("0000001d 02 00000002 00 00 00000001 00000003 712e41 00000001 00000003 702e44"),
+                    by_hand("0000000f 02 00000003 01 00 00000000 00000000")])
     expect("the record", project.read("out/record"),
            record_of({"SOURCE_OUTPUT/p/D.java": (0, b"package p; @q.A class D {}")}))
     expect("the files below out", sorted(os.listdir(project.path("out"))), ["record", "store"])
@@ -187,14 +206,14 @@ def a_created_source_is_the_root_of_the_next_round(project):
 @case
 def a_path_that_is_created_twice(project):
     publishes(project, [[CREATE, create_resource("x", b"other")], []], ["file CLASS_OUTPUT/x 2", done(2, 1)],
-              {"CLASS_OUTPUT/x": b"hi"}, sent=[FIRST_ROUND, ACCEPTED, "00000002" "1701", LAST_ROUND])
+              {"CLASS_OUTPUT/x": b"hi"}, sent=[FIRST_ROUND, ACCEPTED, by_hand("00000002 17 01"), LAST_ROUND])
 
 
 @case
 def an_error_ends_the_build(project):
-    errs(project, [["0000000a45000000000003626164"], []],
+    errs(project, [[by_hand("0000000a 45 00 00 00000003 626164")], []],
          ["error: [maker] bad", "errors: 2 rounds, 1 errors, 0 warnings"],
-         sent=[FIRST_ROUND, "00000001" "18", "0000000f" "02" "00000002" "01" "01" "00000000" "00000000"])
+         sent=[FIRST_ROUND, by_hand("00000001 18"), by_hand("0000000f 02 00000002 01 01 00000000 00000000")])
 
 
 @case
@@ -234,7 +253,7 @@ def sources_in_each_of_sixty_two_rounds(project):
 def sources_in_each_of_sixty_three_rounds(project):
     rounds, names = chain(63)
     refuses(project, rounds, TOO_MANY_ROUNDS, "TooManyRounds(64)")
-    sent = "".join(round_frame(number, [root]) + ACCEPTED for number, root in enumerate(["p.C", *names[:-1]], 1))
+    sent = b"".join(round_frame(number, [root]) + ACCEPTED for number, root in enumerate(["p.C", *names[:-1]], 1))
     expect("what the child was sent", project.sent(), INIT + sent)
 
 
@@ -263,7 +282,7 @@ def a_later_round_offers_what_its_roots_have(project):
     publishes(project, [[create_source("p.D", other)], [create_source("p.E")], [], []],
               ["file SOURCE_OUTPUT/p/D.java 26", "file SOURCE_OUTPUT/p/E.java 26", done(4, 2)],
               {"SOURCE_OUTPUT/p/D.java": other, "SOURCE_OUTPUT/p/E.java": source_of("p.E")},
-              sent=[FIRST_ROUND, ACCEPTED, "00000016" "02" "00000002" "00" "00" "00000000" "00000001" "00000003702e44",
+              sent=[FIRST_ROUND, ACCEPTED, by_hand("00000016 02 00000002 00 00 00000000 00000001 00000003 702e44"),
                     ACCEPTED, round_frame(3, ["p.E"]), last_round(4)])
 
 
@@ -453,7 +472,7 @@ def an_error_in_round_sixty_three(project):
 
 @case
 def an_error_before_a_refusal(project):
-    refuses(project, [[message(ERROR, "bad")], ["000000024100"]], UNBUILT_TALK, "UnbuiltTalk(maker)")
+    refuses(project, [[message(ERROR, "bad")], [by_hand("00000002 41 00")]], UNBUILT_TALK, "UnbuiltTalk(maker)")
 
 
 # The answers to creations.
@@ -579,11 +598,17 @@ def a_thousand_and_one_creations(project):
 
 # Frames that are none of these, or not in this order.
 
+NO_TEXT = spelling.bytes_field(b"\xff")
+NAME, NOTHING = spelling.text_field("p.D"), spelling.bytes_field(b"")
+
+# The kind and the element of a note.
+A_NOTE = bytes([NOTE]) + spelling.NO_ELEMENT
+
 NOT_IN_A_ROUND = {
-    "a Done that says false": "000000024100",
-    "a Done that says 2": "000000024102",
-    "a Done with one byte more": "00000003" "410100",
-    "a Done without its field": "0000000141",
+    "a Done that says false": spelling.done(claimed=False),
+    "a Done that says 2": by_hand("00000002 41 02"),
+    "a Done with one byte more": by_hand("00000003 41 01 00"),
+    "a Done without its field": by_hand("00000001 41"),
     "a second Hello": HELLO,
     "Init": INIT,
     "a round": FIRST_ROUND,
@@ -592,34 +617,34 @@ NOT_IN_A_ROUND = {
     "a source with an origin": create_source("p.D", origins=ONE_ORIGIN),
     "a resource with an origin": create_resource("x", origins=ONE_ORIGIN),
     "a class file with an origin": create_class("p.D", origins=ONE_ORIGIN),
-    "a message with an element": message(NOTE, "n", element="01" + text_of("p.C") + number_of(0)),
+    "a message with an element": message(NOTE, "n", element=by_hand("01 00000003 702e43 00000000")),
     "a message of kind 5": message(5, "n"),
-    "a message whose element is 2": message(NOTE, "n", element="02"),
-    "a message that is no text": frame_of("45" "0300" + bytes_of(b"\xff")),
-    "a message with one byte more": frame_of("45" "0300" + text_of("n") + "00"),
-    "a message that ends inside its text": frame_of("45" "0300" + number_of(2) + "6e"),
-    "a source whose name is no text": frame_of("42" + bytes_of(b"\xc3") + bytes_of(b"") + NO_ORIGINS),
-    "a source without origins": frame_of("42" + text_of("p.D") + bytes_of(b"")),
+    "a message whose element is 2": message(NOTE, "n", element=bytes([2])),
+    "a message that is no text": spelling.frame(spelling.MESSAGE, A_NOTE + NO_TEXT),
+    "a message with one byte more": spelling.frame(spelling.MESSAGE, A_NOTE + spelling.text_field("n") + b"\0"),
+    "a message that ends inside its text": spelling.frame(spelling.MESSAGE, A_NOTE + by_hand("00000002 6e")),
+    "a source whose name is no text": spelling.frame(spelling.CREATE_SOURCE, NO_TEXT + NOTHING + NO_ORIGINS),
+    "a source without origins": spelling.frame(spelling.CREATE_SOURCE, NAME + NOTHING),
     "a resource at location 3": create_resource("x", location=3),
-    "a class file with one byte more": frame_of("44" + text_of("p.D") + bytes_of(b"") + NO_ORIGINS + "00"),
-    "a question": "00000008" "50" "00000003" "782e59",
-    "a question for the roots": "00000001" "73",
-    "a tag of no frame": "00000001" "77",
-    "an empty frame": "00000000",
-    "a frame past the limit": "07fffffd" "45",
+    "a class file with one byte more": spelling.frame(spelling.CREATE_CLASS, NAME + NOTHING + NO_ORIGINS + b"\0"),
+    "a question": by_hand("00000008 50 00000003 782e59"),
+    "a question for the roots": by_hand("00000001 73"),
+    "a tag of no frame": by_hand("00000001 77"),
+    "an empty frame": by_hand("00000000"),
+    "a frame past the limit": by_hand("07fffffd 45"),
 }
 
 
 @case
 def what_is_no_talk_in_a_round(project):
     for what, frame in NOT_IN_A_ROUND.items():
-        in_round(what, project, [[CREATE, ["say:" + frame, "rest"]]])
+        in_round(what, project, [[CREATE, [say(frame), "rest"]]])
 
 
 @case
 def what_is_no_talk_in_a_further_round(project):
     for what in ["a Done that says false", "a source with an origin", "a question", "a second Hello"]:
-        steps = ["say:" + NOT_IN_A_ROUND[what], "rest"]
+        steps = [say(NOT_IN_A_ROUND[what]), "rest"]
         in_round(what + ", in round 2", project, [[create_source("p.D")], [steps]])
         in_round(what + ", in the last round", project, [[create_source("p.D")], [], [steps]])
 
@@ -634,14 +659,14 @@ def in_round(what, project, rounds):
 @case
 def a_frame_in_the_place_of_hello(project):
     for frame in [create_source("p.D"), CREATE, create_class("p.D"), message(NOTE, "n")]:
-        refused(project, project.scripted(["read", "say:" + frame, "rest"]), UNBUILT_TALK, "UnbuiltTalk(maker)")
+        refused(project, project.scripted(["read", say(frame), "rest"]), UNBUILT_TALK, "UnbuiltTalk(maker)")
 
 
 @case
 def a_child_that_ends_in_a_further_round(project):
     steps = talk([create_source("p.D")])[:-1]
     refused(project, project.scripted([*steps, "read"]), UNBUILT_TALK, "UnbuiltTalk(maker)")
-    refused(project, project.scripted([*steps, "read", "say:" + create_source("p.E")[:-2]]), UNBUILT_TALK,
+    refused(project, project.scripted([*steps, "read", say(create_source("p.E")[:-1])]), UNBUILT_TALK,
             "UnbuiltTalk(maker)")
 
 
@@ -649,7 +674,7 @@ def a_child_that_ends_in_a_further_round(project):
 
 
 def asked(count, frame):
-    return [f"ask:{count}:{frame}"]
+    return [f"ask:{count}:{frame.hex()}"]
 
 
 @case

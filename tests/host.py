@@ -1,4 +1,4 @@
-"""What the scripts of this folder share: the frames, a project in a fresh folder, and the run of their cases."""
+"""What the scripts of this folder share: frames by name, a project in a fresh folder, and the run of their cases."""
 import os
 import shutil
 import signal
@@ -7,6 +7,9 @@ import sys
 import tempfile
 
 HERE = os.path.dirname(os.path.abspath(__file__))
+sys.path.insert(0, os.path.join(HERE, "..", "examples"))
+import frames
+
 PROGRAM = os.path.join(HERE, "..", "crates", "apt_cli", "out", "apt_cli")
 CHILD = os.path.join(HERE, "scripted_child.py")
 SECONDS = 60
@@ -17,25 +20,25 @@ FORMER = {"CLASS_OUTPUT/former": (0, b"what stood before")}
 DONE_STATUS, ERRORS, BAD_WORDS, TREE_FAULT, SINK_FAULT, CHILD_FAULT = 0, 1, 2, 4, 5, 7
 TOO_MANY_QUESTIONS, GENERATED_DUPLICATE, TOO_MANY_ROUNDS, UNBUILT_FORM, UNBUILT_TALK = 11, 19, 20, 25, 26
 
-# What the host sends.
-INIT = "00000010" "0100000005" "6d616b6572" "000b" "00000000"
-FIRST_ROUND = "0000001d" "02000000010000" "0000000100000003" "712e41" "0000000100000003" "702e43"
-LAST_ROUND = "0000000f" "02000000020100" "0000000000000000"
-ACCEPTED = "00000002" "1700"
-EXISTS = "00000002" "1701"
-UNSUPPORTED = "00000002" "1702"
-BAD_NAME = "00000002" "1703"
-TOO_LARGE = "00000002" "1704"
-NOTED = "00000001" "18"
+# What the host sends in a build of the source above whose child creates no source.
+INIT = frames.init("maker")
+FIRST_ROUND = frames.round_frame(1, ["p.C"], offered=["q.A"])
+LAST_ROUND = frames.round_frame(2, [], over=True)
+ACCEPTED, EXISTS, UNSUPPORTED, BAD_NAME, TOO_LARGE = (frames.created(answer) for answer in range(5))
+NOTED = frames.noted()
 
 # What a child says.
-HELLO = "00000011" "4000000001" "00000003712e41" "0000000000"
-CREATE = "00000015" "4300" "00000000" "0000000178" "000000026869" "00000000"
-DONE = "00000002" "4101"
+HELLO = frames.hello("q.A")
+CREATE = frames.create_resource("x", b"hi")
+DONE = frames.done()
 
 
 class Failure(Exception):
     """What a case has shown to be wrong."""
+
+
+class NotRun(Exception):
+    """Why a case cannot be run here."""
 
 
 def expect(what, seen, wanted):
@@ -48,35 +51,22 @@ def shortened(value):
     return text if len(text) <= 2000 else f"{text[:1000]} .. {text[-1000:]} ({len(text)} characters)"
 
 
-# Frames and fields, in hexadecimal digits.
+def by_hand(digits):
+    """Bytes that are written out in hexadecimal digits."""
+    return bytes.fromhex(digits)
 
 
-def number_of(number):
-    return number.to_bytes(4, "big").hex()
-
-
-def bytes_of(content):
-    return number_of(len(content)) + content.hex()
-
-
-def text_of(text):
-    return bytes_of(text.encode())
-
-
-def texts_of(texts):
-    return number_of(len(texts)) + "".join(text_of(text) for text in texts)
-
-
-def frame_of(body):
-    return number_of(len(body) // 2) + body
+def say(frame):
+    """The step of a scripted child that says these bytes."""
+    return "say:" + frame.hex()
 
 
 def record_of(files):
     """The record of published files, by the number of each path's store file."""
-    text = "41505452" "0000" + number_of(len(files))
+    record = by_hand("41505452 0000") + frames.number_field(len(files))
     for path, (number, content) in sorted(files.items()):
-        text += text_of(path) + number_of(number) + number_of(len(content))
-    return bytes.fromhex(text)
+        record += frames.text_field(path) + frames.number_field(number) + frames.number_field(len(content))
+    return record
 
 
 def program():
@@ -118,19 +108,14 @@ class Project:
 
     def published(self):
         """The bytes of each published file, by its path."""
-        record = self.read("out/record")
-        expect("the first bytes of the record", record[:6].hex(), "415054520000")
-        count, at, files = int.from_bytes(record[6:10], "big"), 10, {}
-        for _ in range(count):
-            length = int.from_bytes(record[at:at + 4], "big")
-            path = record[at + 4:at + 4 + length].decode()
-            at += 4 + length
-            store, size = (int.from_bytes(record[at + k:at + k + 4], "big") for k in (0, 4))
-            at += 8
+        record, files = frames.Fields(self.read("out/record")), {}
+        expect("the first bytes of the record", record.take(6), by_hand("41505452 0000"))
+        for _ in range(record.number()):
+            path, store, size = record.text(), record.number(), record.number()
             content = self.read(f"out/store/{store}")
             expect(f"the length of {path}", len(content), size)
             files[path] = content
-        expect("the length of the record", len(record), at)
+        expect("the length of the record", len(record.data), record.at)
         return files
 
     def scripted(self, steps):
@@ -139,13 +124,13 @@ class Project:
 
     def sent(self):
         """All bytes that the scripted child read."""
-        return self.read("child-record").hex()
+        return self.read("child-record")
 
-    def run(self, words, stdout=subprocess.PIPE, before=(), environment=None):
+    def run(self, words, stdout=subprocess.PIPE, stderr=subprocess.PIPE, before=(), environment=None):
         """Runs the program, and sees that no child outlives it."""
         command = [*before, program(), *words]
         host = subprocess.Popen(command, cwd=self.folder, stdin=subprocess.DEVNULL, stdout=stdout,
-                                stderr=subprocess.PIPE, start_new_session=True, env=environment)
+                                stderr=stderr, start_new_session=True, env=environment)
         try:
             output, messages = host.communicate(timeout=SECONDS)
         except subprocess.TimeoutExpired:
@@ -185,12 +170,18 @@ def end_session(session):
 
 
 def refused(project, words, status, line, **how):
-    """A build that is refused prints this line alone, and the former output stands."""
+    """A build that is refused prints this line alone, and the former output stands. Gives how the run ended."""
     project.publish_former()
     run = project.run(words, **how)
     expect("the output", run.output, f"refused: {line}\n".encode())
     expect("the status", run.status, status)
     former_stands(project)
+    return run
+
+
+def says(run, *lines):
+    """The run wrote these lines to its standard error, and nothing else."""
+    expect("the messages", run.messages, "".join(f"apt_cli: {line}\n" for line in lines).encode())
 
 
 def former_stands(project):
@@ -215,15 +206,21 @@ class Cases:
             PROGRAM = sys.argv[1]
         if not os.path.exists(PROGRAM):
             sys.exit(f"there is no program {PROGRAM}: build it by 'rt run' in crates/apt_cli")
-        for passed, function in enumerate(self.functions):
+        passed, left_out = 0, 0
+        for function in self.functions:
             project = Project()
             try:
                 function(project)
+                passed += 1
+                print(f"{function.__name__}: ok", flush=True)
+            except NotRun as reason:
+                left_out += 1
+                print(f"{function.__name__}: not run: {reason}", flush=True)
             except (Failure, OSError) as failure:
                 print(f"{function.__name__}: FAILED: {failure}")
                 print(f"{self.title}: {passed} passed, 1 failed")
                 sys.exit(1)
             finally:
                 project.remove()
-            print(f"{function.__name__}: ok", flush=True)
-        print(f"{self.title}: {len(self.functions)} passed, 0 failed")
+        more = f", {left_out} not run" if left_out else ""
+        print(f"{self.title}: {passed} passed, 0 failed{more}")

@@ -1,14 +1,15 @@
 //! The program: it gives `run` the files of the current folder, child programs over pipes, and the standard input and output.
 //!
 //! Here stands all of the host that touches the system. The objects keep the counts of their failures and the lists of
-//! their children, which is proved; what a file, a pipe or a stream gives or takes is not told by any contract, and is
-//! tested by the program in `tests/`.
+//! their children, which is proved; what a file, a pipe or a stream gives or takes is not told by any contract, nor what
+//! is said of failures on the standard error. That is tested by the programs in `tests/`.
 #![tactic(auto)]
 
 mod disk_tree;
 mod faults;
 mod files;
 mod folders;
+mod messages;
 mod pipe_children;
 mod standard;
 mod words;
@@ -19,20 +20,22 @@ use disk_tree::DiskTree;
 use pipe_children::PipeChildren;
 use standard::{StdinSource, StdoutSink, fill_closed_streams};
 use std::alloc::Global;
+use std::io::Stderr;
 use std::process::{ExitCode, Processes};
 use std::rt::Files;
 use words::{Words, read_words};
 
 /// Does what the words say in the current folder.
-fn call<R: Files + AllocGlobal + Clone + Drop + Input + Processes, W: Sink>(
+fn call<R: Files + AllocGlobal + Input + Processes, W: Sink>(
     alloc: Global,
     rt: &R,
+    messages: Stderr,
     words: &[String],
     output: &mut W,
 ) -> Status {
-    let mut tree = DiskTree::new(rt);
-    let mut children = PipeChildren::new(alloc, rt);
-    let mut input = StdinSource::new(rt.reader());
+    let mut tree = DiskTree::new(rt, messages);
+    let mut children = PipeChildren::new(alloc, rt, messages);
+    let mut input = StdinSource::new(rt.reader(), messages);
     run(alloc, words, &mut tree, &mut children, &mut input, output)
 }
 
@@ -45,9 +48,9 @@ fn refuse_memory<W: Sink>(output: &mut W) -> Status {
 fn main(rt: HostRuntime) -> ExitCode {
     let alloc = rt.alloc();
     let _closed = fill_closed_streams(&rt);
-    let mut output = StdoutSink::new(rt.stdout());
+    let mut output = StdoutSink::new(rt.stdout(), rt.stderr());
     let status = match read_words(alloc, &rt) {
-        Ok(Words::Whole(words)) => call(alloc, &rt, &words, &mut output),
+        Ok(Words::Whole(words)) => call(alloc, &rt, rt.stderr(), &words, &mut output),
         Ok(Words::Cut(words)) => refuse_cut_words(alloc, &words, &mut output),
         Err(_) => refuse_memory(&mut output),
     };

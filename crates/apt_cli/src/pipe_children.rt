@@ -3,35 +3,44 @@ ghost use Rattle.std.specs.Prelude.{◌≡◌, ◌<◌, ◌≤◌, ◌^◌, ◌-
 ghost use Rattle.std.specs.List.{position};
 
 use crate::faults::Faults;
+use crate::messages::{Attempt, Failure, say_end};
 use crate::standard::{read_some, write_out};
 use apt_outside::{Children, Fault};
 use std::alloc::Global;
 use std::io;
-use std::io::{Error, ErrorKind};
+use std::io::{Error, ErrorKind, Stderr};
 use std::process::{Child, Command, OpenProcess, Processes, Stdio};
 
-/// A program that runs, with this end of its pipes. Where it is let go, its pipes are closed and its end is waited for.
+/// A program that runs, with this end of its pipes. Where it is let go, its pipes are closed, and its end is waited for
+/// and said, unless it ends with status 0.
 pub struct Running<P: OpenProcess + Drop> {
     /// The child's number.
     pub number: u32,
+    /// The word that the program was started by.
+    pub name: String,
     /// What the program reads.
     pub input: P::Stdin,
     /// What the program writes.
     pub output: P::Stdout,
     pub program: Child<P>,
+    pub messages: Stderr,
 }
 
 impl<P: OpenProcess + Drop> Drop for Running<P> {
     fn drop(self) {
         let Running {
             number: _,
+            name,
             input,
             output,
             mut program,
+            messages,
         } = self;
         drop(input);
         drop(output);
-        let _ = program.wait();
+        if let Ok(status) = program.wait() {
+            say_end(messages, name.as_str(), status);
+        }
     }
 }
 
@@ -54,6 +63,7 @@ impl<P: OpenProcess + Drop> Running<P> {
 fn start_program<R: Processes>(
     alloc: Global,
     processes: &R,
+    messages: Stderr,
     number: u32,
     command: &[String],
 ) -> io::Result<Running<R::Started>>
@@ -66,6 +76,7 @@ fn start_program<R: Processes>(
     let Some((program, arguments)) = command.split_first() else {
         return Err(Error::new(ErrorKind::InvalidInput, "a command without words"));
     };
+    let name = String::from_str(alloc, program.as_str())?;
     let mut call = Command::new(alloc, program.as_str())?;
     for argument in arguments {
         call.arg(argument.as_str())?;
@@ -77,14 +88,24 @@ fn start_program<R: Processes>(
     match (program.stdin.take(), program.stdout.take()) {
         (Some(input), Some(output)) => Ok(Running {
             number,
+            name,
             input,
             output,
             program,
+            messages,
         }),
         _ => {
             program.wait()?;
             Err(Error::new(ErrorKind::BrokenPipe, "a program without pipes"))
         }
+    }
+}
+
+/// The word that a program is started by; empty where there is none.
+fn first_word(command: &[String]) -> &str {
+    match command.first() {
+        Some(word) => word.as_str(),
+        None => "",
     }
 }
 
@@ -107,7 +128,7 @@ pub struct PipeChildren<R: Processes> {
 
 impl<R: Processes + Drop> PipeChildren<R> {
     /// None was started yet.
-    pub fn new(alloc: Global, processes: R) -> Self
+    pub fn new(alloc: Global, processes: R, messages: Stderr) -> Self
         ensures starts { result.starts ≡ 0 }
         ensures live { result.running.items ≡ [] }
         ensures faults { result.faults.count ≡ 0 }
@@ -117,7 +138,7 @@ impl<R: Processes + Drop> PipeChildren<R> {
             processes,
             running: Vec::new(alloc),
             starts: 0,
-            faults: Faults::new(),
+            faults: Faults::new(messages),
         }
     }
 
@@ -152,8 +173,10 @@ impl<R: Processes + Drop> Children for PipeChildren<R> {
 
     fn start(&mut self, _name: &str, command: &[String]) -> Result<u32, Fault> {
         let number = self.starts;
-        let started = start_program(self.alloc, &self.processes, number, command);
-        let running = self.faults.count_failure(started)?;
+        let messages = self.faults.messages;
+        let started = start_program(self.alloc, &self.processes, messages, number, command);
+        let attempt = Attempt::new("start", first_word(command));
+        let running = self.faults.count_failure(attempt, Failure::of(started))?;
         self.running.push(running)?;
         self.starts = number + 1;
         Ok(number)
@@ -162,13 +185,15 @@ impl<R: Processes + Drop> Children for PipeChildren<R> {
     fn send(&mut self, child: u32, frame: &[u8]) -> Result<(), Fault> {
         let place = self.place_of(child);
         let sent = self.running[place].send(frame);
-        self.faults.count_failure(sent)
+        let attempt = Attempt::new("send to", self.running[place].name.as_str());
+        self.faults.count_failure(attempt, Failure::of(sent))
     }
 
     fn receive(&mut self, child: u32, room: &mut [u8]) -> Result<usize, Fault> {
         let place = self.place_of(child);
         let received = self.running[place].receive(room);
-        self.faults.count_failure(received)
+        let attempt = Attempt::new("receive from", self.running[place].name.as_str());
+        self.faults.count_failure(attempt, Failure::of(received))
     }
 
     fn stop(&mut self, child: u32) {

@@ -2,10 +2,11 @@
 ghost use Rattle.std.specs.Prelude.{◌≡◌, ◌≤◌, ◌^◌, ◌-◌, false, [], length, IfOk};
 
 use crate::faults::Faults;
+use crate::messages::{Attempt, Failure};
 use apt_outside::{Fault, Sink, Source};
 use std::fs::{File, OpenOptions};
 use std::io;
-use std::io::{Error, ErrorKind, Read, Write};
+use std::io::{Error, ErrorKind, Read, Stderr, Write};
 use std::os::fd::AsRawFd;
 use std::rt::Files;
 
@@ -34,14 +35,14 @@ pub struct StdinSource<I: Read + Drop> {
 
 impl<I: Read + Drop> StdinSource<I> {
     /// Over what reads the standard input.
-    pub fn new(input: I) -> Self
+    pub fn new(input: I, messages: Stderr) -> Self
         ensures supply { result.supply ≡ 2 ^ 64 - 1 }
         ensures faults { result.faults.count ≡ 0 }
     {
         StdinSource {
             input,
             supply: u64::MAX,
-            faults: Faults::new(),
+            faults: Faults::new(messages),
         }
     }
 }
@@ -58,7 +59,8 @@ impl<I: Read + Drop> Source for StdinSource<I> {
     fn read(&mut self, room: &mut [u8]) -> Result<usize, Fault> {
         let most = room.len().min(self.supply as usize);
         let outcome = read_some(&mut self.input, &mut room[..most]);
-        let count = self.faults.count_failure(outcome)?;
+        let attempt = Attempt::new("read", "the standard input");
+        let count = self.faults.count_failure(attempt, Failure::of(outcome))?;
         self.supply -= count as u64;
         Ok(count)
     }
@@ -73,12 +75,12 @@ pub struct StdoutSink<O: Write + Drop> {
 
 impl<O: Write + Drop> StdoutSink<O> {
     /// Over what writes to the standard output.
-    pub fn new(output: O) -> Self
+    pub fn new(output: O, messages: Stderr) -> Self
         ensures { result.faults.count ≡ 0 }
     {
         StdoutSink {
             output,
-            faults: Faults::new(),
+            faults: Faults::new(messages),
         }
     }
 }
@@ -92,7 +94,8 @@ impl<O: Write + Drop> Sink for StdoutSink<O> {
 
     fn write_all(&mut self, bytes: &[u8]) -> Result<(), Fault> {
         let written = write_out(&mut self.output, bytes);
-        self.faults.count_failure(written)
+        let attempt = Attempt::new("write", "the standard output");
+        self.faults.count_failure(attempt, Failure::of(written))
     }
 }
 

@@ -1,0 +1,141 @@
+// What the program says on the standard error of calls that failed and of processors that ended.
+ghost use Rattle.std.specs.Prelude.{◌≡◌};
+ghost use Rattle.std.specs.IoError.{error_kind};
+ghost use Rattle.apt_cli.specs.Failures.{IsFailureOf};
+
+use std::alloc::{AllocError, AllocFailed, Global};
+use std::fmt::{Display, Formatter};
+use std::io::{Error, ErrorKind, Stderr};
+use std::os::unix::process::ExitStatusExt;
+use std::process::ExitStatus;
+use std::{fmt, io};
+
+/// What was tried, as it is said: a verb, and the path, program or stream that it was tried with.
+#[derive(Clone, Copy)]
+pub struct Attempt<'a> {
+    pub verb: &'a str,
+    pub object: &'a str,
+}
+
+/// Why a call failed.
+#[derive(Drop)]
+pub struct Failure {
+    /// The path at which it failed, where that may be another than the one that it was tried with.
+    pub place: Option<Vec<u8>>,
+    pub error: Error,
+}
+
+impl<'a> Attempt<'a> {
+    pub fn new(verb: &'a str, object: &'a str) -> Self {
+        Attempt { verb, object }
+    }
+}
+
+impl Failure {
+    /// What the system answered; a failure is where it was tried.
+    pub fn of<T>(outcome: io::Result<T>) -> Result<T, Failure>
+        ensures { IsFailureOf outcome result }
+    {
+        match outcome {
+            Ok(value) => Ok(value),
+            Err(error) => Err(Failure::from(error)),
+        }
+    }
+
+    /// A failure at this path. The path is left out where there is no memory for it.
+    pub fn at(alloc: Global, place: &[u8], error: Error) -> Self
+        ensures { result.error ≡ error }
+    {
+        Failure {
+            place: place.to_vec(alloc).ok(),
+            error,
+        }
+    }
+
+    pub fn kind(&self) -> ErrorKind
+        ensures { result ≡ error_kind self.now.error }
+    {
+        self.error.kind()
+    }
+}
+
+impl From<Error> for Failure {
+    ghost from_gives = { λ error failure. failure.error ≡ error };
+
+    fn from(error: Error) -> Self {
+        Failure { place: None, error }
+    }
+}
+
+impl From<AllocError> for Failure {
+    fn from(error: AllocError) -> Self {
+        Failure::from(Error::from(error))
+    }
+}
+
+impl<T: Drop> From<AllocFailed<T>> for Failure {
+    fn from(error: AllocFailed<T>) -> Self {
+        Failure::from(Error::from(error))
+    }
+}
+
+/// Bytes as a part of a line: text as it is, but for control characters and backslashes, which are escaped, as are
+/// bytes that are no UTF-8 text. No bytes are shown as two quotation marks.
+#[derive(Drop)]
+struct Shown<'a>(&'a [u8]);
+
+impl<'a> Display for Shown<'a> {
+    fn fmt<W: fmt::Write>(&self, f: &mut Formatter<W>) -> fmt::Result {
+        if self.0.is_empty() {
+            return f.write_str("\"\"");
+        }
+        for chunk in self.0.utf8_chunks() {
+            show_text(chunk.valid(), f)?;
+            for byte in chunk.invalid() {
+                write!(f, "\\x{byte:02x}")?;
+            }
+        }
+        Ok(())
+    }
+}
+
+fn show_text<W: fmt::Write>(text: &str, f: &mut Formatter<W>) -> fmt::Result {
+    for character in text.chars() {
+        if character.is_control() || character == '\\' {
+            let escaped = character.escape_default();
+            write!(f, "{escaped}")?;
+        } else {
+            f.write_char(character)?;
+        }
+    }
+    Ok(())
+}
+
+/// Says what failed, at which path, where that is another than the one that it was tried with, and why. Where the
+/// line can't be written nothing is said.
+pub fn say_failure(messages: Stderr, attempt: Attempt<'_>, failure: &Failure) {
+    let verb = attempt.verb;
+    let object = Shown(attempt.object.as_bytes());
+    let error = failure.error;
+    let _ = match &failure.place {
+        Some(place) if place.as_slice() != attempt.object.as_bytes() => {
+            let place = Shown(place.as_slice());
+            eprintln!(messages; "apt_cli: cannot {verb} {object}: {place}: {error}")
+        }
+        _ => eprintln!(messages; "apt_cli: cannot {verb} {object}: {error}"),
+    };
+}
+
+/// Says how a processor ended, unless with status 0. Where the line can't be written nothing is said.
+pub fn say_end(messages: Stderr, program: &str, status: ExitStatus) {
+    let program = Shown(program.as_bytes());
+    let _ = match (status.code(), status.signal()) {
+        (Some(0), _) | (None, None) => Ok(()),
+        (Some(code), _) => eprintln!(messages;
+            "apt_cli: processor {program} ended with status {code}"
+        ),
+        (None, Some(signal)) => eprintln!(messages;
+            "apt_cli: processor {program} ended by signal {signal}"
+        ),
+    };
+}
