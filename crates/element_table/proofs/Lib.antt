@@ -1,0 +1,3 @@
+mod Counts
+mod TextMaps
+pub mod TableLaws

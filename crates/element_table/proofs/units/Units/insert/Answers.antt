@@ -1,0 +1,15 @@
+use Rattle.std.proofs.Common.{string_bytes, ap, ◌∙◌}
+use Rattle.std.specs.FinMap.{insert}
+use Rattle.element_table.proofs.TextMaps.{shown-insert}
+use Rattle.element_table.proofs.units.Units.insert.Goals.{in-Ok, in-Err}
+use Rattle.element_table.proofs.units.Units.insert.Goals as goal
+
+pub returns-clause-ok : goal.returns-clause-ok
+returns-clause-ok c =
+    elim c.match-insert.branch [
+      | in-Ok w ↦
+          rw w.result-is
+          (shown-insert c.self.inside.held c.insert.new.self (string_bytes c.args.name) c.args.unit w.in-Ok.ensures.updates
+          ∙ ap (λ units. insert units (string_bytes c.args.name) c.args.unit) c.self.view_is)
+      | in-Err w ↦ rw w.result-is tt
+    ]

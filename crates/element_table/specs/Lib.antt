@@ -1,0 +1,4 @@
+pub mod Held
+pub mod TypeCounts
+pub mod TypeTable
+pub mod UnitNames

@@ -1,0 +1,163 @@
+// The type table.
+ghost use Rattle.std.specs.Prelude.{◌≡◌, IfOk, IfErr, IfSome, OnOk, OnErr, string_bytes};
+ghost use Rattle.std.specs.Option.{option_copied};
+ghost use Rattle.std.specs.FinMap as fin;
+ghost use Rattle.element_table.specs.UnitNames.{unit_name};
+ghost use Rattle.element_table.specs.TypeTable.{empty_table, units_in, unit_of, part_of, has_unit, entered, answer_to, Answers, unit_back, IsTable};
+ghost use Rattle.element_table.specs.declared.answer.Answer.TheVariants.{IsNew};
+
+use crate::answer::Answer;
+use crate::counting::with_unit;
+use crate::naming::name_of;
+use crate::units::Units;
+use crate::{EnterFault, Part};
+use apt_base::{List, Name, NoMemory};
+use decl_tree::Unit;
+use std::alloc::Global;
+use std::marker::Model;
+
+/// The units of a project and of its stubs by their canonical names. No name is in both parts, each unit stands under its own name, and the units of both parts have at most 50,000 types, nested ones included.
+#[derive(Drop)]
+pub struct Table {
+    alloc: Global,
+    sources: Units,
+    stubs: Units,
+    // How many types the units of both parts have, nested ones included.
+    types: usize,
+}
+
+impl Model for Table {
+    ghost use Rattle.element_table.specs.TypeTable.{TypeTable, table_of, IsTableOf};
+    ghost use Rattle.element_table.specs.Held.{table_code};
+
+    ghost Value = { TypeTable };
+
+    ghost coded = { table_code };
+
+    ghost view = { λ a. table_of a.sources a.stubs };
+
+    ghost invariant = { λ a. IsTableOf a.types (table_of a.sources a.stubs) };
+}
+
+impl Table {
+    /// An empty table. It takes no memory.
+    pub fn new(alloc: Global) -> Self
+        ensures { result ≡ empty_table }
+    {
+        Table {
+            alloc,
+            sources: Units::new(alloc),
+            stubs: Units::new(alloc),
+            types: 0,
+        }
+    }
+
+    fn has_unit(&self, name: &str) -> bool
+        ensures { result ≡ has_unit self.now name.now }
+    {
+        self.sources.contains(name) || self.stubs.contains(name)
+    }
+
+    #[tactic(auto, unfolding(crate::specs::TypeTable::answer_to))]
+    fn answer_to(&self, name: &str, unit: &Unit) -> Answer
+        requires { name.now ≡ unit_name unit.now }
+        ensures { result ≡ answer_to self.now unit.now }
+    {
+        if self.has_unit(name) {
+            return Answer::IsDuplicate;
+        }
+        match with_unit(self.types, unit) {
+            None => Answer::IsTooMany,
+            Some(types) => Answer::IsNew(types),
+        }
+    }
+
+    // Enters a unit of which the answer is due that it may be entered.
+    fn put(&mut self, part: Part, name: String, unit: Unit, types: usize) -> Result<(), Unit>
+        requires named { string_bytes name ≡ unit_name unit }
+        requires new { answer_to self.old unit ≡ IsNew types }
+        ensures ok { OnOk result (self.new ≡ entered part unit self.old) }
+        ensures err { OnErr result (self.new ≡ self.old) }
+        ensures back { IfErr result (λ back. back ≡ unit) }
+    {
+        match part {
+            Part::Source => self.sources.insert(name, unit)?,
+            Part::Stub => self.stubs.insert(name, unit)?,
+        }
+        self.types = types;
+        Ok(())
+    }
+
+    /// Enters a unit into a part, under its canonical name. The first of these holds:
+    ///
+    /// - `Duplicate`: its name is in the table, in this part or in the other.
+    /// - `TooMany`: with its own types the table would have more than 50,000. Nested types count (JLS 8.5, 9.5), and a `package-info` unit counts as one.
+    /// - it is entered.
+    ///
+    /// `Memory` may come in place of each of them. After a refusal the table is as it was, and the unit comes back.
+    pub fn enter(&mut self, part: Part, unit: Unit) -> Result<(), EnterFault>
+        ensures answer { Answers (answer_to self.old unit) result }
+        ensures ok { OnOk result (self.new ≡ entered part unit self.old) }
+        ensures err { OnErr result (self.new ≡ self.old) }
+        ensures back { IfErr result (λ fault. unit_back fault ≡ unit) }
+    {
+        let Ok(name) = name_of(self.alloc, &unit) else {
+            return Err(EnterFault::Memory(unit));
+        };
+        match self.answer_to(name.as_str(), &unit) {
+            Answer::IsDuplicate => Err(EnterFault::Duplicate(unit)),
+            Answer::IsTooMany => Err(EnterFault::TooMany(unit)),
+            Answer::IsNew(types) => match self.put(part, name, unit, types) {
+                Ok(()) => Ok(()),
+                Err(unit) => Err(EnterFault::Memory(unit)),
+            },
+        }
+    }
+
+    /// The unit of this name, in whichever part it is, or `None` where neither has it. It takes no memory.
+    pub fn find(&self, name: &Name) -> Option<&Unit>
+        ensures value { option_copied result ≡ unit_of self.now name.now }
+        ensures named { IfSome result (λ unit. unit_name unit.now ≡ name.now) }
+        ensures table { IsTable self.now }
+    {
+        match self.sources.get(name.as_str()) {
+            Some(unit) => Some(unit),
+            None => self.stubs.get(name.as_str()),
+        }
+    }
+
+    /// The part in which this name is, or `None` where neither has it. It takes no memory.
+    pub fn part(&self, name: &Name) -> Option<Part>
+        ensures { result ≡ part_of self.now name.now }
+    {
+        if self.sources.contains(name.as_str()) {
+            Some(Part::Source)
+        } else if self.stubs.contains(name.as_str()) {
+            Some(Part::Stub)
+        } else {
+            None
+        }
+    }
+
+    /// The names of the units of a part, ascending by their bytes.
+    pub fn names(&self, alloc: Global, part: Part) -> Result<List<Name>, NoMemory>
+        ensures { IfOk result (λ names. names ≡ fin.keys (units_in part self.now)) }
+    {
+        match part {
+            Part::Source => self.sources.names(alloc),
+            Part::Stub => self.stubs.names(alloc),
+        }
+    }
+
+    /// An equal table.
+    pub fn copy(&self, alloc: Global) -> Result<Table, NoMemory>
+        ensures { IfOk result (λ table. table ≡ self.now) }
+    {
+        Ok(Table {
+            alloc,
+            sources: self.sources.copy(alloc)?,
+            stubs: self.stubs.copy(alloc)?,
+            types: self.types,
+        })
+    }
+}

@@ -1,0 +1,162 @@
+//! Prints a table of calls of the type table with what each gives.
+//!
+//! The lines are taken one after another by one table, which is empty at the beginning. The library `case_lines` says how texts and lists are written. The calls are:
+//!
+//! | Call | Its result |
+//! |---|---|
+//! | `empty` | `done`: the table is empty from now on |
+//! | `enter PART UNIT` | `done`, or the refusal and the name of the unit that came back |
+//! | `made PART NUMBER` | enters so many classes `m.C0`, `m.C1` and so on: `done`, or the first refusal |
+//! | `find NAME` | the unit: its name, and behind `+` the number of its members; or `none` |
+//! | `part NAME` | the part in which it is, or `none` |
+//! | `names PART` | the names of a part |
+//! | `count PART` | how many there are, and whether each is greater than the one before |
+//! | `found PART NUMBER` | how many of the made classes, so many from the first on, are found by their names and are in that part |
+//! | `copied` | `done`: the table is its own copy from now on |
+//! | `name UNIT` | the canonical name |
+//!
+//! A part is `source` or `stub`. A unit is the name of a class or a package's `package-info`; behind the name of a class `+3` stands for three types that are nested in it side by side, and `^3` for three of which each is nested in the one before.
+#![tactic(auto)]
+
+mod made;
+mod unit;
+
+use case_lines::{Calls, CaseFault, escaped, joined, name, run};
+use decl_syntax::{Body, Name, Unit};
+use element_table::{EnterFault, Part, Table, unit_name};
+use std::alloc::Global;
+use std::process::ExitCode;
+
+/// The calls of one table.
+#[derive(Drop)]
+struct Tables {
+    table: Table,
+}
+
+impl Calls for Tables {
+    fn call(&mut self, alloc: Global, words: &[&str]) -> Result<String, CaseFault> {
+        match words {
+            ["empty"] => {
+                self.table = Table::new(alloc);
+                text_of(alloc, "done")
+            }
+            ["copied"] => {
+                self.table = self.table.copy(alloc)?;
+                text_of(alloc, "done")
+            }
+            ["enter", part_word, word] => {
+                enter(
+                    alloc,
+                    &mut self.table,
+                    part(part_word)?,
+                    unit::unit(alloc, word)?,
+                )
+            }
+            ["made", part_word, word] => {
+                made::enter(
+                    alloc,
+                    &mut self.table,
+                    part(part_word)?,
+                    word.parse::<u32>()?,
+                )
+            }
+            _ => look(alloc, &self.table, words),
+        }
+    }
+}
+
+// The calls that leave the table as it is.
+fn look(alloc: Global, table: &Table, words: &[&str]) -> Result<String, CaseFault> {
+    match words {
+        ["names", word] => names(alloc, table, part(word)?),
+        ["count", word] => made::count(alloc, table, part(word)?),
+        ["found", part_word, word] => {
+            made::found(alloc, table, part(part_word)?, word.parse::<u32>()?)
+        }
+        ["find", word] => find(alloc, table, &name(alloc, word)?),
+        ["part", word] => text_of(alloc, part_word(table.part(&name(alloc, word)?))),
+        ["name", word] => name_word(alloc, &unit::unit(alloc, word)?),
+        _ => Err(CaseFault::NotACase),
+    }
+}
+
+fn text_of(alloc: Global, word: &str) -> Result<String, CaseFault> {
+    Ok(String::from_str(alloc, word)?)
+}
+
+fn part(word: &str) -> Result<Part, CaseFault> {
+    match word {
+        "source" => Ok(Part::Source),
+        "stub" => Ok(Part::Stub),
+        _ => Err(CaseFault::NotACase),
+    }
+}
+
+fn part_word(part: Option<Part>) -> &'static str {
+    match part {
+        None => "none",
+        Some(Part::Source) => "source",
+        Some(Part::Stub) => "stub",
+    }
+}
+
+fn name_word(alloc: Global, unit: &Unit) -> Result<String, CaseFault> {
+    escaped(alloc, unit_name(alloc, unit)?.as_str().as_bytes())
+}
+
+fn refusal(alloc: Global, word: &str, unit: &Unit) -> Result<String, CaseFault> {
+    let name = name_word(alloc, unit)?;
+    Ok(format!(in alloc; "{word} {name}")?)
+}
+
+fn refused(alloc: Global, fault: &EnterFault) -> Result<String, CaseFault> {
+    match fault {
+        EnterFault::Duplicate(unit) => refusal(alloc, "Duplicate", unit),
+        EnterFault::TooMany(unit) => refusal(alloc, "TooMany", unit),
+        EnterFault::Memory(_) => Err(CaseFault::Memory),
+    }
+}
+
+// A function of its own, so that what drops a unit is proved once.
+fn let_go(_fault: EnterFault) {}
+
+/// Enters a unit: `done`, or the refusal.
+fn enter(alloc: Global, table: &mut Table, part: Part, unit: Unit) -> Result<String, CaseFault> {
+    match table.enter(part, unit) {
+        Ok(()) => text_of(alloc, "done"),
+        Err(fault) => {
+            let words = refused(alloc, &fault);
+            let_go(fault);
+            words
+        }
+    }
+}
+
+fn find(alloc: Global, table: &Table, name: &Name) -> Result<String, CaseFault> {
+    match table.find(name) {
+        None => text_of(alloc, "none"),
+        Some(unit) => {
+            let name = name_word(alloc, unit)?;
+            match &unit.text().body {
+                Body::Info(_, _) => Ok(name),
+                Body::Declared(class) => {
+                    let members = class.members.len();
+                    Ok(format!(in alloc; "{name}+{members}")?)
+                }
+            }
+        }
+    }
+}
+
+fn names(alloc: Global, table: &Table, part: Part) -> Result<String, CaseFault> {
+    let mut words = Vec::new(alloc);
+    for name in table.names(alloc, part)?.as_slice() {
+        words.push(escaped(alloc, name.as_str().as_bytes())?)?;
+    }
+    joined(alloc, &words)
+}
+
+fn main(rt: HostRuntime) -> ExitCode {
+    let table = Table::new(rt.alloc());
+    run(&rt, &mut Tables { table })
+}
