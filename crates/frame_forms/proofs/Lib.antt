@@ -1,0 +1,13 @@
+pub mod Steady
+pub mod FormsSteady
+pub mod Meets
+pub mod FormsMeet
+pub mod Sound
+pub mod Framed
+pub mod FrameLawProofs
+pub mod Goes
+pub mod FormsGo
+pub mod DepthLaws
+pub mod BadByteRules
+pub mod FieldRuleProofs
+pub mod Examples

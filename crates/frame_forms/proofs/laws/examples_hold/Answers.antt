@@ -1,0 +1,6 @@
+use Rattle.frame_forms.proofs.laws.examples_hold.Goals as goal
+use Rattle.frame_forms.proofs.Examples.{examples}
+
+-- src/laws.rt:5:1
+pub returns : goal.returns
+returns c = examples

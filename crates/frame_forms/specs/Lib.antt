@@ -1,0 +1,13 @@
+pub mod Scans
+pub mod Forms
+pub mod TextForms
+pub mod MirrorForms
+pub mod FrameTable
+pub mod Frames
+pub mod Examples
+pub mod ScanLaws
+pub mod Loosened
+pub mod Depths
+pub mod FrameLaws
+pub mod BadBytes
+pub mod FieldRules
