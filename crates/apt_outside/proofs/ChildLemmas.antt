@@ -8,10 +8,11 @@ use Rattle.std.proofs.lemmas.List.Elements.{Contains-push_cases}
 use Rattle.std.proofs.lemmas.Grind.{flat_map-append}
 use Rattle.std.proofs.lemmas.Bool.Decides.{eqb_tells}
 use Rattle.std.proofs.lemmas.Option.{slice_get_read, slice_get_within}
-use Rattle.apt_outside.specs.Child.{Known, StaysSent, Try, Child, Changes, OthersKept, written_by, Sends, Receives}
+use Rattle.apt_outside.specs.Child.{State, StaysSent, Try, Child, Changes, Attends, OthersKept, written_by, Sends, Receives}
 use Rattle.apt_outside.specs.declared.script.Script.{Script}
+use Rattle.apt_outside.specs.declared.script.Call.{Call}
 use Rattle.apt_outside.specs.declared.script.Started.{Started}
-use Rattle.apt_outside.specs.Scripted.{script_of, answers_of, script_says, shown_call, frames_of, said_of, child_of, known_of, TakesSaid, LiveStarted}
+use Rattle.apt_outside.specs.Scripted.{script_of, answers_of, script_says, shown_call, frames_of, said_of, child_of, known_of, state_of, TakesSaid, LiveStarted}
 
 pub get_set_same : {X : Type 0} (xs : List X) (i : ℕ) (v : X) → i < length xs → slice_get (slice_set xs i v) i ≡ Some v
 get_set_same xs i v h = slice_get_read (slice_set xs i v) (length xs) i v (sym (length-set xs i v)) h (sym (get_or-set_same xs i v v h))
@@ -39,13 +40,17 @@ module _ (scripts : List Script) (started : List Started) (i : ℕ) (old new : S
   pub both_known : (P : Child → Child → Type 0) → P (child_of scripts old) (child_of scripts new) → IfSome (known_of scripts started i) (λ before. IsSomeAnd (known_of scripts (slice_set started i new) i) (λ after. P before after))
   both_known P h = subst (λ o. IfSome o (λ before. IsSomeAnd (known_of scripts (slice_set started i new) i) (P before))) (sym known_old) (subst (λ n. IsSomeAnd n (P (child_of scripts old))) (sym known_new) h)
 
-  pub changes : new.call ≡ old.call → Changes i (known_of scripts started) (known_of scripts (slice_set started i new))
+  changes : new.call ≡ old.call → Changes i (known_of scripts started) (known_of scripts (slice_set started i new))
   changes same = record {
     others = λ k ne. ap (option_map (child_of scripts)) (get_set_other started i k new ne);
     same_child = λ before e.
         let first : child_of scripts old ≡ before = some_inj _ _ (sym known_old ∙ e) in
         (child_of scripts new, known_new, ap (λ c. (shown_call c).0) same ∙ ap (λ b. b.name) first, ap (λ c. (shown_call c).1) same ∙ ap (λ b. b.command) first);
   }
+
+  -- a call on this child, after which the same live and were tried
+  pub attends : (live : List ℕ) (tried : List Call) → new.call ≡ old.call → Attends i (state_of scripts started live tried) (state_of scripts (slice_set started i new) live tried)
+  attends live tried same = record { same_says = refl; same_tried = refl; change = changes same }
 
   pub takes_set : TakesSaid scripts started → new.taken ≤ length (said_of scripts new) → TakesSaid scripts (slice_set started i new)
   takes_set takes fits k s e = cases (eqb_tells k i)
@@ -85,8 +90,9 @@ module _ (scripts : List Script) (started : List Started) (i : ℕ) (old new : S
       let length_same : length (said_of scripts new) ≡ length (said_of scripts old) = ap length alike in
       omega (arith, fits, taken, length_same)
 
-  pub sends : (frame : List ℕ) → new.taken ≡ old.taken → frames_of new ≡ frames_of old ++ frame ∷ [] → Sends (script_says scripts) i frame (known_of scripts started) (known_of scripts (slice_set started i new))
-  sends frame taken frames =
+  pub sends : (live : List ℕ) (tried : List Call) (frame : List ℕ) → new.taken ≡ old.taken → frames_of new ≡ frames_of old ++ frame ∷ []
+      → Sends i frame (state_of scripts started live tried) (state_of scripts (slice_set started i new) live tried)
+  sends live tried frame taken frames =
       let more = said_more frame frames in
       record {
         sent = both_known scripts started i old new is (λ before after. after.sent ≡ before.sent ++ frame ∷ []) frames;
@@ -94,8 +100,10 @@ module _ (scripts : List Script) (started : List Started) (i : ℕ) (old new : S
             (more.0, more.1, ap (λ n. drop n (said_of scripts new)) taken ∙ ap (drop old.taken) more.1 ∙ drop-append-le old.taken (said_of scripts old) more.0 fits);
       }
 
-  pub receives : (bytes : List ℕ) → new.sent ≡ old.sent → drop old.taken (said_of scripts old) ≡ bytes ++ drop new.taken (said_of scripts old) → (bytes ≡ [] → drop old.taken (said_of scripts old) ≡ []) → Receives i bytes (known_of scripts started) (known_of scripts (slice_set started i new))
-  receives bytes sent split ended =
+  pub receives : (live : List ℕ) (tried : List Call) (room : List ℕ) (n : ℕ) → new.sent ≡ old.sent → drop old.taken (said_of scripts old) ≡ take n room ++ drop new.taken (said_of scripts old)
+      → (take n room ≡ [] → drop old.taken (said_of scripts old) ≡ []) → Receives i room (state_of scripts started live tried) (state_of scripts (slice_set started i new) live tried) n
+  receives live tried room n sent split ended =
+      let bytes : List ℕ = take n room in
       let alike : said_of scripts new ≡ said_of scripts old = ap (λ c. script_says scripts (shown_call c).0 (shown_call c).1 (frames_of new)) same ∙ ap (λ fs. script_says scripts (shown_call old.call).0 (shown_call old.call).1 (map (λ f. f.items) fs.items)) sent in
       record {
         sent = both_known scripts started i old new is (λ before after. after.sent ≡ before.sent) (ap (λ fs. map (λ f. f.items) fs.items) sent);
@@ -194,5 +202,5 @@ itself None = tt
 itself (Some c) = refl
 
 -- a child that doesn't change
-pub stays_sent : (child : ℕ) (known : Known) → StaysSent child known known
-stays_sent child known = record { same_sent = itself (known child) }
+pub stays_sent : (child : ℕ) (old new : State) → new.known ≡ old.known → StaysSent child old new
+stays_sent child old new same = record { same_sent = subst (λ known. IfSome (old.known child) (λ before. IsSomeAnd (known child) (λ after. after.sent ≡ before.sent))) (sym same) (itself (old.known child)) }

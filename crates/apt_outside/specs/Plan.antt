@@ -39,3 +39,7 @@ Planned old new before now result = IfSome old (λ plan. Follows plan new before
 -- what an object with planned failures tells
 abbrev pub plan_of : Failing → Plan
 plan_of failing = record { numbers = failing.numbers.items; calls = failing.calls }
+
+-- a step of an object with planned failures follows its plan
+abbrev pub Steps : {T : Type 0} → Failing → Failing → Result T Fault → Type 0
+Steps old new result = Follows (plan_of old) (Some (plan_of new)) old.faults new.faults result

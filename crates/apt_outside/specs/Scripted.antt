@@ -1,8 +1,8 @@
 -- What scripted children say.
-use Rattle.std.specs.Prelude.{◌≡◌, ℕ, ◌+◌, ◌<◌, ◌≤◌, ◌-◌, ◌^◌, nat_le, Bool, ◌||◌, is_none, List, [], ◌∷◌, length, take, drop, map, flat_map, string_bytes, bytes_eq, if◌then◌else◌, Option, None, Some, option_map, slice_get, Contains, IfSome}
+use Rattle.std.specs.Prelude.{◌≡◌, ℕ, ◌+◌, ◌<◌, ◌≤◌, ◌-◌, ◌^◌, nat_le, Bool, ◌||◌, is_none, List, [], ◌∷◌, ◌++◌, length, take, drop, map, flat_map, string_bytes, bytes_eq, if◌then◌else◌, Option, None, Some, option_map, slice_get, Contains, IfSome}
 use mathlib.Core.Path.{sym}
 use Rattle.std.proofs.lemmas.List.{take-append-drop}
-use Rattle.apt_outside.specs.Child.{Says, Try, Child, Known, IsSound}
+use Rattle.apt_outside.specs.Child.{Says, Try, Child, Known, State, IsSound, sent_to}
 use Rattle.apt_outside.specs.declared.script.Script.{Script}
 use Rattle.apt_outside.specs.declared.script.Call.{Call}
 use Rattle.apt_outside.specs.declared.script.Started.{Started}
@@ -41,6 +41,24 @@ child_of scripts s = record { name = (shown_call s.call).0; command = (shown_cal
 
 abbrev pub known_of : List Script → List Started → Known
 known_of scripts started k = option_map (child_of scripts) (slice_get started k)
+
+-- all bytes that a child was sent
+abbrev pub sent_bytes : List Script → List Started → ℕ → Option (List ℕ)
+sent_bytes scripts started k = option_map sent_to (known_of scripts started k)
+
+-- scripted children at a moment
+abbrev pub state_of : List Script → List Started → List ℕ → List Call → State
+state_of scripts started live tried = record {
+  starts = length started;
+  live = live;
+  says = script_says scripts;
+  tried = map shown_call tried;
+  known = known_of scripts started;
+}
+
+-- these bytes were given of what a child said and did not give before, and this much is taken then
+abbrev pub HasGiven : Started → ℕ → List ℕ → Type 0
+HasGiven s taken bytes = drop s.taken s.said.items ≡ bytes ++ drop taken s.said.items
 
 -- no child took more than it said
 abbrev pub TakesSaid : List Script → List Started → Type 0

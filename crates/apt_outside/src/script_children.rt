@@ -29,9 +29,8 @@ pub struct ScriptChildren {
 }
 
 impl ScriptChildren {
-    ghost use Rattle.std.specs.Prelude.{◌≡◌, [], option_map, option_copied};
-    ghost use Rattle.apt_outside.specs.Child.{sent_to};
-    ghost use Rattle.apt_outside.specs.Scripted.{known_of};
+    ghost use Rattle.std.specs.Prelude.{◌≡◌, [], option_copied};
+    ghost use Rattle.apt_outside.specs.Scripted.{sent_bytes};
 
     /// Children of these scripts, none of which was started.
     pub fn new(alloc: Global, scripts: Vec<Script>) -> Self
@@ -54,7 +53,7 @@ impl ScriptChildren {
     /// All bytes that a child was sent, its frames joined in order, and None exactly where there is no such child.
     /// A child that was stopped still has them.
     pub fn sent(&self, child: u32) -> Option<&[u8]>
-        ensures { option_copied result ≡ option_map sent_to (known_of self.now.scripts.items self.now.started.items child) }
+        ensures { option_copied result ≡ sent_bytes self.now.scripts.items self.now.started.items child }
     {
         match self.started.get(child as usize) {
             None => None,
@@ -64,26 +63,18 @@ impl ScriptChildren {
 }
 
 impl Children for ScriptChildren {
-    ghost use Rattle.std.specs.Prelude.{true, Some, length, map, slice_get};
-    ghost use Rattle.apt_outside.specs.Scripted.{script_says, refuses_start, shown_call, known_of, sound_known};
+    ghost use Rattle.std.specs.Prelude.{true, Some, slice_get};
+    ghost use Rattle.apt_outside.specs.Scripted.{refuses_start, state_of, sound_known};
 
     ghost tells = { true };
 
     ghost faults = { λ c. c.faults };
 
-    ghost starts = { λ c. length c.started.items };
-
-    ghost live = { λ c. c.live.items };
-
-    ghost says = { λ c. script_says c.scripts.items };
-
-    ghost tried = { λ c. map shown_call c.tried.items };
-
-    ghost known = { λ c. known_of c.scripts.items c.started.items };
+    ghost state = { λ c. state_of c.scripts.items c.started.items c.live.items c.tried.items };
 
     ghost refusals = { λ c. Some (refuses_start c.scripts.items c.started.items) };
 
-    ghost sound = { λ c k told. sound_known c.scripts.items (slice_get c.started.items k) };
+    ghost sound = { λ c told k. sound_known c.scripts.items (slice_get c.started.items k) };
 
     fn start(&mut self, name: &str, command: &[String]) -> Result<u32, Fault> {
         let call = copy_call(self.alloc, name, command)?;

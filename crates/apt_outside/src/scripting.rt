@@ -1,6 +1,6 @@
 // Reads scripts.
 ghost use Rattle.std.specs.Prelude.{◌≡◌, [], ◌∷◌, ◌++◌, ◌≤◌, ◌<◌, length, take, drop, IfOk, OnOk, OnErr, map, flat_map, string_bytes, option_copied};
-ghost use Rattle.apt_outside.specs.Scripted.{script_of, answer_of, said_of, shown_call, frames_of, IsJoined};
+ghost use Rattle.apt_outside.specs.Scripted.{script_of, answer_of, said_of, shown_call, frames_of, HasGiven, IsJoined};
 
 use crate::script::{Call, Script, Started};
 use std::alloc::{AllocError, Global};
@@ -103,7 +103,7 @@ pub fn give(started: &mut Started, room: &mut [u8]) -> usize
     ensures rest { started.new ≡ record started.old { taken = started.new.taken } }
     ensures within { started.new.taken ≤ length started.old.said.items }
     ensures fits { result ≤ length room.new }
-    ensures given { drop started.old.taken started.old.said.items ≡ take result room.new ++ drop started.new.taken started.old.said.items }
+    ensures given { HasGiven started.old started.new.taken (take result room.new) }
     ensures ended { take result room.new ≡ [] → drop started.old.taken started.old.said.items ≡ [] }
 {
     let count = room.len().min(started.said.len() - started.taken);

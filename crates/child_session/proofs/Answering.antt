@@ -1,9 +1,9 @@
 -- A frame is sent, and the answer is read.
 use Rattle.std.proofs.Common.{◌≡◌, ℕ, suc, ◌+◌, ◌-◌, List, [], ◌∷◌, ◌++◌, length, Option, None, Some, option_map, Result, Ok, Err, IfOk, IfSome, IsSome, IsSomeAnd, refl, sym, ap, ◌∙◌, subst, length-append, arith}
 use Rattle.std.specs.Prelude.{option_and_then}
-use Rattle.apt_outside.specs.Child.{Says, Child, Known, Changes, Sends, written_by}
+use Rattle.apt_outside.specs.Child.{Says, Child, State, Changes, Sends, written_by}
 use Rattle.wire_frames.specs.declared.frame.Frame.{Frame}
-use Rattle.wire_frames.specs.Frames.{frame_at}
+use Rattle.wire_frames.specs.Readings.{frame_at}
 use Rattle.child_session.specs.Talk.{Stream, rest_after, frame_behind, answer_to, HasAnswered, Exchanged, Exchanges, FindsFrame, TakesFrame}
 use Rattle.child_session.proofs.FrameLemmas.{rest_after-append, rest_after-next}
 
@@ -56,15 +56,6 @@ answered says frame a b c found s name command sent finds before =
       answered = has_answered says frame a b c found s name_is command_is sent_is finds before;
     }
 
-same_child_at : (x y : Option Child) (b c : Child) → x ≡ Some b → y ≡ Some c → (d : Child) × (y ≡ Some d) × (d.name ≡ b.name) × (d.command ≡ b.command) → (c.name ≡ b.name) × (c.command ≡ b.command)
-same_child_at x y b c xb yc kept =
-    let is : kept.0 ≡ c = let both : Some kept.0 ≡ Some c = sym kept.1 ∙ yc in cc in
-    (ap (λ d. d.name) (sym is) ∙ kept.2, ap (λ d. d.command) (sym is) ∙ kept.3)
-
--- the change of one child, seen at the children that are known
-kept_child : (child : ℕ) (known known' : Known) (b c : Child) → Changes child known known' → known child ≡ Some b → known' child ≡ Some c → (c.name ≡ b.name) × (c.command ≡ b.command)
-kept_child child known known' b c change is is' = same_child_at (known child) (known' child) b c is is' (change.same_child b is)
-
 sent_at : (says : Says) (frame : List ℕ) (x y : Option Child) (a b : Child) → x ≡ Some a → y ≡ Some b → b.name ≡ a.name → b.command ≡ a.command → IfSome x (λ before. IsSomeAnd y (λ after. after.sent ≡ before.sent ++ frame ∷ []))
     → IfSome x (λ before. IsSomeAnd y (λ after. (more : List ℕ) × (written_by says after ≡ written_by says before ++ more) × (after.waiting ≡ before.waiting ++ more))) → Sent says frame a b
 sent_at says frame x y a b xa yb name command sent waits =
@@ -78,21 +69,21 @@ took_at x y b c found xb yc first =
     let P : Child → Child → Type 0 = λ before after. (after.sent ≡ before.sent) × FindsFrame before.waiting found after.waiting in
     subst (λ o. IsSomeAnd o (P b)) yc (subst (λ o. IfSome o (λ before. IsSomeAnd y (P before))) xb first)
 
-module _ (child : ℕ) (says : Says) (k0 k1 k2 : Known) (frame : List ℕ) (found : Option Frame) where
-  at_child : Changes child k0 k1 → Sends says child frame k0 k1 → Changes child k1 k2 → TakesFrame child k1 k2 found → (a : Child) → k0 child ≡ Some a → HasAnswered says a → IsSomeAnd (k2 child) (Exchanged says frame found a)
+module _ (child : ℕ) (k0 k1 k2 : State) (frame : List ℕ) (found : Option Frame) where
+  at_child : Changes child k0.known k1.known → Sends child frame k0 k1 → Changes child k1.known k2.known → TakesFrame child k1 k2 found → (a : Child) → k0.known child ≡ Some a → HasAnswered k0.says a → IsSomeAnd (k2.known child) (Exchanged k0.says frame found a)
   at_child change sends change' takes a is before =
       let b = change.same_child a is in
       let c = change'.same_child b.0 b.1 in
-      let s = sent_at says frame (k0 child) (k1 child) a b.0 is b.1 b.2 b.3 sends.sent sends.waits in
-      let t = took_at (k1 child) (k2 child) b.0 c.0 found b.1 c.1 takes.first in
-      subst (λ o. IsSomeAnd o (Exchanged says frame found a)) (sym c.1) (answered says frame a b.0 c.0 found s c.2 c.3 t.0 t.1 before)
+      let s = sent_at k0.says frame (k0.known child) (k1.known child) a b.0 is b.1 b.2 b.3 sends.sent sends.waits in
+      let t = took_at (k1.known child) (k2.known child) b.0 c.0 found b.1 c.1 takes.first in
+      subst (λ o. IsSomeAnd o (Exchanged k0.says frame found a)) (sym c.1) (answered k0.says frame a b.0 c.0 found s c.2 c.3 t.0 t.1 before)
 
   given : (P : Child → Type 0) (o : Option Child) → ((a : Child) → o ≡ Some a → P a) → IfSome o P
   given P None h = tt
   given P (Some a) h = h a refl
 
-  pub exchanges : Changes child k0 k1 → Sends says child frame k0 k1 → Changes child k1 k2 → TakesFrame child k1 k2 found → Exchanges child says k0 k2 frame found
-  exchanges change sends change' takes = record { exchanged = given _ (k0 child) (λ a is before. at_child change sends change' takes a is before) }
+  pub exchanges : Changes child k0.known k1.known → Sends child frame k0 k1 → Changes child k1.known k2.known → TakesFrame child k1 k2 found → Exchanges child frame k0 k2 found
+  exchanges change sends change' takes = record { exchanged = given _ (k0.known child) (λ a is before. at_child change sends change' takes a is before) }
 
 -- a fact of what a call gave leads to another
 pub ok_map : {T E : Type 0} (r : Result T E) (P Q : T → Type 0) → ((x : T) → P x → Q x) → IfOk r P → IfOk r Q

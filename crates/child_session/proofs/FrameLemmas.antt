@@ -7,7 +7,7 @@ use Rattle.std.proofs.lemmas.List.{take_at, drop_at, length-take, take-append-dr
 use Rattle.apt_base.specs.Fields.{◌>>=◌, front_next}
 use Rattle.apt_base.proofs.Fields.{bind_some, front_next-again, front_next-grows}
 use Rattle.wire_frames.specs.declared.frame.Frame.{Frame}
-use Rattle.wire_frames.specs.Frames.{frame_at, length_at, length_of, child_frame}
+use Rattle.wire_frames.specs.Readings.{frame_at, length_at, length_of, child_frame}
 use Rattle.child_session.specs.Talk.{rest_after}
 
 abbrev Found : Type 0

@@ -1,6 +1,6 @@
 -- How a round goes on, and what comes of it.
 use Rattle.std.proofs.Common.{◌≡◌, ℕ, zero, suc, List, [], ◌∷◌, ◌++◌, Option, None, Some, Result, Ok, Err, IfSome, IsSome, IsSomeAnd, refl, sym, ap, ◌∙◌, subst}
-use Rattle.apt_outside.specs.Child.{Says, Child, Known, Changes}
+use Rattle.apt_outside.specs.Child.{Says, Child, State, Changes}
 use Rattle.wire_frames.specs.declared.frame.Frame.{Frame}
 use Rattle.apt_filer.specs.Filing.{Filings}
 use Rattle.wire_frames.specs.declared.frame.Message.{Message}
@@ -32,7 +32,7 @@ any_turn : (stream : Stream) (left : ℕ) (sent : Frames) (made : Filings) (prin
 any_turn stream zero sent made printed = ((λ s f m. Overasked sent made), turn_zero stream sent made printed)
 any_turn stream (suc left) sent made printed = (round_from stream left, turn_suc stream left sent made printed)
 
-module _ (child : ℕ) (says : Says) where
+module _ (says : Says) where
   pub later : (x y : Option Child) (E F : Child → Child → Type 0) → ((a b : Child) → E a b → F a b) → IfSome x (λ a. HasAnswered says a → IsSomeAnd y (E a)) → IfSome x (λ a. HasAnswered says a → IsSomeAnd y (F a))
   later None y E F h p = tt
   later (Some a) None E F h p = λ before. absurd (p before)
@@ -45,92 +45,92 @@ module _ (child : ℕ) (says : Says) where
   joined (Some a) (Some b) None E F G answered h p q = λ before. absurd (q (answered a b (p before)))
   joined (Some a) (Some b) (Some c) E F G answered h p q = λ before. h a b c (p before) (q (answered a b (p before)))
 
-  some_turn : (answer : Option Frame) (request : Request) → turn_at answer ≡ Asks request → IsSome answer
-  some_turn None request e = absurd (let f : Leaves ≡ Asks request = e in cc)
-  some_turn (Some f) request e = refl
+some_turn : (answer : Option Frame) (request : Request) → turn_at answer ≡ Asks request → IsSome answer
+some_turn None request e = absurd (let f : Leaves ≡ Asks request = e in cc)
+some_turn (Some f) request e = refl
 
-  some_end : (answer : Option Frame) → turn_at answer ≡ Ends → IsSome answer
-  some_end None e = absurd (let f : Leaves ≡ Ends = e in cc)
-  some_end (Some f) e = refl
+some_end : (answer : Option Frame) → turn_at answer ≡ Ends → IsSome answer
+some_end None e = absurd (let f : Leaves ≡ Ends = e in cc)
+some_end (Some f) e = refl
 
-  module _ (showing : Showing) (made : Filings) where
-    pub way_begins : (k0 k1 : Known) (answer : Option Frame) → Exchanges child says k0 k1 showing.round answer → GoesOn child says k0 k1 showing made made [] showing.limit answer
-    way_begins k0 k1 answer e = record {
-      way = later (k0 child) (k1 child) (Exchanged says showing.round answer) (Underway says showing made made [] showing.limit answer)
-          (λ a b x. record { name = x.name; command = x.command; answer_is = x.answer_is; answered = x.answered; rest = ap (λ sent. round_from (says a.name a.command) showing.limit sent made []) x.sent }) e.exchanged;
-    }
+module _ (child : ℕ) (showing : Showing) (made : Filings) where
+  pub way_begins : (k0 k1 : State) (answer : Option Frame) → Exchanges child showing.round k0 k1 answer → GoesOn child showing k0 k1 made made [] showing.limit answer
+  way_begins k0 k1 answer e = record {
+    way = later k0.says (k0.known child) (k1.known child) (Exchanged k0.says showing.round answer) (Underway k0.says showing made made [] showing.limit answer)
+        (λ a b x. record { name = x.name; command = x.command; answer_is = x.answer_is; answered = x.answered; rest = ap (λ sent. round_from (k0.says a.name a.command) showing.limit sent made []) x.sent }) e.exchanged;
+  }
 
-    -- one answer more
-    pub way_goes : (k0 k1 k2 : Known) (made1 made2 : Filings) (printed1 printed2 : List Message) (left : ℕ) (answer answer' : Option Frame) (request : Request)
-        → GoesOn child says k0 k1 showing made made1 printed1 (suc left) answer
-        → turn_at answer ≡ Asks request → made2 ≡ filed_after made1 request → printed2 ≡ printed_after printed1 request
-        → Exchanges child says k1 k2 (reply_frame made1 request) answer' → GoesOn child says k0 k2 showing made made2 printed2 left answer'
-    way_goes k0 k1 k2 made1 made2 printed1 printed2 left answer answer' request w turn made_are printed_are e = record {
-      way = joined (k0 child) (k1 child) (k2 child) (Underway says showing made made1 printed1 (suc left) answer) (Exchanged says (reply_frame made1 request) answer') (Underway says showing made made2 printed2 left answer')
-          (λ a b x. x.answered (some_turn answer request turn))
-          (λ a b c x y.
-          let stream : Stream = says a.name a.command in
-          let stream_is : says b.name b.command ≡ stream = ap (λ n. says n b.command) x.name ∙ ap (λ w. says a.name w) x.command in
-          let frame : List ℕ = reply_frame made1 request in
-          let made_next : Filings = filed_after made1 request in
-          let printed_next : List Message = printed_after printed1 request in
-          let step : round_from stream (suc left) b.sent made1 printed1 ≡ round_from stream left (b.sent ++ frame ∷ []) made_next printed_next =
-          turn_suc stream left b.sent made1 printed1 ∙ ap (λ o. after_turn (turn_at o) b.sent made1 printed1 (round_from stream left)) (sym x.answer_is)
-          ∙ ap (λ t. after_turn t b.sent made1 printed1 (round_from stream left)) turn in
-          record {
-            name = y.name ∙ x.name;
-            command = y.command ∙ x.command;
-            answer_is = y.answer_is ∙ ap (λ s. answer_to s c.sent) stream_is;
-            answered = y.answered;
-            rest = ap (λ sent. round_from stream left sent made2 printed2) y.sent
-                ∙ ap (λ made. round_from stream left (b.sent ++ frame ∷ []) made printed2) made_are
-                ∙ ap (λ printed. round_from stream left (b.sent ++ frame ∷ []) made_next printed) printed_are ∙ sym step ∙ x.rest;
-          })
-          w.way e.exchanged;
-    }
+  -- one answer more
+  pub way_goes : (k0 k1 k2 : State) (made1 made2 : Filings) (printed1 printed2 : List Message) (left : ℕ) (answer answer' : Option Frame) (request : Request)
+      → k1.says ≡ k0.says → GoesOn child showing k0 k1 made made1 printed1 (suc left) answer
+      → turn_at answer ≡ Asks request → made2 ≡ filed_after made1 request → printed2 ≡ printed_after printed1 request
+      → Exchanges child (reply_frame made1 request) k1 k2 answer' → GoesOn child showing k0 k2 made made2 printed2 left answer'
+  way_goes k0 k1 k2 made1 made2 printed1 printed2 left answer answer' request same w turn made_are printed_are e = record {
+    way = joined k0.says (k0.known child) (k1.known child) (k2.known child) (Underway k0.says showing made made1 printed1 (suc left) answer) (Exchanged k0.says (reply_frame made1 request) answer') (Underway k0.says showing made made2 printed2 left answer')
+        (λ a b x. x.answered (some_turn answer request turn))
+        (λ a b c x y.
+        let stream : Stream = k0.says a.name a.command in
+        let stream_is : k0.says b.name b.command ≡ stream = ap (λ n. k0.says n b.command) x.name ∙ ap (λ w. k0.says a.name w) x.command in
+        let frame : List ℕ = reply_frame made1 request in
+        let made_next : Filings = filed_after made1 request in
+        let printed_next : List Message = printed_after printed1 request in
+        let step : round_from stream (suc left) b.sent made1 printed1 ≡ round_from stream left (b.sent ++ frame ∷ []) made_next printed_next =
+        turn_suc stream left b.sent made1 printed1 ∙ ap (λ o. after_turn (turn_at o) b.sent made1 printed1 (round_from stream left)) (sym x.answer_is)
+        ∙ ap (λ t. after_turn t b.sent made1 printed1 (round_from stream left)) turn in
+        record {
+          name = y.name ∙ x.name;
+          command = y.command ∙ x.command;
+          answer_is = y.answer_is ∙ ap (λ s. answer_to s c.sent) stream_is;
+          answered = y.answered;
+          rest = ap (λ sent. round_from stream left sent made2 printed2) y.sent
+              ∙ ap (λ made. round_from stream left (b.sent ++ frame ∷ []) made printed2) made_are
+              ∙ ap (λ printed. round_from stream left (b.sent ++ frame ∷ []) made_next printed) printed_are ∙ sym step ∙ x.rest;
+        })
+        w.way (subst (λ says. IfSome (k1.known child) (λ b. HasAnswered says b → IsSomeAnd (k2.known child) (Exchanged says (reply_frame made1 request) answer' b))) same e.exchanged);
+  }
 
-    -- what a last turn comes to
-    module _ (k0 k1 : Known) (made1 : Filings) (printed : List Message) (left : ℕ) (answer : Option Frame) (w : GoesOn child says k0 k1 showing made made1 printed left answer) where
-      last : (result : Result (List Message) SessionFault) → ((a b : Child) → Underway says showing made made1 printed left answer a b → Shown says showing made made1 result a b) → Shows child says k0 k1 showing made made1 result
-      last result h = record { shown = later (k0 child) (k1 child) (Underway says showing made made1 printed left answer) (Shown says showing made made1 result) h w.way }
+  -- what a last turn comes to
+  module _ (k0 k1 : State) (made1 : Filings) (printed : List Message) (left : ℕ) (answer : Option Frame) (w : GoesOn child showing k0 k1 made made1 printed left answer) where
+    last : (result : Result (List Message) SessionFault) → ((a b : Child) → Underway k0.says showing made made1 printed left answer a b → Shown k0.says showing made made1 result a b) → Shows child showing k0 k1 made made1 result
+    last result h = record { shown = later k0.says (k0.known child) (k1.known child) (Underway k0.says showing made made1 printed left answer) (Shown k0.says showing made made1 result) h w.way }
 
-      turned : (a b : Child) → Underway says showing made made1 printed left answer a b → (turn : Turn) → turn_at answer ≡ turn → (go : Go) × (act_of (says a.name a.command) showing a.sent made ≡ after_turn turn b.sent made1 printed go)
-      turned a b x turn is =
-          let any = any_turn (says a.name a.command) left b.sent made1 printed in
-          (any.0, sym x.rest ∙ any.1 ∙ ap (λ o. after_turn (turn_at o) b.sent made1 printed any.0) (sym x.answer_is) ∙ ap (λ t. after_turn t b.sent made1 printed any.0) is)
+    turned : (a b : Child) → Underway k0.says showing made made1 printed left answer a b → (turn : Turn) → turn_at answer ≡ turn → (go : Go) × (act_of (k0.says a.name a.command) showing a.sent made ≡ after_turn turn b.sent made1 printed go)
+    turned a b x turn is =
+        let any = any_turn (k0.says a.name a.command) left b.sent made1 printed in
+        (any.0, sym x.rest ∙ any.1 ∙ ap (λ o. after_turn (turn_at o) b.sent made1 printed any.0) (sym x.answer_is) ∙ ap (λ t. after_turn t b.sent made1 printed any.0) is)
 
-      pub way_ends : turn_at answer ≡ Ends → Shows child says k0 k1 showing made made1 (Ok printed)
-      way_ends turn = last (Ok printed) (λ a b x. record { name = x.name; command = x.command; comes = (turned a b x Ends turn).1; answered = x.answered (some_end answer turn) })
+    pub way_ends : turn_at answer ≡ Ends → Shows child showing k0 k1 made made1 (Ok printed)
+    way_ends turn = last (Ok printed) (λ a b x. record { name = x.name; command = x.command; comes = (turned a b x Ends turn).1; answered = x.answered (some_end answer turn) })
 
-      pub way_leaves : turn_at answer ≡ Leaves → Shows child says k0 k1 showing made made1 (Err Unbuilt)
-      way_leaves turn = last (Err Unbuilt) (λ a b x. record { name = x.name; command = x.command; comes = (turned a b x Leaves turn).1; answered = tt })
+    pub way_leaves : turn_at answer ≡ Leaves → Shows child showing k0 k1 made made1 (Err Unbuilt)
+    way_leaves turn = last (Err Unbuilt) (λ a b x. record { name = x.name; command = x.command; comes = (turned a b x Leaves turn).1; answered = tt })
 
-      -- it may ask no more
-      pub way_is_full : (request : Request) → left ≡ 0 → turn_at answer ≡ Asks request → Shows child says k0 k1 showing made made1 (Err (TooManyQuestions showing.limit))
-      way_is_full request none turn = last (Err (TooManyQuestions showing.limit)) (λ a b x.
-          let stream : Stream = says a.name a.command in
-          record {
-            name = x.name;
-            command = x.command;
-            comes = (
-              sym x.rest ∙ ap (λ n. round_from stream n b.sent made1 printed) none ∙ turn_zero stream b.sent made1 printed
-                  ∙ ap (λ o. after_turn (turn_at o) b.sent made1 printed (λ s f m. Overasked b.sent made1)) (sym x.answer_is)
-                  ∙ ap (λ t. after_turn t b.sent made1 printed (λ s f m. Overasked b.sent made1)) turn,
-              refl,
-            );
-            answered = tt;
-          })
+    -- it may ask no more
+    pub way_is_full : (request : Request) → left ≡ 0 → turn_at answer ≡ Asks request → Shows child showing k0 k1 made made1 (Err (TooManyQuestions showing.limit))
+    way_is_full request none turn = last (Err (TooManyQuestions showing.limit)) (λ a b x.
+        let stream : Stream = k0.says a.name a.command in
+        record {
+          name = x.name;
+          command = x.command;
+          comes = (
+            sym x.rest ∙ ap (λ n. round_from stream n b.sent made1 printed) none ∙ turn_zero stream b.sent made1 printed
+                ∙ ap (λ o. after_turn (turn_at o) b.sent made1 printed (λ s f m. Overasked b.sent made1)) (sym x.answer_is)
+                ∙ ap (λ t. after_turn t b.sent made1 printed (λ s f m. Overasked b.sent made1)) turn,
+            refl,
+          );
+          answered = tt;
+        })
 
-    free : (k0 k1 : Known) (made1 : Filings) (result : Result (List Message) SessionFault) → ((a b : Child) → Comes (act_of (says a.name a.command) showing a.sent made) showing.limit result b.sent made1) → ((b : Child) → OnAnswered result (HasAnswered says b)) → Changes child k0 k1
-        → (o : Option Child) → k0 child ≡ o → IfSome o (λ a. HasAnswered says a → IsSomeAnd (k1 child) (Shown says showing made made1 result a))
-    free k0 k1 made1 result comes answered change None is = tt
-    free k0 k1 made1 result comes answered change (Some a) is = λ before.
-        let b = change.same_child a is in
-        subst (λ o. IsSomeAnd o (Shown says showing made made1 result a)) (sym b.1) (record { name = b.2; command = b.3; comes = comes a b.0; answered = answered b.0 })
+  free : (k0 k1 : State) (made1 : Filings) (result : Result (List Message) SessionFault) → ((a b : Child) → Comes (act_of (k0.says a.name a.command) showing a.sent made) showing.limit result b.sent made1) → ((b : Child) → OnAnswered result (HasAnswered k0.says b)) → Changes child k0.known k1.known
+      → (o : Option Child) → k0.known child ≡ o → IfSome o (λ a. HasAnswered k0.says a → IsSomeAnd (k1.known child) (Shown k0.says showing made made1 result a))
+  free k0 k1 made1 result comes answered change None is = tt
+  free k0 k1 made1 result comes answered change (Some a) is = λ before.
+      let b = change.same_child a is in
+      subst (λ o. IsSomeAnd o (Shown k0.says showing made made1 result a)) (sym b.1) (record { name = b.2; command = b.3; comes = comes a b.0; answered = answered b.0 })
 
-    -- a fault of the children or want of memory may come at any point
-    pub way_is_free : (k0 k1 : Known) (made1 : Filings) (fault : SessionFault) → IsFreeFault fault → Changes child k0 k1 → Shows child says k0 k1 showing made made1 (Err fault)
-    way_is_free k0 k1 made1 Failed is_free change = record { shown = free k0 k1 made1 (Err Failed) (λ a b. tt) (λ b. tt) change (k0 child) refl }
-    way_is_free k0 k1 made1 Memory is_free change = record { shown = free k0 k1 made1 (Err Memory) (λ a b. tt) (λ b. tt) change (k0 child) refl }
-    way_is_free k0 k1 made1 Unbuilt is_free change = absurd is_free
-    way_is_free k0 k1 made1 (TooManyQuestions limit) is_free change = absurd is_free
+  -- a fault of the children or want of memory may come at any point
+  pub way_is_free : (k0 k1 : State) (made1 : Filings) (fault : SessionFault) → IsFreeFault fault → Changes child k0.known k1.known → Shows child showing k0 k1 made made1 (Err fault)
+  way_is_free k0 k1 made1 Failed is_free change = record { shown = free k0 k1 made1 (Err Failed) (λ a b. tt) (λ b. tt) change (k0.known child) refl }
+  way_is_free k0 k1 made1 Memory is_free change = record { shown = free k0 k1 made1 (Err Memory) (λ a b. tt) (λ b. tt) change (k0.known child) refl }
+  way_is_free k0 k1 made1 Unbuilt is_free change = absurd is_free
+  way_is_free k0 k1 made1 (TooManyQuestions limit) is_free change = absurd is_free

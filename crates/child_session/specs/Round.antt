@@ -1,12 +1,12 @@
 -- What the answer to a round comes to: a child creates files and prints messages, one after another, each is answered, and
 -- then it is done. A round is a function of what the child says, and of what was created before it.
 use Rattle.std.specs.Prelude.{◌≡◌, ℕ, zero, suc, ◌+◌, ◌*◌, true, false, List, [], ◌∷◌, ◌++◌, Option, None, Some, IsSome, Result, Ok, Err}
-use Rattle.apt_outside.specs.Child.{Says, Child, Known}
+use Rattle.apt_outside.specs.Child.{Says, Child, State}
 use Rattle.wire_frames.specs.declared.frame.Frame.{Frame}
 use Rattle.wire_frames.specs.declared.frame.Frame.TheVariants as frame
 use Rattle.wire_frames.specs.declared.frame.Message.{Message}
-use Rattle.wire_frames.specs.declared.frame.Reply.{Reply}
-use Rattle.wire_frames.specs.declared.frame.Reply.TheVariants as reply
+use Rattle.wire_frames.specs.declared.reply.Reply.{Reply}
+use Rattle.wire_frames.specs.declared.reply.Reply.TheVariants as reply
 use Rattle.wire_frames.specs.Frames.{spelling}
 use Rattle.apt_filer.specs.Filing as filing
 use Rattle.apt_filer.specs.Filing.{Filings, filed}
@@ -29,6 +29,7 @@ turn_of (frame.Init init) = Leaves
 turn_of (frame.Round number over error offered roots) = Leaves
 turn_of (frame.Reply answer) = Leaves
 turn_of (frame.Hello hello) = Leaves
+turn_of (frame.Ask question) = Leaves
 
 -- a child that sent no frame has left the form
 abbrev pub turn_at : Option Frame → Turn
@@ -99,6 +100,10 @@ pub record Showing : Type 0 where
   pub limit : ℕ
   pub round : List ℕ
 
+-- a round with this frame, in which the child may ask so many times
+abbrev pub showing_of : ℕ → List ℕ → Showing
+showing_of limit round = record { limit = limit; round = round }
+
 -- what a round comes to that a child with these frames is shown, where the filer has these files
 abbrev pub act_of : Stream → Showing → List (List ℕ) → Filings → Act
 act_of stream showing sent filings = answer_of_round stream showing.limit sent showing.round filings
@@ -110,8 +115,8 @@ pub record Shown (says : Says) (showing : Showing) (filings filings' : Filings) 
   pub comes : Comes (act_of (says before.name before.command) showing before.sent filings) showing.limit result after.sent filings'
   pub answered : OnAnswered result (HasAnswered says after)
 
-pub record Shows (child : ℕ) (says : Says) (known known' : Known) (showing : Showing) (filings filings' : Filings) (result : Result (List Message) SessionFault) : Type 0 where
-  pub shown : WasAnswered child says known known' (Shown says showing filings filings' result)
+pub record Shows (child : ℕ) (showing : Showing) (old new : State) (filings filings' : Filings) (result : Result (List Message) SessionFault) : Type 0 where
+  pub shown : WasAnswered child old new (Shown old.says showing filings filings' result)
 
 -- a round is under way: this answer came to the frames sent up to now, and what is left of it decides what comes of the whole
 pub record Underway (says : Says) (showing : Showing) (filings filings' : Filings) (printed : List Message) (left : ℕ) (answer : Option Frame) (before after : Child) : Type 0 where
@@ -121,5 +126,5 @@ pub record Underway (says : Says) (showing : Showing) (filings filings' : Filing
   pub answered : IsSome answer → HasAnswered says after
   pub rest : round_from (says before.name before.command) left after.sent filings' printed ≡ act_of (says before.name before.command) showing before.sent filings
 
-pub record GoesOn (child : ℕ) (says : Says) (known known' : Known) (showing : Showing) (filings filings' : Filings) (printed : List Message) (left : ℕ) (answer : Option Frame) : Type 0 where
-  pub way : WasAnswered child says known known' (Underway says showing filings filings' printed left answer)
+pub record GoesOn (child : ℕ) (showing : Showing) (old new : State) (filings filings' : Filings) (printed : List Message) (left : ℕ) (answer : Option Frame) : Type 0 where
+  pub way : WasAnswered child old new (Underway old.says showing filings filings' printed left answer)

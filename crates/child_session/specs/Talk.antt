@@ -1,8 +1,9 @@
 -- What a child says to the frames that it was sent: the frame at each place of its stream, and what the answer to a round comes to.
-use Rattle.std.specs.Prelude.{◌≡◌, ◌<◌, ℕ, zero, suc, ◌+◌, ◌-◌, List, [], ◌∷◌, ◌++◌, length, Option, None, Some, option_map, option_and_then, IsSome, IfSome, IsSomeAnd}
-use Rattle.apt_outside.specs.Child.{Says, Try, Child, Known, Changes, written_by}
+use Rattle.std.specs.Prelude.{◌≡◌, ◌<◌, ℕ, zero, suc, ◌+◌, ◌-◌, List, [], ◌∷◌, ◌++◌, length, Option, None, Some, option_map, option_and_then, IsSome, IfSome, IsSomeAnd, Vec}
+use Rattle.std.specs.declared.alloc.Global.{Global}
+use Rattle.apt_outside.specs.Child.{Says, Child, State, OfChild, written_by}
 use Rattle.wire_frames.specs.declared.frame.Frame.{Frame}
-use Rattle.wire_frames.specs.Frames.{frame_at}
+use Rattle.wire_frames.specs.Readings.{frame_at}
 
 -- all that a child writes, by the frames that it was sent
 abbrev pub Stream : Type 0
@@ -27,8 +28,8 @@ abbrev pub HasAnswered : Says → Child → Type 0
 HasAnswered says child = rest_after (length child.sent) (written_by says child) ≡ Some child.waiting
 
 -- a fact of a child that had answered each frame, and of the same child later
-abbrev pub WasAnswered : ℕ → Says → Known → Known → (Child → Child → Type 0) → Type 0
-WasAnswered child says known known' P = IfSome (known child) (λ before. HasAnswered says before → IsSomeAnd (known' child) (P before))
+abbrev pub WasAnswered : ℕ → State → State → (Child → Child → Type 0) → Type 0
+WasAnswered child old new P = IfSome (old.known child) (λ before. HasAnswered old.says before → IsSomeAnd (new.known child) (P before))
 
 -- a frame was sent to the child, and this is the answer to it
 pub record Exchanged (says : Says) (frame : List ℕ) (answer : Option Frame) (before after : Child) : Type 0 where
@@ -38,38 +39,36 @@ pub record Exchanged (says : Says) (frame : List ℕ) (answer : Option Frame) (b
   pub answer_is : answer ≡ answer_to (says before.name before.command) after.sent
   pub answered : IsSome answer → HasAnswered says after
 
-pub record Exchanges (child : ℕ) (says : Says) (known known' : Known) (frame : List ℕ) (answer : Option Frame) : Type 0 where
-  pub exchanged : WasAnswered child says known known' (Exchanged says frame answer)
-
--- what a call on one child leaves as it was: what children say, who was tried, and each other child
-pub record Attends (child : ℕ) (says says' : Says) (tried tried' : List Try) (known known' : Known) : Type 0 where
-  pub same_says : says' ≡ says
-  pub same_tried : tried' ≡ tried
-  pub change : Changes child known known'
+pub record Exchanges (child : ℕ) (frame : List ℕ) (old new : State) (answer : Option Frame) : Type 0 where
+  pub exchanged : WasAnswered child old new (Exchanged old.says frame answer)
 
 -- these bytes were taken from the front of those that wait
-pub record TakesBytes (child : ℕ) (known known' : Known) (bytes : List ℕ) : Type 0 where
-  pub split : IfSome (known child) (λ before. IsSomeAnd (known' child) (λ after. (after.sent ≡ before.sent) × (before.waiting ≡ bytes ++ after.waiting)))
+pub record TakesBytes (child : ℕ) (old new : State) (bytes : List ℕ) : Type 0 where
+  pub split : OfChild child old new (λ before after. (after.sent ≡ before.sent) × (before.waiting ≡ bytes ++ after.waiting))
 
--- bytes were taken from the front of those that wait, and added to the old ones
-pub record TakesMore (child : ℕ) (known known' : Known) (old new : List ℕ) : Type 0 where
+-- bytes were taken from the front of those that wait, and added to these
+pub record TakesMore (child : ℕ) (old new : State) (bytes bytes' : List ℕ) : Type 0 where
   pub more : List ℕ
-  pub added : new ≡ old ++ more
-  pub taken : TakesBytes child known known' more
+  pub added : bytes' ≡ bytes ++ more
+  pub taken : TakesBytes child old new more
+
+-- none was given only where none waits
+abbrev pub EndsAtNone : ℕ → State → ℕ → Type 0
+EndsAtNone child old n = n ≡ 0 → IfSome (old.known child) (λ before. before.waiting ≡ [])
 
 -- fewer bytes wait than were wanted, and there will be no more
-pub record WantsMore (child : ℕ) (known known' : Known) (count : ℕ) : Type 0 where
-  pub few : IfSome (known child) (λ before. IsSomeAnd (known' child) (λ after. (after.sent ≡ before.sent) × (length before.waiting < count)))
+pub record WantsMore (child : ℕ) (old new : State) (count : ℕ) : Type 0 where
+  pub few : OfChild child old new (λ before after. (after.sent ≡ before.sent) × (length before.waiting < count))
 
 -- so many bytes were taken, or there are fewer
-abbrev pub TakesCount : ℕ → Known → Known → ℕ → Option (List ℕ) → Type 0
-TakesCount child known known' count None = WantsMore child known known' count
-TakesCount child known known' count (Some bytes) = (length bytes ≡ count) × TakesBytes child known known' bytes
+abbrev pub TakesCount : ℕ → ℕ → State → State → Option (Vec ℕ Global) → Type 0
+TakesCount child count old new None = WantsMore child old new count
+TakesCount child count old new (Some bytes) = (length bytes.items ≡ count) × TakesBytes child old new bytes.items
 
 -- the frame that stands first was taken from the bytes that wait, or none does
 abbrev pub FindsFrame : List ℕ → Option Frame → List ℕ → Type 0
 FindsFrame waiting None left = frame_at waiting ≡ None
 FindsFrame waiting (Some frame) left = frame_at waiting ≡ Some (frame, left)
 
-pub record TakesFrame (child : ℕ) (known known' : Known) (found : Option Frame) : Type 0 where
-  pub first : IfSome (known child) (λ before. IsSomeAnd (known' child) (λ after. (after.sent ≡ before.sent) × FindsFrame before.waiting found after.waiting))
+pub record TakesFrame (child : ℕ) (old new : State) (found : Option Frame) : Type 0 where
+  pub first : OfChild child old new (λ before after. (after.sent ≡ before.sent) × FindsFrame before.waiting found after.waiting)

@@ -1,7 +1,8 @@
 // Takes bytes and frames from a child.
-ghost use Rattle.std.specs.Prelude.{◌≡◌, ◌<◌, ◌≤◌, ◌+◌, [], length, Contains, IfOk, IfSome, option_map};
+ghost use Rattle.std.specs.Prelude.{◌≡◌, ◌<◌, ◌≤◌, ◌+◌, length, Contains, IfOk, OnOk, IfSome};
 ghost use Rattle.apt_outside.specs.Count.{HasCause, Told};
-ghost use Rattle.child_session.specs.Talk.{Attends, TakesMore, TakesCount, TakesFrame, Exchanges};
+ghost use Rattle.apt_outside.specs.Child.{Attends};
+ghost use Rattle.child_session.specs.Talk.{TakesMore, EndsAtNone, TakesCount, TakesFrame, Exchanges};
 
 use apt_outside::{Children, Fault};
 use std::alloc::Global;
@@ -16,19 +17,17 @@ fn receive_more<C: Children>(
     room: &mut [u8],
     bytes: &mut Vec<u8>,
 ) -> Result<usize, Fault>
-    requires lives { Contains (C.live children.old) child }
+    requires lives { Contains (C.state children.old).live child }
     requires room { 0 < length room.old }
     ensures cause { HasCause (C.faults children.old) (C.faults children.new) result }
-    ensures starts { C.starts children.new ≡ C.starts children.old }
-    ensures live { C.live children.new ≡ C.live children.old }
-    ensures attends { Told C.tells (Attends child (C.says children.old) (C.says children.new)
-        (C.tried children.old) (C.tried children.new) (C.known children.old) (C.known children.new)) }
+    ensures starts { (C.state children.new).starts ≡ (C.state children.old).starts }
+    ensures live { (C.state children.new).live ≡ (C.state children.old).live }
+    ensures attends { Told C.tells (Attends child (C.state children.old) (C.state children.new)) }
     ensures fits { IfOk result (λ n. n ≤ length room.old) }
     ensures counted { IfOk result (λ n. length bytes.new.items ≡ length bytes.old.items + n) }
-    ensures taken { Told C.tells (IfOk result (λ n. TakesMore child (C.known children.old)
-        (C.known children.new) bytes.old.items bytes.new.items)) }
-    ensures ended { Told C.tells (IfOk result (λ n. n ≡ 0 → IfSome (C.known children.old child)
-        (λ before. before.waiting ≡ []))) }
+    ensures taken { Told C.tells (OnOk result
+        (TakesMore child (C.state children.old) (C.state children.new) bytes.old.items bytes.new.items)) }
+    ensures ended { Told C.tells (IfOk result (EndsAtNone child (C.state children.old))) }
 {
     let got = children.receive(child, room)?;
     bytes.extend_from_slice(&room[..got])?;
@@ -42,15 +41,14 @@ fn receive_bytes<C: Children>(
     child: u32,
     count: usize,
 ) -> Result<Option<Vec<u8>>, Fault>
-    requires lives { Contains (C.live children.old) child }
+    requires lives { Contains (C.state children.old).live child }
     ensures cause { HasCause (C.faults children.old) (C.faults children.new) result }
-    ensures starts { C.starts children.new ≡ C.starts children.old }
-    ensures live { C.live children.new ≡ C.live children.old }
-    ensures attends { Told C.tells (Attends child (C.says children.old) (C.says children.new)
-        (C.tried children.old) (C.tried children.new) (C.known children.old) (C.known children.new)) }
+    ensures starts { (C.state children.new).starts ≡ (C.state children.old).starts }
+    ensures live { (C.state children.new).live ≡ (C.state children.old).live }
+    ensures attends { Told C.tells (Attends child (C.state children.old) (C.state children.new)) }
     ensures counted { IfOk result (λ found. IfSome found (λ bytes. length bytes.items ≡ count)) }
-    ensures taken { Told C.tells (IfOk result (λ found. TakesCount child (C.known children.old)
-        (C.known children.new) count (option_map (λ bytes. bytes.items) found))) }
+    ensures taken { Told C.tells (IfOk result
+        (TakesCount child count (C.state children.old) (C.state children.new))) }
 {
     let mut room = [0u8; ROOM];
     let mut bytes = Vec::new(alloc);
@@ -70,14 +68,13 @@ fn read_frame<C: Children>(
     children: &mut C,
     child: u32,
 ) -> Result<Option<Frame>, Fault>
-    requires lives { Contains (C.live children.old) child }
+    requires lives { Contains (C.state children.old).live child }
     ensures cause { HasCause (C.faults children.old) (C.faults children.new) result }
-    ensures starts { C.starts children.new ≡ C.starts children.old }
-    ensures live { C.live children.new ≡ C.live children.old }
-    ensures attends { Told C.tells (Attends child (C.says children.old) (C.says children.new)
-        (C.tried children.old) (C.tried children.new) (C.known children.old) (C.known children.new)) }
-    ensures taken { Told C.tells (IfOk result (λ found. TakesFrame child (C.known children.old)
-        (C.known children.new) found)) }
+    ensures starts { (C.state children.new).starts ≡ (C.state children.old).starts }
+    ensures live { (C.state children.new).live ≡ (C.state children.old).live }
+    ensures attends { Told C.tells (Attends child (C.state children.old) (C.state children.new)) }
+    ensures taken { Told C.tells (IfOk result
+        (TakesFrame child (C.state children.old) (C.state children.new))) }
 {
     let Some(head) = receive_bytes(alloc, children, child, 4)? else {
         return Ok(None);
@@ -101,15 +98,13 @@ pub fn exchange<C: Children>(
     child: u32,
     frame: &[u8],
 ) -> Result<Option<Frame>, Fault>
-    requires lives { Contains (C.live children.old) child }
+    requires lives { Contains (C.state children.old).live child }
     ensures cause { HasCause (C.faults children.old) (C.faults children.new) result }
-    ensures starts { C.starts children.new ≡ C.starts children.old }
-    ensures live { C.live children.new ≡ C.live children.old }
-    ensures attends { Told C.tells (Attends child (C.says children.old) (C.says children.new)
-        (C.tried children.old) (C.tried children.new) (C.known children.old) (C.known children.new)) }
+    ensures starts { (C.state children.new).starts ≡ (C.state children.old).starts }
+    ensures live { (C.state children.new).live ≡ (C.state children.old).live }
+    ensures attends { Told C.tells (Attends child (C.state children.old) (C.state children.new)) }
     ensures answer { Told C.tells (IfOk result
-        (λ answer. Exchanges child (C.says children.old) (C.known children.old) (C.known children.new)
-        frame.now answer)) }
+        (Exchanges child frame.now (C.state children.old) (C.state children.new))) }
 {
     children.send(child, frame)?;
     read_frame(alloc, children, child)

@@ -4,8 +4,9 @@ ghost use Rattle.apt_outside.specs.Count.{Told};
 ghost use Rattle.wire_frames.specs.Frames.{spelling};
 ghost use Rattle.wire_frames.specs.declared.frame.Frame.TheVariants as frames;
 ghost use Rattle.child_session.specs.Faults.{HasReason, IsFree};
-ghost use Rattle.child_session.specs.Talk.{Attends, Exchanges};
-ghost use Rattle.child_session.specs.Round.{turn_at, reply_to, reply_frame, filed_after, printed_after, Shows};
+ghost use Rattle.apt_outside.specs.Child.{Attends};
+ghost use Rattle.child_session.specs.Talk.{Exchanges};
+ghost use Rattle.child_session.specs.Round.{showing_of, turn_at, reply_to, reply_frame, filed_after, printed_after, Shows};
 
 use crate::SessionFault;
 use crate::receiving::exchange;
@@ -88,18 +89,16 @@ fn take_turn<C: Children>(
     filer: &mut Filer,
     printed: &mut List<Message>,
 ) -> Result<Option<Frame>, SessionFault>
-    requires lives { Contains (C.live children.old) child }
+    requires lives { Contains (C.state children.old).live child }
     ensures reason { HasReason (C.faults children.old) (C.faults children.new) result }
-    ensures starts { C.starts children.new ≡ C.starts children.old }
-    ensures live { C.live children.new ≡ C.live children.old }
-    ensures attends { Told C.tells (Attends child (C.says children.old) (C.says children.new)
-        (C.tried children.old) (C.tried children.new) (C.known children.old) (C.known children.new)) }
+    ensures starts { (C.state children.new).starts ≡ (C.state children.old).starts }
+    ensures live { (C.state children.new).live ≡ (C.state children.old).live }
+    ensures attends { Told C.tells (Attends child (C.state children.old) (C.state children.new)) }
     ensures filed { OnOk result (filer.new ≡ filed_after filer.old request) }
     ensures printed { OnOk result (printed.new ≡ printed_after printed.old request) }
     ensures free { IsFree result }
     ensures answer { Told C.tells (IfOk result
-        (λ answer. Exchanges child (C.says children.old) (C.known children.old) (C.known children.new)
-        (reply_frame filer.old request) answer)) }
+        (Exchanges child (reply_frame filer.old request) (C.state children.old) (C.state children.new))) }
 {
     let reply = serve(filer, printed, request)?;
     let frame = reply_bytes(alloc, reply)?;
@@ -119,14 +118,13 @@ pub fn show_round<C: Children>(
     limit: u32,
     filer: &mut Filer,
 ) -> Result<List<Message>, SessionFault>
-    requires lives { Contains (C.live children.old) child }
+    requires lives { Contains (C.state children.old).live child }
     ensures reason { HasReason (C.faults children.old) (C.faults children.new) result }
-    ensures starts { C.starts children.new ≡ C.starts children.old }
-    ensures live { C.live children.new ≡ C.live children.old }
-    ensures attends { Told C.tells (Attends child (C.says children.old) (C.says children.new)
-        (C.tried children.old) (C.tried children.new) (C.known children.old) (C.known children.new)) }
-    ensures shown { Told C.tells (Shows child (C.says children.old) (C.known children.old)
-        (C.known children.new) (record { limit = limit; round = round.now }) filer.old filer.new result) }
+    ensures starts { (C.state children.new).starts ≡ (C.state children.old).starts }
+    ensures live { (C.state children.new).live ≡ (C.state children.old).live }
+    ensures attends { Told C.tells (Attends child (C.state children.old) (C.state children.new)) }
+    ensures shown { Told C.tells (Shows child (showing_of limit round.now)
+        (C.state children.old) (C.state children.new) filer.old filer.new result) }
 {
     let mut printed = List::new(alloc);
     let mut answer = exchange(alloc, children, child, round)?;

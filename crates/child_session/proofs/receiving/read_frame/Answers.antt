@@ -1,5 +1,5 @@
 use Rattle.std.proofs.Common.{◌≡◌, None, Some, sym, ap, ◌∙◌, length}
-use Rattle.wire_frames.specs.Frames.{length_of, child_frame}
+use Rattle.wire_frames.specs.Readings.{length_of, child_frame}
 use Rattle.child_session.proofs.Taking.{no_length, bad_length, cut_frame, whole_frame}
 use Rattle.child_session.proofs.receiving.read_frame.Goals as goal
 

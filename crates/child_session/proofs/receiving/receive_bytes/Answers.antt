@@ -9,7 +9,7 @@ loop-room-preserved g c = record {
   starts = c.receive_more.ensures.starts ∙ c.loop-room.invariant.starts;
   live = c.receive_more.ensures.live ∙ c.loop-room.invariant.live;
   within = omega (arith, c.in_ok-receive_more.ensures.counted, c.in_ok-receive_more.ensures.fits, length-take c.min-wanted.result c.loop-room.room);
-  attends = λ told. attends_then _ _ _ _ _ _ _ _ _ _ (c.loop-room.invariant.attends told) (c.receive_more.ensures.attends told);
+  attends = λ told. attends_then _ _ _ _ (c.loop-room.invariant.attends told) (c.receive_more.ensures.attends told);
   taken = λ told. more_then _ _ _ _ _ _ (c.loop-room.invariant.taken told) (c.in_ok-receive_more.ensures.taken told);
 }
 

@@ -1,7 +1,7 @@
 use Rattle.std.proofs.Common.{◌≡◌, ◌-◌, ◌≤◌}
 use Rattle.apt_outside.specs.Count.{Told}
-use Rattle.child_session.specs.Talk.{Attends}
-use Rattle.child_session.specs.Round.{GoesOn}
+use Rattle.apt_outside.specs.Child.{Attends}
+use Rattle.child_session.specs.Round.{showing_of, GoesOn}
 use Rattle.child_session.proofs.round.show_round.Given as goal
 
 -- the round goes on with the answers that are left
@@ -10,8 +10,8 @@ invariant-loop-count g l =
     let C = g.C.Children in
     record {
       later : C.faults l.fn.children ≤ C.faults l.children;
-      starts : C.starts l.children ≡ C.starts l.fn.children;
-      live : C.live l.children ≡ C.live l.fn.children;
-      attends : Told C.tells (Attends l.child (C.says l.fn.children) (C.says l.children) (C.tried l.fn.children) (C.tried l.children) (C.known l.fn.children) (C.known l.children));
-      goes : Told C.tells (GoesOn l.child (C.says l.fn.children) (C.known l.fn.children) (C.known l.children) (record { limit = l.limit; round = l.fn.round }) l.fn.filer l.filer l.printed (l.limit - l.count) l.answer);
+      starts : (C.state l.children).starts ≡ (C.state l.fn.children).starts;
+      live : (C.state l.children).live ≡ (C.state l.fn.children).live;
+      attends : Told C.tells (Attends l.child (C.state l.fn.children) (C.state l.children));
+      goes : Told C.tells (GoesOn l.child (showing_of l.limit l.fn.round) (C.state l.fn.children) (C.state l.children) l.fn.filer l.filer l.printed (l.limit - l.count) l.answer);
     }

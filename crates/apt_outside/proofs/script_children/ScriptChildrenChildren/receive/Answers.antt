@@ -1,6 +1,6 @@
 use Rattle.std.proofs.Common.{◌≡◌, ◌<◌, ◌≤◌, ◌++◌, [], length, drop, take, ap, sym, subst, rules}
 use Rattle.apt_outside.specs.Scripted.{IsJoined, said_of}
-use Rattle.apt_outside.proofs.ChildLemmas.{changes, takes_set, lives_set, fits_given, receives, found_at}
+use Rattle.apt_outside.proofs.ChildLemmas.{attends, takes_set, lives_set, fits_given, receives, found_at}
 use Rattle.apt_outside.proofs.JoinedLemmas.{joined_same, each_set}
 use Rattle.apt_outside.proofs.script_children.ScriptChildrenChildren.receive.Goals as goal
 
@@ -31,13 +31,13 @@ invariant_of-self c =
       lives = lives_set c.args.self.now.live.items started c.args.child new c.args.self.now.lives;
     }
 
-pub returns-clause-change : goal.returns-clause-change
-returns-clause-change c = λ _.
+pub returns-clause-attends : goal.returns-clause-attends
+returns-clause-attends c = λ _.
     let is = found_at c.args.self.now.started.items c.args.child c.index_mut.result.now (c.args.self.now.lives c.args.child c.requires.lives) c.index_mut.ensures.value in
-    changes c.args.self.now.scripts.items c.args.self.now.started.items c.args.child c.index_mut.result.now c.give.new.started is (ap (λ s. s.call) c.give.ensures.rest)
+    attends c.args.self.now.scripts.items c.args.self.now.started.items c.args.child c.index_mut.result.now c.give.new.started is c.args.self.now.live.items c.args.self.now.tried.items (ap (λ s. s.call) c.give.ensures.rest)
 
-pub returns-clause-received : goal.returns-clause-received
-returns-clause-received c = λ _.
+pub returns-clause-read : goal.returns-clause-read
+returns-clause-read c = λ _.
     let scripts = c.args.self.now.scripts.items in
     let started = c.args.self.now.started.items in
     let old = c.index_mut.result.now in
@@ -49,4 +49,4 @@ returns-clause-received c = λ _.
     subst (λ said. drop old.taken said ≡ bytes ++ drop new.taken said) joined.said c.give.ensures.given in
     let ended : bytes ≡ [] → drop old.taken (said_of scripts old) ≡ [] =
     subst (λ said. bytes ≡ [] → drop old.taken said ≡ []) joined.said c.give.ensures.ended in
-    receives scripts started c.args.child old new is (ap (λ s. s.call) c.give.ensures.rest) (c.args.self.now.takes c.args.child old is) bytes (ap (λ s. s.sent) c.give.ensures.rest) given ended
+    receives scripts started c.args.child old new is (ap (λ s. s.call) c.give.ensures.rest) (c.args.self.now.takes c.args.child old is) c.args.self.now.live.items c.args.self.now.tried.items c.give.new.room c.give.result (ap (λ s. s.sent) c.give.ensures.rest) given ended

@@ -1,6 +1,6 @@
 use Rattle.std.proofs.Common.{◌≡◌, ◌<◌, ◌++◌, ◌∷◌, [], length, rules}
 use Rattle.apt_outside.specs.Scripted.{IsJoined, frames_of}
-use Rattle.apt_outside.proofs.ChildLemmas.{changes, takes_set, lives_set, fits_either, sends, found_at}
+use Rattle.apt_outside.proofs.ChildLemmas.{attends, takes_set, lives_set, fits_either, sends, found_at}
 use Rattle.apt_outside.proofs.JoinedLemmas.{each_set, kept}
 use Rattle.apt_outside.proofs.script_children.ScriptChildrenChildren.send.Goals as goal
 
@@ -23,24 +23,24 @@ invariant_of-self c =
       lives = lives_set c.args.self.now.live.items c.args.self.now.started.items c.args.child c.add_frame.new.started c.args.self.now.lives;
     }
 
-pub returns-in_err-add_frame-clause-change : goal.returns-in_err-add_frame-clause-change
-returns-in_err-add_frame-clause-change c = λ _.
+pub returns-in_err-add_frame-clause-attends : goal.returns-in_err-add_frame-clause-attends
+returns-in_err-add_frame-clause-attends c = λ _.
     let is = found_at c.args.self.now.started.items c.args.child c.index_mut.result.now (c.args.self.now.lives c.args.child c.requires) c.index_mut.ensures.value in
-    changes c.args.self.now.scripts.items c.args.self.now.started.items c.args.child c.index_mut.result.now c.add_frame.new.started is c.add_frame.ensures.call
+    attends c.args.self.now.scripts.items c.args.self.now.started.items c.args.child c.index_mut.result.now c.add_frame.new.started is c.args.self.now.live.items c.args.self.now.tried.items c.add_frame.ensures.call
 
 pub returns-in_err-add_frame-clause-memory : goal.returns-in_err-add_frame-clause-memory
 returns-in_err-add_frame-clause-memory c = λ _ _.
     let is = found_at c.args.self.now.started.items c.args.child c.index_mut.result.now (c.args.self.now.lives c.args.child c.requires) c.index_mut.ensures.value in
     kept c.args.self.now.scripts.items c.args.self.now.started.items c.args.child c.index_mut.result.now c.add_frame.new.started is c.add_frame.ensures.call c.add_frame.ensures.taken (search rules)
 
-pub returns-clause-change : goal.returns-clause-change
-returns-clause-change c = λ _.
+pub returns-clause-attends : goal.returns-clause-attends
+returns-clause-attends c = λ _.
     let is = found_at c.args.self.now.started.items c.args.child c.index_mut.result.now (c.args.self.now.lives c.args.child c.requires) c.index_mut.ensures.value in
-    changes c.args.self.now.scripts.items c.args.self.now.started.items c.args.child c.index_mut.result.now c.add_frame.new.started is c.add_frame.ensures.call
+    attends c.args.self.now.scripts.items c.args.self.now.started.items c.args.child c.index_mut.result.now c.add_frame.new.started is c.args.self.now.live.items c.args.self.now.tried.items c.add_frame.ensures.call
 
 pub returns-clause-sent : goal.returns-clause-sent
 returns-clause-sent c = λ _.
     let is = found_at c.args.self.now.started.items c.args.child c.index_mut.result.now (c.args.self.now.lives c.args.child c.requires) c.index_mut.ensures.value in
     let fits = c.args.self.now.takes c.args.child c.index_mut.result.now is in
     let frames : frames_of c.add_frame.new.started ≡ frames_of c.index_mut.result.now ++ c.args.frame.now ∷ [] = search rules in
-    sends c.args.self.now.scripts.items c.args.self.now.started.items c.args.child c.index_mut.result.now c.add_frame.new.started is c.add_frame.ensures.call fits c.args.frame.now c.add_frame.ensures.taken frames
+    sends c.args.self.now.scripts.items c.args.self.now.started.items c.args.child c.index_mut.result.now c.add_frame.new.started is c.add_frame.ensures.call fits c.args.self.now.live.items c.args.self.now.tried.items c.args.frame.now c.add_frame.ensures.taken frames

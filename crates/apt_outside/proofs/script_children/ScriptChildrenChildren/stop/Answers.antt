@@ -1,7 +1,7 @@
-use Rattle.std.proofs.Common.{◌≡◌, ◌==◌, not, sym, subst, rules}
+use Rattle.std.proofs.Common.{◌≡◌, ◌==◌, not, refl, sym, subst, rules}
 use Rattle.std.proofs.lemmas.Fn.{filter_same}
 use Rattle.apt_outside.specs.Child.{without}
-use Rattle.apt_outside.specs.Scripted.{LiveStarted, known_of}
+use Rattle.apt_outside.specs.Scripted.{LiveStarted}
 use Rattle.apt_outside.proofs.ChildLemmas.{lives_filter, stays_sent}
 use Rattle.apt_outside.proofs.script_children.ScriptChildrenChildren.stop.Goals as goal
 
@@ -18,4 +18,4 @@ pub returns-clause-live : goal.returns-clause-live
 returns-clause-live c = filter_same _ _ _ (λ x b f' told. search rules) _ _ c.retain.ensures.filtered
 
 pub returns-clause-sent : goal.returns-clause-sent
-returns-clause-sent c = λ _. stays_sent c.args.child (known_of c.args.self.now.scripts.items c.args.self.now.started.items)
+returns-clause-sent c = λ _. stays_sent c.args.child _ _ refl
