@@ -12,8 +12,8 @@ use Rattle.std.proofs.lemmas.Slice.Eq.{bytes_eq-Decides}
 use Rattle.apt_base.specs.declared.element.ElementRef.{ElementRef}
 use Rattle.wire_frames.specs.declared.frame.Creation.{Creation}
 use Rattle.wire_frames.specs.declared.frame.Creation.TheVariants.{Source, Resource, Class}
-use Rattle.wire_frames.specs.declared.frame.Created.{Created}
-use Rattle.wire_frames.specs.declared.frame.Created.TheVariants.{Accepted, Exists, Unsupported, BadName, TooLarge}
+use Rattle.wire_frames.specs.declared.reply.Created.{Created}
+use Rattle.wire_frames.specs.declared.reply.Created.TheVariants.{Accepted, Exists, Unsupported, BadName, TooLarge}
 use Rattle.apt_filer.specs.Names.{is_well_named}
 use Rattle.apt_filer.specs.Filing.{path_of, content_of, size_of, total_of, type_name_of, is_class, has_path, has_type, is_there, is_too_large, answer_to, Filings, filed}
 use Rattle.apt_filer.specs.Index.{TextSet, HasExactly, IsIndex}

@@ -5,8 +5,8 @@ use Rattle.std.specs.Option.{option_map_or}
 use Rattle.std.specs.Str.{bytes_eq}
 use Rattle.wire_frames.specs.declared.frame.Creation.{Creation}
 use Rattle.wire_frames.specs.declared.frame.Creation.TheVariants.{Source, Resource, Class}
-use Rattle.wire_frames.specs.declared.frame.Created.{Created}
-use Rattle.wire_frames.specs.declared.frame.Created.TheVariants.{Accepted, Exists, Unsupported, BadName, TooLarge}
+use Rattle.wire_frames.specs.declared.reply.Created.{Created}
+use Rattle.wire_frames.specs.declared.reply.Created.TheVariants.{Accepted, Exists, Unsupported, BadName, TooLarge}
 use Rattle.apt_filer.specs.Names.{is_well_named}
 
 -- ---- paths

@@ -2,7 +2,7 @@
 ghost use Rattle.std.specs.Prelude.{◌≡◌, ◌+◌, ◌≤◌, nat_le, false, [], IfOk, OnOk, OnErr};
 ghost use Rattle.apt_filer.specs.Filing.{Filings, path_of, content_of, size_of, total_of, has_path, is_class, is_there, is_too_large, answer_to, filed};
 ghost use Rattle.apt_filer.specs.Index.{HasExactly};
-ghost use Rattle.wire_frames.specs.declared.frame.Created.TheVariants.{Accepted};
+ghost use Rattle.wire_frames.specs.declared.reply.Created.TheVariants.{Accepted};
 
 use crate::names::is_well_named;
 use crate::paths::path_of;

@@ -1,5 +1,6 @@
 // The frames for which words stand.
 use crate::base::{Claim, List, Name, element, elements};
+use crate::frame_asked;
 use case_lines::{CaseFault, hex_bytes, items, name, names, truth, value};
 use std::alloc::Global;
 use wire_frames::{Created, Creation, Frame, Hello, Init, Message, Reply};
@@ -136,6 +137,6 @@ fn child_frame(alloc: Global, words: &[&str]) -> Result<Frame, CaseFault> {
         }
         ["class", name, content, origins] => class(alloc, [name, content, origins]),
         ["message", kind, element, text] => message(alloc, [kind, element, text]),
-        _ => Err(CaseFault::NotACase),
+        _ => frame_asked::frame(alloc, words),
     }
 }

@@ -87,5 +87,6 @@ pub fn frame(alloc: Global, frame: &Frame) -> Result<String, CaseFault> {
         Frame::Init(_) | Frame::Round { .. } | Frame::Reply(_) => {
             Ok(String::from_str(alloc, "a frame of the host")?)
         }
+        Frame::Ask(_) => Ok(String::from_str(alloc, "a question")?),
     }
 }

@@ -7,6 +7,7 @@
 mod base;
 mod copies;
 mod fields;
+mod frame_asked;
 mod frame_read;
 mod frame_shown;
 mod records;

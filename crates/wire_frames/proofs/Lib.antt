@@ -1,4 +1,7 @@
-pub mod Sizes
+pub mod Added
+pub mod Parts
+pub mod Rows
 pub mod Texts
-pub mod FieldLaws
-pub mod FrameLaws
+pub mod Scanned
+pub mod ChildFrames
+pub mod Again

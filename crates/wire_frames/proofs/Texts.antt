@@ -1,9 +1,9 @@
--- Reading texts one after the other, as a loop does; and texts of which none stands twice.
-use Rattle.std.proofs.Common.{◌≡◌, ℕ, suc, ◌-◌, ◌+◌, ◌≤◌, ◌<◌, Bool, true, false, cond, not, ◌&&◌, eqb, List, [], ◌∷◌, ◌++◌, length, map, Bor, Ordering, Option, Some, None, refl, sym, ap, ◌∙◌, append_assoc, arith}
+-- Texts of which none stands twice, as a set of them shows.
+use Rattle.std.proofs.Common.{◌≡◌, ℕ, suc, ◌<◌, Bool, true, false, cond, not, ◌&&◌, eqb, List, [], ◌∷◌, length, map, Bor, Ordering, refl, sym, ap, ◌∙◌, arith}
 use lib.Dec.{eqb-suc-suc}
 use Rattle.std.specs.List.{list_any}
 use Rattle.std.specs.Str.{bytes_eq}
-use Rattle.std.proofs.lemmas.List.{append-nil, length-map}
+use Rattle.std.proofs.lemmas.List.{length-map}
 use Rattle.std.specs.Cmp.{IsTotalOrder}
 use Rattle.std.specs.Cmp.Lexicographic.{slice_cmp}
 use Rattle.std.specs.Ordering.{nat_cmp, eq_by_cmp}
@@ -14,40 +14,7 @@ use Rattle.std.proofs.lemmas.Cmp.{on_total, nat_list_cmp_total}
 use Rattle.std.proofs.lemmas.Map.Made.{distinct_count-le}
 use Rattle.std.proofs.lemmas.Map.Text.{is_eq-slice_cmp}
 use Rattle.std.proofs.lemmas.Map.Views.{btree_set_len-from_list}
-use Rattle.apt_base.specs.Fields.{◌>>=◌, text_next}
-use Rattle.wire_frames.specs.Frames.{texts_next, are_distinct}
-
--- what was read before, and what is still read
-abbrev pub with_front : List (List ℕ) → Option (List (List ℕ) × List ℕ) → Option (List (List ℕ) × List ℕ)
-with_front front read = read >>= λ x. Some (front ++ x.0, x.1)
-
-regroup : (front : List (List ℕ)) (text : List ℕ) (read : Option (List (List ℕ) × List ℕ)) → with_front front (read >>= λ x. Some (text ∷ x.0, x.1)) ≡ with_front (front ++ text ∷ []) read
-regroup front text (Some x) = ap (λ (texts : List (List ℕ)). Some (texts, x.1)) (simp append_assoc)
-regroup front text None = refl
-
-pub goes_on : (front : List (List ℕ)) (count i : ℕ) (bytes text after : List ℕ) (total : Option (List (List ℕ) × List ℕ)) → i < count → text_next bytes ≡ Some (text, after)
-    → with_front front (texts_next (count - i) bytes) ≡ total → with_front (front ++ text ∷ []) (texts_next (count - (i + 1)) after) ≡ total
-unfolding texts_next
-goes_on front count i bytes text after total lt h so_far =
-    let k : count - i ≡ suc (count - (i + 1)) = omega arith in
-    let one : with_front front (texts_next (count - i) bytes) ≡ with_front (front ++ text ∷ []) (texts_next (count - (i + 1)) after) = rw (k, h) (regroup front text (texts_next (count - (i + 1)) after)) in
-    sym one ∙ so_far
-
-pub ends : (front : List (List ℕ)) (count i : ℕ) (bytes : List ℕ) (total : Option (List (List ℕ) × List ℕ)) → i < count → text_next bytes ≡ None
-    → with_front front (texts_next (count - i) bytes) ≡ total → total ≡ None
-unfolding texts_next
-ends front count i bytes total lt h so_far =
-    let k : count - i ≡ suc (count - (i + 1)) = omega arith in
-    let one : with_front front (texts_next (count - i) bytes) ≡ None = rw (k, h) refl in
-    sym so_far ∙ one
-
-pub is_done : (front : List (List ℕ)) (count i : ℕ) (bytes : List ℕ) (total : Option (List (List ℕ) × List ℕ)) → count ≤ i
-    → with_front front (texts_next (count - i) bytes) ≡ total → total ≡ Some (front, bytes)
-unfolding texts_next
-is_done front count i bytes total le so_far =
-    let k : count - i ≡ 0 = omega arith in
-    let one : with_front front (texts_next (count - i) bytes) ≡ Some (front, bytes) = rw k (ap (λ (texts : List (List ℕ)). Some (texts, bytes)) (append-nil front)) in
-    sym so_far ∙ one
+use Rattle.wire_frames.specs.Readings.{are_distinct}
 
 -- ---- no text twice, as a set of them shows
 

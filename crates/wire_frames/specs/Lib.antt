@@ -1,2 +1,4 @@
 pub mod Frames
-pub mod Sizes
+pub mod Outputs
+pub mod Spellings
+pub mod Readings

@@ -1,6 +1,9 @@
 // The frames and what they are made of.
 ghost use Rattle.std.specs.Prelude.{◌≡◌, IfOk};
 
+use crate::copying::{copy_content, copy_elements, copy_optional_element};
+use crate::question::Question;
+use crate::reply::Reply;
 use apt_base::{Claim, ElementRef, List, Name, NoMemory, copy_names};
 use std::alloc::Global;
 
@@ -24,30 +27,6 @@ pub struct Hello {
     pub options: List<Name>,
     /// Whether it claims what it is offered.
     pub claim: Claim,
-}
-
-/// What became of a creation.
-#[derive(Clone, Copy, Debug, PartialEq, Eq)]
-pub enum Created {
-    /// The file is created.
-    Accepted,
-    /// A file of that name is there already.
-    Exists,
-    /// A file can't be created at that location.
-    Unsupported,
-    /// The name is none of a file or a type.
-    BadName,
-    /// The file is too large.
-    TooLarge,
-}
-
-/// The host's answer to a child's frame in a round.
-#[derive(Clone, Copy)]
-pub enum Reply {
-    /// To a creation.
-    Created(Created),
-    /// To a message.
-    Noted,
 }
 
 /// A file that a child creates (JSR 269, `Filer`).
@@ -128,6 +107,8 @@ pub enum Frame {
     Create(Creation),
     /// The child's, which the host answers by `Reply::Noted`.
     Message(Message),
+    /// The child's, which the host answers by the reply of its question.
+    Ask(Question),
 }
 
 // ---- copies
@@ -147,31 +128,6 @@ pub fn copy_options(alloc: Global, options: &[(Name, Name)]) -> Result<List<(Nam
         copies.push(copy_option(each)?)?;
     }
     Ok(copies)
-}
-
-fn copy_origins(alloc: Global, origins: &[ElementRef]) -> Result<List<ElementRef>, NoMemory>
-    ensures { IfOk result (λ list. list ≡ origins.now) }
-{
-    let mut copies = List::new(alloc);
-    for each in origins {
-        copies.push(each.copy(alloc)?)?;
-    }
-    Ok(copies)
-}
-
-fn copy_content(alloc: Global, content: &List<u8>) -> Result<List<u8>, NoMemory>
-    ensures { IfOk result (λ list. list ≡ content.now) }
-{
-    Ok(List::from_vec(content.as_slice().to_vec(alloc)?))
-}
-
-fn copy_element(alloc: Global, element: &Option<ElementRef>) -> Result<Option<ElementRef>, NoMemory>
-    ensures { IfOk result (λ copy. copy ≡ element.now) }
-{
-    match element {
-        None => Ok(None),
-        Some(element) => Ok(Some(element.copy(alloc)?)),
-    }
 }
 
 impl Init {
@@ -213,7 +169,7 @@ impl Creation {
             } => Ok(Creation::Source {
                 name: name.copy()?,
                 content: copy_content(alloc, content)?,
-                origins: copy_origins(alloc, origins.as_slice())?,
+                origins: copy_elements(alloc, origins.as_slice())?,
             }),
             Creation::Resource {
                 location,
@@ -226,7 +182,7 @@ impl Creation {
                 package: package.copy()?,
                 relative: relative.copy()?,
                 content: copy_content(alloc, content)?,
-                origins: copy_origins(alloc, origins.as_slice())?,
+                origins: copy_elements(alloc, origins.as_slice())?,
             }),
             Creation::Class {
                 name,
@@ -235,7 +191,7 @@ impl Creation {
             } => Ok(Creation::Class {
                 name: name.copy()?,
                 content: copy_content(alloc, content)?,
-                origins: copy_origins(alloc, origins.as_slice())?,
+                origins: copy_elements(alloc, origins.as_slice())?,
             }),
         }
     }
@@ -248,7 +204,7 @@ impl Message {
     {
         Ok(Message {
             kind: self.kind,
-            element: copy_element(alloc, &self.element)?,
+            element: copy_optional_element(alloc, &self.element)?,
             text: self.text.copy()?,
         })
     }
@@ -274,11 +230,12 @@ impl Frame {
                 offered: copy_names(alloc, offered.as_slice())?,
                 roots: copy_names(alloc, roots.as_slice())?,
             }),
-            Frame::Reply(reply) => Ok(Frame::Reply(*reply)),
+            Frame::Reply(reply) => Ok(Frame::Reply(reply.copy(alloc)?)),
             Frame::Hello(hello) => Ok(Frame::Hello(hello.copy(alloc)?)),
             Frame::Done { claimed } => Ok(Frame::Done { claimed: *claimed }),
             Frame::Create(creation) => Ok(Frame::Create(creation.copy(alloc)?)),
             Frame::Message(message) => Ok(Frame::Message(message.copy(alloc)?)),
+            Frame::Ask(question) => Ok(Frame::Ask(question.copy(alloc)?)),
         }
     }
 }

@@ -1,20 +1,29 @@
-//! The frames that the host and a child send each other.
+//! The frames that the host and a child send each other, as values.
 //!
-//! The host sends `Init`, `Round` and the replies `Created` and `Noted`. A child sends `Hello`,
-//! `Done`, the creation of a source file, a resource or a class file, and messages.
+//! The host sends `Init`, `Round` and replies. A child sends `Hello`, `Done`, the creation of a source file, a
+//! resource or a class file, messages, and questions.
 //!
-//! `specs/Frames.antt` has the one spelling of each frame, what a child may send, and how its
-//! frames are read from bytes. Every frame of the type is spelled whole. What is read of a child has
-//! no originating elements and no element of a message yet; other bytes are no frame of a child.
+//! `specs/Frames.antt` says what each frame is in the table of all frames (`frame_forms`), which has its one
+//! spelling. `encode` writes exactly that. `specs/Readings.antt` has what stands next at the front of bytes, and
+//! which frames of a child today's rounds have: no originating elements, no message at an element and no questions
+//! yet. What is read of a child is what the table says of the same bytes.
 //!
 //! Not promised: that a name which a child sends is one of the language, or that an element is there.
 #![tactic(auto)]
 
+mod copying;
+mod form_writing;
 mod frame;
+mod output;
+mod question;
+mod question_writing;
 mod reading;
+mod reply;
 mod tags;
 mod writing;
 
-pub use frame::{Created, Creation, Frame, Hello, Init, Message, Reply, copy_options};
+pub use frame::{Creation, Frame, Hello, Init, Message, copy_options};
+pub use question::Question;
 pub use reading::{frame_length, read_child_frame};
+pub use reply::{Created, Info, Refused, Reply};
 pub use writing::{FrameFault, MAX_FRAME, encode};

@@ -1,32 +1,24 @@
 // Reads the frames of a child.
-ghost use Rattle.std.specs.Prelude.{◌≡◌, ℕ, true, map, length, IfOk, IfSome, Some};
-ghost use Rattle.wire_frames.specs.Frames.{are_distinct, texts_next, distinct_next, claim_of, hello_next, done_next, below_next, origins_next, file_next, resource_next, element_next, message_next, creation_next, fields_next, child_frame, length_of, fields_of, IsFromChild, MaySend};
-ghost use Rattle.wire_frames.specs.declared.frame.Creation.TheVariants as creations;
-ghost use Rattle.apt_base.specs.Fields.{text_next, bytes_next};
+ghost use Rattle.std.specs.Prelude.{◌≡◌, IfOk, IfSome, Some};
+ghost use Rattle.std.specs.List.{list_all};
+ghost use Rattle.apt_base.specs.Fields.{u16_next, bytes_next};
+ghost use Rattle.apt_base.specs.Forms.{mapped, opt_next, list_next};
+ghost use Rattle.apt_base.specs.Identifiers.{is_pattern};
 ghost use Rattle.apt_base.specs.Readings.{Gives, GivesAll};
+ghost use Rattle.wire_frames.specs.Frames.{AreFieldsOf};
+ghost use Rattle.wire_frames.specs.Readings.{is_of_today, has_no_origins, IsOfToday, child_frame, length_of, are_distinct, distinct_next, patterns_next, below_next, claim_next, element_next, hello_next, done_next, file_next, source_of, class_of, resource_next, message_next, fields_next};
 
 use crate::frame::{Creation, Frame, Hello, Message};
-use crate::tags::{CLASS, DONE, HELLO, MESSAGE, RESOURCE, SOURCE};
+use crate::tags;
 use crate::writing::MAX_FRAME;
-use apt_base::{Claim, ElementRef, FieldReader, FormFault, List, Name, NoMemory, read_text};
+use apt_base::{
+    Claim, ElementRef, FieldReader, FormFault, List, Name, NoMemory, is_pattern, read_byte,
+    read_count, read_text, read_texts, read_truth,
+};
 use std::alloc::Global;
 use std::collections::BTreeSet;
 
 // ---- fields
-
-#[tactic(auto, unfolding(crate::specs::Frames::texts_next))]
-fn texts(alloc: Global, count: u32, reader: &mut FieldReader<'_>) -> Result<List<Name>, FormFault>
-    ensures { Gives result (texts_next count reader.old) reader.new }
-{
-    let mut texts = List::new(alloc);
-    for _ in 0..count {
-        let Some(text) = reader.text() else {
-            return Err(FormFault::Bad);
-        };
-        texts.push(Name::new(alloc, text)?)?;
-    }
-    Ok(texts)
-}
 
 fn are_distinct(alloc: Global, texts: &[Name]) -> Result<bool, NoMemory>
     ensures { IfOk result (λ distinct. distinct ≡ are_distinct texts.now) }
@@ -35,59 +27,62 @@ fn are_distinct(alloc: Global, texts: &[Name]) -> Result<bool, NoMemory>
     Ok(set.len() == texts.len())
 }
 
-#[tactic(auto, unfolding(crate::specs::Frames::distinct_next))]
+#[tactic(auto, unfolding(crate::specs::Readings::distinct_next))]
 fn distinct_texts(alloc: Global, reader: &mut FieldReader<'_>) -> Result<List<Name>, FormFault>
     ensures { Gives result (distinct_next reader.old) reader.new }
 {
-    let Some(count) = reader.u32() else {
-        return Err(FormFault::Bad);
-    };
-    let texts = texts(alloc, count, reader)?;
-    if !are_distinct(alloc, texts.as_slice())? {
-        return Err(FormFault::Bad);
-    }
-    Ok(texts)
-}
-
-fn claim_of(number: u8) -> Option<Claim>
-    ensures { result ≡ claim_of number }
-{
-    match number {
-        0 => Some(Claim::Always),
-        1 => Some(Claim::Never),
-        2 => Some(Claim::Varies),
-        _ => None,
+    let texts = read_texts(alloc, reader)?;
+    if are_distinct(alloc, texts.as_slice())? {
+        Ok(texts)
+    } else {
+        Err(FormFault::Bad)
     }
 }
 
-// ---- frames
-
-#[tactic(auto, unfolding(crate::specs::Frames::hello_next))]
-fn hello(alloc: Global, reader: &mut FieldReader<'_>) -> Result<Frame, FormFault>
-    ensures { Gives result (hello_next reader.old) reader.new }
+fn are_patterns(texts: &[Name]) -> bool
+    ensures { result ≡ list_all is_pattern texts.now }
 {
-    let patterns = distinct_texts(alloc, reader)?;
-    let options = distinct_texts(alloc, reader)?;
-    let Some(number) = reader.u8() else {
-        return Err(FormFault::Bad);
-    };
-    let Some(claim) = claim_of(number) else {
-        return Err(FormFault::Bad);
-    };
-    Ok(Frame::Hello(Hello {
-        patterns,
-        options,
-        claim,
-    }))
+    for text in texts {
+        if !is_pattern(text.as_str()) {
+            return false;
+        }
+    }
+    true
 }
 
-#[tactic(auto, unfolding(crate::specs::Frames::done_next))]
-fn done(reader: &mut FieldReader<'_>) -> Result<Frame, FormFault>
-    ensures { Gives result (done_next reader.old) reader.new }
+#[tactic(auto, unfolding(crate::specs::Readings::patterns_next))]
+fn patterns(alloc: Global, reader: &mut FieldReader<'_>) -> Result<List<Name>, FormFault>
+    ensures { Gives result (patterns_next reader.old) reader.new }
 {
-    match reader.bool() {
-        Some(claimed) => Ok(Frame::Done { claimed }),
-        None => Err(FormFault::Bad),
+    let texts = distinct_texts(alloc, reader)?;
+    if are_patterns(texts.as_slice()) {
+        Ok(texts)
+    } else {
+        Err(FormFault::Bad)
+    }
+}
+
+#[tactic(auto, unfolding(crate::specs::Readings::below_next))]
+fn below(bound: u8, reader: &mut FieldReader<'_>) -> Result<u8, FormFault>
+    ensures { Gives result (below_next bound reader.old) reader.new }
+{
+    let number = read_byte(reader)?;
+    if number < bound {
+        Ok(number)
+    } else {
+        Err(FormFault::Bad)
+    }
+}
+
+#[tactic(auto, unfolding(crate::specs::Readings::claim_next))]
+fn claim(reader: &mut FieldReader<'_>) -> Result<Claim, FormFault>
+    ensures { Gives result (claim_next reader.old) reader.new }
+{
+    match read_byte(reader)? {
+        0 => Ok(Claim::Always),
+        1 => Ok(Claim::Never),
+        2 => Ok(Claim::Varies),
+        _ => Err(FormFault::Bad),
     }
 }
 
@@ -103,39 +98,98 @@ fn content(alloc: Global, reader: &mut FieldReader<'_>) -> Result<List<u8>, Form
     }
 }
 
-#[tactic(auto, unfolding(crate::specs::Frames::below_next))]
-fn below(bound: u8, reader: &mut FieldReader<'_>) -> Result<u8, FormFault>
-    ensures { Gives result (below_next bound reader.old) reader.new }
+// ---- elements
+
+fn step(reader: &mut FieldReader<'_>) -> Result<u16, FormFault>
+    ensures { Gives result (u16_next reader.old) reader.new }
 {
-    match reader.u8() {
-        Some(number) => {
-            if number < bound {
-                Ok(number)
-            } else {
-                Err(FormFault::Bad)
-            }
-        }
+    match reader.u16() {
+        Some(step) => Ok(step),
         None => Err(FormFault::Bad),
     }
 }
 
-#[tactic(auto, unfolding(crate::specs::Frames::origins_next))]
-fn origins(alloc: Global, reader: &mut FieldReader<'_>) -> Result<List<ElementRef>, FormFault>
-    ensures { Gives result (origins_next reader.old) reader.new }
+#[tactic(auto, unfolding(apt_base::specs::Forms::list_next))]
+fn path(alloc: Global, reader: &mut FieldReader<'_>) -> Result<List<u16>, FormFault>
+    ensures { Gives result (list_next u16_next reader.old) reader.new }
 {
-    match reader.u32() {
-        Some(0) => Ok(List::new(alloc)),
-        _ => Err(FormFault::Bad),
+    let count = read_count(reader)?;
+    let mut items = List::new(alloc);
+    for _ in 0..count {
+        let item = step(reader)?;
+        items.push(item)?;
+    }
+    Ok(items)
+}
+
+#[tactic(auto, unfolding(crate::specs::Readings::element_next))]
+fn element(alloc: Global, reader: &mut FieldReader<'_>) -> Result<ElementRef, FormFault>
+    ensures { Gives result (element_next reader.old) reader.new }
+{
+    let unit = read_text(alloc, reader)?;
+    let path = path(alloc, reader)?;
+    Ok(ElementRef { unit, path })
+}
+
+#[tactic(auto, unfolding(apt_base::specs::Forms::list_next))]
+fn elements(alloc: Global, reader: &mut FieldReader<'_>) -> Result<List<ElementRef>, FormFault>
+    ensures { Gives result (list_next element_next reader.old) reader.new }
+{
+    let count = read_count(reader)?;
+    let mut items = List::new(alloc);
+    for _ in 0..count {
+        let item = element(alloc, reader)?;
+        items.push(item)?;
+    }
+    Ok(items)
+}
+
+#[tactic(auto, unfolding(apt_base::specs::Forms::opt_next))]
+fn optional_element(
+    alloc: Global,
+    reader: &mut FieldReader<'_>,
+) -> Result<Option<ElementRef>, FormFault>
+    ensures { Gives result (opt_next element_next reader.old) reader.new }
+{
+    if read_truth(reader)? {
+        let value = element(alloc, reader)?;
+        Ok(Some(value))
+    } else {
+        Ok(None)
     }
 }
 
-#[tactic(auto, unfolding(crate::specs::Frames::file_next))]
+// ---- frames
+
+#[tactic(auto, unfolding(crate::specs::Readings::hello_next))]
+fn hello(alloc: Global, reader: &mut FieldReader<'_>) -> Result<Frame, FormFault>
+    ensures { Gives result (hello_next reader.old) reader.new }
+{
+    let patterns = patterns(alloc, reader)?;
+    let options = distinct_texts(alloc, reader)?;
+    let claim = claim(reader)?;
+    Ok(Frame::Hello(Hello {
+        patterns,
+        options,
+        claim,
+    }))
+}
+
+#[tactic(auto, unfolding(crate::specs::Readings::done_next))]
+fn done(reader: &mut FieldReader<'_>) -> Result<Frame, FormFault>
+    ensures { Gives result (done_next reader.old) reader.new }
+{
+    let claimed = read_truth(reader)?;
+    Ok(Frame::Done { claimed })
+}
+
+#[tactic(auto, unfolding(crate::specs::Readings::file_next))]
 fn source(alloc: Global, reader: &mut FieldReader<'_>) -> Result<Frame, FormFault>
-    ensures { Gives result (file_next creations.Source reader.old) reader.new }
+    ensures { Gives result (mapped source_of file_next reader.old) reader.new }
 {
     let name = read_text(alloc, reader)?;
     let content = content(alloc, reader)?;
-    let origins = origins(alloc, reader)?;
+    let origins = elements(alloc, reader)?;
     Ok(Frame::Create(Creation::Source {
         name,
         content,
@@ -143,7 +197,7 @@ fn source(alloc: Global, reader: &mut FieldReader<'_>) -> Result<Frame, FormFaul
     }))
 }
 
-#[tactic(auto, unfolding(crate::specs::Frames::resource_next))]
+#[tactic(auto, unfolding(crate::specs::Readings::resource_next, crate::specs::Readings::file_next))]
 fn resource(alloc: Global, reader: &mut FieldReader<'_>) -> Result<Frame, FormFault>
     ensures { Gives result (resource_next reader.old) reader.new }
 {
@@ -151,7 +205,7 @@ fn resource(alloc: Global, reader: &mut FieldReader<'_>) -> Result<Frame, FormFa
     let package = read_text(alloc, reader)?;
     let relative = read_text(alloc, reader)?;
     let content = content(alloc, reader)?;
-    let origins = origins(alloc, reader)?;
+    let origins = elements(alloc, reader)?;
     Ok(Frame::Create(Creation::Resource {
         location,
         package,
@@ -161,13 +215,13 @@ fn resource(alloc: Global, reader: &mut FieldReader<'_>) -> Result<Frame, FormFa
     }))
 }
 
-#[tactic(auto, unfolding(crate::specs::Frames::file_next))]
+#[tactic(auto, unfolding(crate::specs::Readings::file_next))]
 fn class(alloc: Global, reader: &mut FieldReader<'_>) -> Result<Frame, FormFault>
-    ensures { Gives result (file_next creations.Class reader.old) reader.new }
+    ensures { Gives result (mapped class_of file_next reader.old) reader.new }
 {
     let name = read_text(alloc, reader)?;
     let content = content(alloc, reader)?;
-    let origins = origins(alloc, reader)?;
+    let origins = elements(alloc, reader)?;
     Ok(Frame::Create(Creation::Class {
         name,
         content,
@@ -175,22 +229,12 @@ fn class(alloc: Global, reader: &mut FieldReader<'_>) -> Result<Frame, FormFault
     }))
 }
 
-#[tactic(auto, unfolding(crate::specs::Frames::element_next))]
-fn element(reader: &mut FieldReader<'_>) -> Result<Option<ElementRef>, FormFault>
-    ensures { Gives result (element_next reader.old) reader.new }
-{
-    match reader.bool() {
-        Some(false) => Ok(None),
-        _ => Err(FormFault::Bad),
-    }
-}
-
-#[tactic(auto, unfolding(crate::specs::Frames::message_next))]
+#[tactic(auto, unfolding(crate::specs::Readings::message_next))]
 fn message(alloc: Global, reader: &mut FieldReader<'_>) -> Result<Frame, FormFault>
     ensures { Gives result (message_next reader.old) reader.new }
 {
     let kind = below(5, reader)?;
-    let element = element(reader)?;
+    let element = optional_element(alloc, reader)?;
     let text = read_text(alloc, reader)?;
     Ok(Frame::Message(Message {
         kind,
@@ -199,46 +243,59 @@ fn message(alloc: Global, reader: &mut FieldReader<'_>) -> Result<Frame, FormFau
     }))
 }
 
-fn creation(alloc: Global, tag: u8, reader: &mut FieldReader<'_>) -> Result<Frame, FormFault>
-    ensures { Gives result (creation_next tag reader.old) reader.new }
-{
-    match tag {
-        SOURCE => source(alloc, reader),
-        RESOURCE => resource(alloc, reader),
-        CLASS => class(alloc, reader),
-        _ => Err(FormFault::Bad),
-    }
-}
-
 fn fields(alloc: Global, tag: u8, reader: &mut FieldReader<'_>) -> Result<Frame, FormFault>
     ensures { Gives result (fields_next tag reader.old) reader.new }
 {
     match tag {
-        HELLO => hello(alloc, reader),
-        DONE => done(reader),
-        MESSAGE => message(alloc, reader),
-        _ => creation(alloc, tag, reader),
+        tags::HELLO => hello(alloc, reader),
+        tags::DONE => done(reader),
+        tags::SOURCE => source(alloc, reader),
+        tags::RESOURCE => resource(alloc, reader),
+        tags::CLASS => class(alloc, reader),
+        tags::MESSAGE => message(alloc, reader),
+        _ => Err(FormFault::Bad),
     }
 }
 
-#[tactic(auto, unfolding(crate::specs::Frames::child_frame))]
+#[tactic(auto, unfolding(crate::specs::Readings::child_frame))]
 fn frame_of(alloc: Global, bytes: &[u8]) -> Result<Frame, FormFault>
     ensures { GivesAll result (child_frame bytes.now) }
 {
     let mut reader = FieldReader::new(bytes);
-    let Some(tag) = reader.u8() else {
-        return Err(FormFault::Bad);
-    };
+    let tag = read_byte(&mut reader)?;
     let frame = fields(alloc, tag, &mut reader)?;
-    if reader.left() > 0 {
+    if reader.left() > 0 || !is_of_today(&frame) {
         return Err(FormFault::Bad);
     }
     Ok(frame)
 }
 
+// Today's rounds have no originating elements, no messages at an element, and no questions.
+fn is_of_today(frame: &Frame) -> bool
+    ensures { result ≡ is_of_today frame.now }
+{
+    match frame {
+        Frame::Hello(_) => true,
+        Frame::Done { .. } => true,
+        Frame::Create(creation) => has_no_origins(creation),
+        Frame::Message(message) => message.element.is_none(),
+        _ => false,
+    }
+}
+
+fn has_no_origins(creation: &Creation) -> bool
+    ensures { result ≡ has_no_origins creation.now }
+{
+    match creation {
+        Creation::Source { origins, .. } => origins.is_empty(),
+        Creation::Resource { origins, .. } => origins.is_empty(),
+        Creation::Class { origins, .. } => origins.is_empty(),
+    }
+}
+
 /// The length that the four bytes at the front of a frame spell, or None where a frame can't have
 /// it, and where they aren't four.
-#[tactic(auto, unfolding(crate::specs::Frames::length_of))]
+#[tactic(auto, unfolding(crate::specs::Readings::length_of))]
 pub fn frame_length(head: &[u8]) -> Option<u32>
     ensures { result ≡ length_of head.now }
 {
@@ -266,15 +323,15 @@ fn child_frame(alloc: Global, bytes: &[u8]) -> Result<Option<Frame>, NoMemory>
 /// The child's frame whose tag and fields are these bytes, all of them: `Hello`, `Done`, `Create` or
 /// `Message`.
 ///
-/// None comes where they are no such frame's: texts are in UTF-8, in `Hello` no text stands twice in
-/// a list, each number is in its range, a creation has no originating element, and a message no
-/// element. The only error is `NoMemory`.
+/// None comes where they are no such frame by the table of all frames, and where today's rounds have no such
+/// frame: a creation with originating elements, a message at an element, a question. The only error is
+/// `NoMemory`.
 pub fn read_child_frame(alloc: Global, bytes: &[u8]) -> Result<Option<Frame>, NoMemory>
     ensures exact { IfOk result (λ found. found ≡ child_frame bytes.now) }
-    // What is read is spelled so, and a child may send it.
-    ensures found { IfOk result (λ found. IfSome found (λ frame. IsFromChild frame × (bytes.now ≡ fields_of frame))) }
-    // What is spelled so is read, so each frame has one spelling.
-    ensures only { (frame : Frame) → MaySend frame → bytes.now ≡ fields_of frame → IfOk result (λ found. found ≡ Some frame) }
+    // What is read is a frame of the table, spelled so, and today's rounds have it.
+    ensures found { IfOk result (λ found. IfSome found (λ frame. IsOfToday frame × AreFieldsOf bytes.now frame)) }
+    // Each frame of the table that is spelled so and that today's rounds have is read.
+    ensures only { (frame : Frame) → IsOfToday frame → AreFieldsOf bytes.now frame → IfOk result (λ found. found ≡ Some frame) }
 {
     child_frame(alloc, bytes)
 }

@@ -1,6 +1,7 @@
-use Rattle.wire_frames.specs.Frames.{fields_of}
+use Rattle.std.proofs.Common.{ap, ◌∙◌}
+use Rattle.wire_frames.specs.Outputs.{added, size_of}
 use Rattle.wire_frames.proofs.writing.size_of.Goals as goal
 
-pub returns-in-Round : goal.returns-in-Round
-unfolding fields_of
-returns-in-Round c = rw c.in-Round.is (c.round_size.ensures c.in-Round.number c.in-Round.over c.in-Round.error)
+pub returns : goal.returns
+unfolding added
+returns c = c.size.ensures ∙ ap size_of c.in_ok-put_fields.ensures
