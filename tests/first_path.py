@@ -14,9 +14,9 @@ import sys
 import time
 
 from host import (ACCEPTED, BAD_WORDS, CHILD_FAULT, CREATE, DONE, DONE_STATUS, EXISTS, FIRST_ROUND, HELLO, INIT,
-                  LAST_ROUND, SECONDS, SINK_FAULT, SOURCE, TREE_FAULT, UNBUILT_FORM, UNBUILT_TALK, Cases, Failure,
-                  NotRun, by_hand, expect, former_stands, frames, processes_of, program, record_of, refused, say,
-                  says)
+                  LAST_ROUND, PAST_A_LIMIT, SECONDS, SINK_FAULT, SOURCE, TREE_FAULT, UNBUILT_FORM, UNBUILT_TALK, Cases,
+                  Failure, NotRun, by_hand, expect, former_stands, frames, processes_of, program, record_of, refused,
+                  say, says)
 
 # The steps of a child that creates one file, and of one that creates nothing.
 CREATES = ["read", say(HELLO), "read", say(CREATE), "read", say(DONE), "read", say(DONE), "rest"]
@@ -483,6 +483,19 @@ def the_longest_source_that_is_read(project):
     expect("the status", run.status, DONE_STATUS)
     project.write("src/p/D.java", start + b"x" * (4097 - len(start) - len(end)) + end)
     refused(project, ["build"], UNBUILT_FORM, "UnbuiltForm(src/p/D.java)")
+
+
+@case
+def the_longest_name_of_a_type(project):
+    project.write("src/p/D.java", b"package p; @q.A class " + b"D" * 1022 + b" {}")
+    run = project.run(["build"])
+    expect("the output", run.output, REPORT_WITHOUT_PROCESSOR)
+    expect("the status", run.status, DONE_STATUS)
+    project.write("src/p/E.java", b"package p; @q.A class " + b"E" * 1023 + b" {}")
+    project.write("src/p/F.java", b"package p; class F {}")
+    refused(project, ["build"], PAST_A_LIMIT, "TooLarge(Name, 1024)")
+    project.write("src/p/B.java", b"package p; class B {}")
+    refused(project, ["build"], UNBUILT_FORM, "UnbuiltForm(src/p/B.java)")
 
 
 @case

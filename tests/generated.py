@@ -9,9 +9,9 @@ with status 1. The last line is 'generated: N passed, M failed'.
 import os
 
 from host import (ACCEPTED, BAD_NAME, CREATE, DONE, DONE_STATUS, ERRORS, EXISTS, FIRST_ROUND, GENERATED_DUPLICATE,
-                  HELLO, HERE, INIT, LAST_ROUND, NOTED, TOO_LARGE, TOO_MANY_QUESTIONS, TOO_MANY_ROUNDS, UNBUILT_FORM,
-                  UNBUILT_TALK, UNSUPPORTED, Cases, Failure, by_hand, expect, former_stands, frames as spelling,
-                  record_of, refused, say)
+                  HELLO, HERE, INIT, LAST_ROUND, NOTED, PAST_A_LIMIT, TOO_LARGE, TOO_MANY_QUESTIONS, TOO_MANY_ROUNDS,
+                  UNBUILT_FORM, UNBUILT_TALK, UNSUPPORTED, Cases, Failure, by_hand, expect, former_stands,
+                  frames as spelling, record_of, refused, say)
 
 case = Cases("generated")
 
@@ -310,6 +310,37 @@ def a_type_that_an_earlier_round_gave(project):
 def two_sources_of_a_round_that_give_one_type(project):
     refuses(project, [[create_source("p.E", source_of("p.X")), create_source("p.D", source_of("p.X"))]],
             GENERATED_DUPLICATE, "GeneratedDuplicate(p.X)")
+
+
+@case
+def a_created_source_of_a_type_with_the_longest_name(project):
+    longest = "p." + "D" * 1022
+    content = source_of(longest)
+    publishes(project, [[create_source("p.D", content)], [], []],
+              [f"file SOURCE_OUTPUT/p/D.java {len(content)}", done(3, 1)], {"SOURCE_OUTPUT/p/D.java": content},
+              sent=[FIRST_ROUND, ACCEPTED, round_frame(2, [longest]), last_round(3)])
+
+
+@case
+def a_created_source_of_a_type_with_too_long_a_name(project):
+    refuses(project, [[create_source("p.D", source_of("p." + "D" * 1023))]], PAST_A_LIMIT, "TooLarge(Name, 1024)")
+
+
+def made(project, count):
+    """Steps that create so many sources, each of a type of its own, a thousand at a time."""
+    frames = [create_source(f"p.T{number:05}") for number in range(count)]
+    return [from_file(project, f"made-{start}", *frames[start:start + 1000]) for start in range(0, count, 1000)]
+
+
+@case
+def as_many_types_as_may_be(project):
+    errs(project, [made(project, 49_999), [message(ERROR, "full")], []],
+         ["error: [maker] full", "errors: 3 rounds, 1 errors, 0 warnings"])
+
+
+@case
+def one_type_too_many(project):
+    refuses(project, [made(project, 50_000)], PAST_A_LIMIT, "TooLarge(Types, 50000)")
 
 
 @case

@@ -13,7 +13,9 @@ use std::{fmt, io};
 /// What was tried, as it is said: a verb, and the path, program or stream that it was tried with.
 #[derive(Clone, Copy)]
 pub struct Attempt<'a> {
+    /// What was to be done, as `read` or `send to`.
     pub verb: &'a str,
+    /// The path, the program or the stream.
     pub object: &'a str,
 }
 
@@ -26,6 +28,7 @@ pub struct Failure {
 }
 
 impl<'a> Attempt<'a> {
+    /// An attempt to do this with this object.
     pub fn new(verb: &'a str, object: &'a str) -> Self {
         Attempt { verb, object }
     }
@@ -52,6 +55,7 @@ impl Failure {
         }
     }
 
+    /// The kind of what the system answered.
     pub fn kind(&self) -> ErrorKind
         ensures { result ≡ error_kind self.now.error }
     {

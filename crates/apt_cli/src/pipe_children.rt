@@ -159,15 +159,13 @@ impl<R: Processes + Drop> Children for PipeChildren<R> {
 
     ghost faults = { λ c. c.faults.count };
 
-    ghost starts = { λ c. c.starts };
-
-    ghost live = { λ c. map (λ running. running.number) c.running.items };
-
-    ghost says = { λ _ _ _ _. [] };
-
-    ghost tried = { λ _. [] };
-
-    ghost known = { λ _ _. None };
+    ghost state = { λ c. record {
+      starts = c.starts;
+      live = map (λ running. running.number) c.running.items;
+      says = λ _ _ _. [];
+      tried = [];
+      known = λ _. None;
+    } };
 
     ghost sound = { λ _ _ _. tt };
 

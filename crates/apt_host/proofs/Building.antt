@@ -6,7 +6,7 @@ use Rattle.std.proofs.lemmas.List.Elements.{All-head, All-tail, All-cons}
 use Rattle.std.proofs.lemmas.List.{length-map}
 use Rattle.apt_outside.specs.Count.{Told}
 use Rattle.apt_outside.specs.Files.{Files, file_at}
-use Rattle.apt_outside.specs.Child.{Says, Try, Known, AllKept}
+use Rattle.apt_outside.specs.Child.{Says, Try, State, AllKept}
 use Rattle.tree_store.specs.declared.record.StoredFile.{StoredFile}
 use Rattle.apt_base.specs.Fields.{is_text}
 use Rattle.tree_store.specs.RecordFormat.{record_form, IsEntry}
@@ -18,7 +18,7 @@ use Rattle.round_engine.specs.declared.numbering.Made.{Made}
 use Rattle.round_engine.specs.Numbering.{AreLeast}
 use Rattle.round_engine.specs.declared.running.Finished.{Finished}
 use Rattle.round_engine.specs.Refusals.{Refusal, Tree}
-use Rattle.round_engine.specs.Units.{Units}
+use Rattle.element_table.specs.TypeTable.{TypeTable}
 use Rattle.round_engine.specs.Run.{files_among}
 use Rattle.round_engine.specs.Clean.{AreNumbered, is_error, is_warning, count_of}
 use Rattle.round_engine.proofs.NumberLemmas.{All-from_AreLeast, AllPairs-from_AreLeast}
@@ -29,7 +29,7 @@ use Rattle.apt_host.specs.CleanBuild.{Summary, summary, Outcome, outcome_of, out
 use Rattle.apt_host.specs.CleanBuild as outcome
 use Rattle.apt_host.specs.Report.{report_of, errors_report, report_text}
 use Rattle.apt_host.specs.Verdicts.{Verdict, Done, Errors, Refused, Failed, Memory, is_free, is_tree, fails, OrFree, verdict, verdict_of}
-use Rattle.apt_host.specs.Listed.{listed, entry_of, numbered_of, file_of, Gains, GainsFirst, Places}
+use Rattle.apt_host.specs.Listed.{listed, entry_of, numbered_of, file_of, Gains, GainsFirst, Places, FitsEntry}
 use Rattle.apt_host.specs.Entering.{RefusesAs}
 use Rattle.apt_host.specs.Making.{ShowsRunOver, count_of_processors, name_of, finished_summary, concluded, concluding_report, outcome_with, Makes, TalkedBy}
 use Rattle.apt_host.specs.Promises.{Talked, ToldOf, Answers, Stores, Publishes, PublishesOutcome, PublishesClean, Leaves, LeavesUndone, StoresOutcome, StoresFirst, IsFront, Reports, Adds, TellsMore, ShowsOver}
@@ -60,15 +60,12 @@ either_way (Failed object) A done other = other (λ e. cc)
 either_way Memory A done other = other (λ e. cc)
 
 -- what is known of a file that was made is what an entry needs
-abbrev Sized : Made → Type 0
-Sized file = (file.store < 2 ^ 32) × (length file.path < 2 ^ 32) × (length file.bytes < 2 ^ 32)
-
-entries_fit : (made : List Made) → All (λ (file : Made). is_text file.path ≡ true) made → All Sized made → All IsEntry (map entry_of made)
+entries_fit : (made : List Made) → All (λ (file : Made). is_text file.path ≡ true) made → All FitsEntry made → All IsEntry (map entry_of made)
 entries_fit [] texts sizes = λ k d below. absurd (omega arith)
 entries_fit (m ∷ made) texts sizes =
-    let size : Sized m = All-head Sized m made sizes in
+    let size : FitsEntry m = All-head FitsEntry m made sizes in
     All-cons IsEntry (entry_of m) (map entry_of made) (record { path = size.1; text = All-head (λ (file : Made). is_text file.path ≡ true) m made texts; store = size.0; size = size.2 })
-    (entries_fit made (All-tail (λ (file : Made). is_text file.path ≡ true) m made texts) (All-tail Sized m made sizes))
+    (entries_fit made (All-tail (λ (file : Made). is_text file.path ≡ true) m made texts) (All-tail FitsEntry m made sizes))
 
 module _ (taken : List ℕ) (finished : Finished) (numbered : AreNumbered taken finished.files) where
   abbrev all : List Made
@@ -178,29 +175,29 @@ module _ (tells talks : Bool) (processor : Option Try) (says : Says) (project : 
   publishes_not new v ne = λ told. talked talks processor (units_of project) _ (λ done. absurd (ne done))
 
 -- nothing was shown to a child
-unread_over : (processor : Option Try) (says : Says) (entered : Result Units Refusal) (known : Known) (v : Verdict) → RefusesAs entered v → ShowsOver processor says entered known known v
-unread_over None says entered known v refuses = tt
-unread_over (Some processor) says (Err refusal) known v refuses = λ k. refl
-unread_over (Some processor) says (Ok units) known Done refuses = absurd refuses
-unread_over (Some processor) says (Ok units) known (Errors count) refuses = absurd refuses
-unread_over (Some processor) says (Ok units) known (Refused refusal) refuses = absurd (let e : Ok units ≡ Err refusal = refuses in cc)
-unread_over (Some processor) says (Ok units) known (Failed object) refuses = λ free. absurd cc
-unread_over (Some processor) says (Ok units) known Memory refuses = λ free. absurd cc
+unread_over : (processor : Option Try) (entered : Result TypeTable Refusal) (state : State) (v : Verdict) → RefusesAs entered v → ShowsOver processor entered state state v
+unread_over None entered state v refuses = tt
+unread_over (Some processor) (Err refusal) state v refuses = λ k. refl
+unread_over (Some processor) (Ok table) state Done refuses = absurd refuses
+unread_over (Some processor) (Ok table) state (Errors count) refuses = absurd refuses
+unread_over (Some processor) (Ok table) state (Refused refusal) refuses = absurd (let e : Ok table ≡ Err refusal = refuses in cc)
+unread_over (Some processor) (Ok table) state (Failed object) refuses = λ free. absurd cc
+unread_over (Some processor) (Ok table) state Memory refuses = λ free. absurd cc
 
-pub shown_unread : (processor : Option Try) (says : Says) (project : Files) (known : Known) (v : Verdict) → RefusesAs (units_of project) v → ShowsOver processor says (units_of project) known known v
-shown_unread processor says project known v refuses = unread_over processor says (units_of project) known v refuses
+pub shown_unread : (processor : Option Try) (project : Files) (state : State) (v : Verdict) → RefusesAs (units_of project) v → ShowsOver processor (units_of project) state state v
+shown_unread processor project state v refuses = unread_over processor (units_of project) state v refuses
 
-free_over : (processor : Option Try) (says : Says) (entered : Result Units Refusal) (known : Known) (v : Verdict) → is_free v ≡ true → ShowsOver processor says entered known known v
-free_over None says entered known v free = tt
-free_over (Some processor) says (Err refusal) known v free = λ k. refl
-free_over (Some processor) says (Ok units) known v free = λ unfree. absurd (let e : true ≡ false = sym free ∙ unfree in cc)
+free_over : (processor : Option Try) (entered : Result TypeTable Refusal) (state : State) (v : Verdict) → is_free v ≡ true → ShowsOver processor entered state state v
+free_over None entered state v free = tt
+free_over (Some processor) (Err refusal) state v free = λ k. refl
+free_over (Some processor) (Ok table) state v free = λ unfree. absurd (let e : true ≡ false = sym free ∙ unfree in cc)
 
-pub shown_free : (processor : Option Try) (says : Says) (project : Files) (known : Known) (v : Verdict) → is_free v ≡ true → ShowsOver processor says (units_of project) known known v
-shown_free processor says project known v free = free_over processor says (units_of project) known v free
+pub shown_free : (processor : Option Try) (project : Files) (state : State) (v : Verdict) → is_free v ≡ true → ShowsOver processor (units_of project) state state v
+shown_free processor project state v free = free_over processor (units_of project) state v free
 
-pub tells_none : (processor : Option Try) (known : Known) → TellsMore (Build processor) known known
-tells_none None known = λ k. refl
-tells_none (Some processor) known = inl (λ k. refl)
+pub tells_none : (processor : Option Try) (state : State) → TellsMore (Build processor) state state
+tells_none None state = λ k. refl
+tells_none (Some processor) state = inl (λ k. refl)
 
 -- ---- a build whose run is known
 
@@ -208,36 +205,36 @@ made_of : (talks : Bool) (processor : Option Try) (M : Type 0) → TalkedBy talk
 made_of talks None M makes told = makes
 made_of talks (Some processor) M makes told = makes told
 
-talked_over : (talks : Bool) (processor : Option Try) (entered : Result Units Refusal) (units : Units) (M P : Type 0) → entered ≡ Ok units → TalkedBy talks processor M → (M → P) → Talked talks processor entered P
-talked_over talks None entered units M P is makes then = then makes
-talked_over talks (Some processor) (Err refusal) units M P is makes then = absurd (let e : Err refusal ≡ Ok units = is in cc)
-talked_over talks (Some processor) (Ok others) units M P is makes then = λ told. then (makes told)
+talked_over : (talks : Bool) (processor : Option Try) (entered : Result TypeTable Refusal) (table : TypeTable) (M P : Type 0) → entered ≡ Ok table → TalkedBy talks processor M → (M → P) → Talked talks processor entered P
+talked_over talks None entered table M P is makes then = then makes
+talked_over talks (Some processor) (Err refusal) table M P is makes then = absurd (let e : Err refusal ≡ Ok table = is in cc)
+talked_over talks (Some processor) (Ok others) table M P is makes then = λ told. then (makes told)
 
--- the frames of a run over these units
-shown_over : (says : Says) (processor : Option Try) (entered : Result Units Refusal) (units : Units) (known known' : Known) (v : Verdict) → entered ≡ Ok units → (is_free v ≡ false → ShowsRunOver says processor units known known') → ShowsOver processor says entered known known' v
-shown_over says None entered units known known' v is shown = tt
-shown_over says (Some processor) entered units known known' v is shown = subst (λ o. ShowsOver (Some processor) says o known known' v) (sym is) shown
+-- the frames of a run over this table
+shown_over : (processor : Option Try) (entered : Result TypeTable Refusal) (table : TypeTable) (before after : State) (v : Verdict) → entered ≡ Ok table → (is_free v ≡ false → ShowsRunOver processor table before after) → ShowsOver processor entered before after v
+shown_over None entered table before after v is shown = tt
+shown_over (Some processor) entered table before after v is shown = subst (λ o. ShowsOver (Some processor) o before after v) (sym is) shown
 
-module _ (tells talks : Bool) (says : Says) (processor : Option Try) (project : Files) (units : Units) (known known' : Known) (is : Told tells (units_of project ≡ Ok units)) where
+module _ (tells talks : Bool) (processor : Option Try) (project : Files) (table : TypeTable) (before after : State) (is : Told tells (units_of project ≡ Ok table)) where
   -- a run that was refused
-  module _ (status : Status) (makes : TalkedBy talks processor (Makes says processor units known known' (Err status))) where
+  module _ (status : Status) (makes : TalkedBy talks processor (Makes processor table before after (Err status))) where
     abbrev MakesHere : Type 0
-    MakesHere = Makes says processor units known known' (Err status)
+    MakesHere = Makes processor table before after (Err status)
 
-    pub answers_refused : Answers tells talks (Build processor) says project (verdict status)
-    answers_refused = λ told. talked_over talks processor (units_of project) units MakesHere _ (is told) makes
-        (λ m. subst (λ o. OrFree (verdict_of (outcome_of says processor o)) (verdict status)) (sym (is told)) m.comes)
+    pub answers_refused : Answers tells talks (Build processor) before.says project (verdict status)
+    answers_refused = λ told. talked_over talks processor (units_of project) table MakesHere _ (is told) makes
+        (λ m. subst (λ o. OrFree (verdict_of (outcome_of before.says processor o)) (verdict status)) (sym (is told)) m.comes)
 
-    pub shown_refused : Told tells (Told talks (ShowsOver processor says (units_of project) known known' (verdict status)))
-    shown_refused = λ told said. shown_over says processor (units_of project) units known known' (verdict status) (is told) (λ free. (made_of talks processor MakesHere makes said).shown (ap not free))
+    pub shown_refused : Told tells (Told talks (ShowsOver processor (units_of project) before after (verdict status)))
+    shown_refused = λ told said. shown_over processor (units_of project) table before after (verdict status) (is told) (λ free. (made_of talks processor MakesHere makes said).shown (ap not free))
 
-    pub more_refused : Told talks (TellsMore (Build processor) known known')
+    pub more_refused : Told talks (TellsMore (Build processor) before after)
     more_refused = λ said. (made_of talks processor MakesHere makes said).more
 
   -- a run that was finished
-  module _ (taken : List ℕ) (finished : Finished) (numbered : AreNumbered taken finished.files) (makes : TalkedBy talks processor (Makes says processor units known known' (Ok finished))) where
+  module _ (taken : List ℕ) (finished : Finished) (numbered : AreNumbered taken finished.files) (makes : TalkedBy talks processor (Makes processor table before after (Ok finished))) where
     abbrev MadeHere : Type 0
-    MadeHere = Makes says processor units known known' (Ok finished)
+    MadeHere = Makes processor table before after (Ok finished)
 
     abbrev summary_here : Summary
     summary_here = finished_summary (name_of processor) finished
@@ -255,12 +252,12 @@ module _ (tells talks : Bool) (says : Says) (processor : Option Try) (project : 
     files_are m = sym (from_entries-entries (files_among m.comes.made)) ∙ ap (λ es. fin.from_entries es) (sym m.comes.has.files ∙ numbered.entries) ∙ from_entries-entries numbered.published
 
     -- the clean build's outcome
-    outcome_is_here : tells ≡ true → MadeHere → outcome_here ≡ clean says processor project
-    outcome_is_here told m = sym (ap (outcome_of says processor) (is told) ∙ outcome_is says processor units ∙ ap (outcome_of_run (count_of_processors processor) (name_of processor)) m.comes.is
+    outcome_is_here : tells ≡ true → MadeHere → outcome_here ≡ clean before.says processor project
+    outcome_is_here told m = sym (ap (outcome_of before.says processor) (is told) ∙ outcome_is before.says processor table ∙ ap (outcome_of_run (count_of_processors processor) (name_of processor)) m.comes.is
         ∙ ap (λ s. outcome.finished s (files_among m.comes.made)) (summed m) ∙ ap (λ files. outcome.finished summary_here files) (files_are m))
 
-    pub outcome_told : ToldOf tells talks processor project (outcome_here ≡ clean says processor project)
-    outcome_told = λ told. talked_over talks processor (units_of project) units MadeHere _ (is told) makes (outcome_is_here told)
+    pub outcome_told : ToldOf tells talks processor project (outcome_here ≡ clean before.says processor project)
+    outcome_told = λ told. talked_over talks processor (units_of project) table MadeHere _ (is told) makes (outcome_is_here told)
 
     -- errors were printed, or none was
     some_errors : (finished.errors == 0) ≡ false → outcome_here ≡ outcome.Errors summary_here
@@ -284,12 +281,12 @@ module _ (tells talks : Bool) (says : Says) (processor : Option Try) (project : 
 
     module _ (v : Verdict) (answer : OrFree (concluded finished) v) where
       -- the verdict is that of the clean build
-      pub answers_finished : Answers tells talks (Build processor) says project v
-      answers_finished = λ told. talked_over talks processor (units_of project) units MadeHere _ (is told) makes
+      pub answers_finished : Answers tells talks (Build processor) before.says project v
+      answers_finished = λ told. talked_over talks processor (units_of project) table MadeHere _ (is told) makes
           (λ m. subst (λ o. OrFree (verdict_of o) v) (outcome_is_here told m) (subst (λ w. OrFree w v) verdict_here answer))
 
-      pub shown_finished : Told tells (Told talks (ShowsOver processor says (units_of project) known known' v))
-      shown_finished = λ told said. shown_over says processor (units_of project) units known known' v (is told) (λ free. (made_of talks processor MadeHere makes said).shown refl)
+      pub shown_finished : Told tells (Told talks (ShowsOver processor (units_of project) before after v))
+      shown_finished = λ told said. shown_over processor (units_of project) table before after v (is told) (λ free. (made_of talks processor MadeHere makes said).shown refl)
 
       module _ (old new : Files) (are : Told tells (AreTaken old taken)) (same : Told tells (old ≡ project)) where
         published_here : tells ≡ true → (v ≡ Done → Places (map numbered_of finished.files) (record_form (map entry_of finished.files)) old new) → v ≡ Done → PublishesOutcome outcome_here old new
@@ -298,8 +295,8 @@ module _ (tells talks : Bool) (says : Says) (processor : Option Try) (project : 
             (λ some. absurd (let e : Done ≡ Errors finished.errors = sym done ∙ answer (ap is_free done) ∙ ap (λ b. cond b Done (Errors finished.errors)) some in cc))
 
         -- what a finished build published is the clean build's
-        pub publishes_finished : Told tells (v ≡ Done → Places (map numbered_of finished.files) (record_form (map entry_of finished.files)) old new) → PublishesClean tells talks (Build processor) says project new v
-        publishes_finished placed = λ told. talked_over talks processor (units_of project) units MadeHere _ (is told) makes
+        pub publishes_finished : Told tells (v ≡ Done → Places (map numbered_of finished.files) (record_form (map entry_of finished.files)) old new) → PublishesClean tells talks (Build processor) before.says project new v
+        publishes_finished placed = λ told. talked_over talks processor (units_of project) table MadeHere _ (is told) makes
             (λ m done. subst (λ o. PublishesOutcome o project new) (outcome_is_here told m) (subst (λ t. PublishesOutcome outcome_here t new) (same told) (published_here told (placed told) done)))
 
         stores_here : (text : List ℕ) → tells ≡ true → (fails is_tree v ≡ true → finished.errors ≡ 0) → GainsFirst v text (map numbered_of finished.files) old new → StoresFirst outcome_here v text project new
@@ -307,10 +304,10 @@ module _ (tells talks : Bool) (says : Says) (processor : Option Try) (project : 
             (map entry_of finished.files, subst (λ t. Stores numbered.published (map entry_of finished.files) t new) (same told) (stores taken finished numbered numbered.published numbered.entries old (are told) new (gains is some)))
 
         -- what was written is the report of the outcome
-        pub reports_finished : (rose : Type 0) (before after : List ℕ) → (fails is_tree v ≡ true → finished.errors ≡ 0)
-            → Adds (λ text. IsFront ⊥ (concluding_report (name_of processor) finished) v text × Told tells (GainsFirst v text (map numbered_of finished.files) old new)) before after
-            → Adds (Reports tells talks (Build processor) says project new v rose) before after
-        reports_finished rose before after none (text, (front, gains), added) = (
+        pub reports_finished : (rose : Type 0) (written written' : List ℕ) → (fails is_tree v ≡ true → finished.errors ≡ 0)
+            → Adds (λ text. IsFront ⊥ (concluding_report (name_of processor) finished) v text × Told tells (GainsFirst v text (map numbered_of finished.files) old new)) written written'
+            → Adds (Reports tells talks (Build processor) before.says project new v rose) written written'
+        reports_finished rose written written' none (text, (front, gains), added) = (
           text,
           record {
             outcome = outcome_here;
@@ -321,5 +318,5 @@ module _ (tells talks : Bool) (says : Says) (processor : Option Try) (project : 
           added,
         )
 
-    pub more_finished : Told talks (TellsMore (Build processor) known known')
+    pub more_finished : Told talks (TellsMore (Build processor) before after)
     more_finished = λ said. (made_of talks processor MadeHere makes said).more

@@ -2,7 +2,7 @@
 use Rattle.std.proofs.Common.{◌≡◌, ◌≢◌, ℕ, ◌+◌, ◌≤◌, Bool, true, false, List, [], ◌∷◌, ◌++◌, length, take, map, Option, None, Some, Result, Ok, Err, IfSome, refl, sym, ap, ◌∙◌, subst, inl, inr, arith}
 use Rattle.std.proofs.lemmas.Bool.{false≢true}
 use Rattle.std.specs.Prelude.{not}
-use Rattle.apt_outside.specs.Child.{Says, Try, Known}
+use Rattle.apt_outside.specs.Child.{Says, Try, State}
 use Rattle.round_engine.specs.declared.running.Finished.{Finished}
 use Rattle.round_engine.specs.declared.project.KeyProcessor.{KeyProcessor}
 use Rattle.round_engine.specs.declared.refusal.Refusal as engine
@@ -10,11 +10,11 @@ use Rattle.round_engine.specs.declared.refusal.Refusal.TheVariants as run
 use Rattle.round_engine.specs.Refusals as stop
 use Rattle.round_engine.specs.Refusals.{Tree, Sink, Children, Stop, is_failure, is_refusal, named_by}
 use Rattle.round_engine.specs.Faults.{stop_of, is_due, HasReason}
-use Rattle.round_engine.specs.Units.{Units}
+use Rattle.element_table.specs.TypeTable.{TypeTable}
 use Rattle.round_engine.specs.Run.{Run, run_of}
 use Rattle.round_engine.specs.Shown.{ShowsNew, StopsAs}
 use Rattle.round_engine.specs.Clean as clean
-use Rattle.round_engine.specs.Clean.{try_of, clean_run, ShowsAll, frames_of}
+use Rattle.round_engine.specs.Clean.{try_of, clean_run, ShowsAll, ComesOf, frames_of}
 use Rattle.apt_host.specs.declared.status.Status.{Status}
 use Rattle.apt_host.specs.Words.{Build}
 use Rattle.apt_host.specs.CleanBuild.{outcome_of, outcome_of_run}
@@ -45,6 +45,7 @@ early_of (run.TooManyQuestions processor most) = tt
 early_of (run.UnbuiltForm path) = tt
 early_of (run.GeneratedDuplicate name) = tt
 early_of run.TooManyRounds = tt
+early_of (run.TooLarge what limit) = tt
 early_of run.Memory = tt
 
 unfinished_stop : (s : Stop) → is_finished (stopped s) ≡ false
@@ -86,52 +87,52 @@ module _ (refusal : engine.Refusal) (status : Status) (due_as : verdict status �
   pub names_from : (processors : List KeyProcessor) (processor : Option Try) → IsKeyOf processors processor → clean.NamesProcessor processors (Err refusal) → NamesChild (Build processor) (verdict status)
   names_from processors processor is named = subst (NamesChild (Build processor)) (sym due_as) (names_stop processors processor (stop_of refusal) is named)
 
-  most_is : (processor : Option Try) (old new : ℕ) → new ≤ old + count_of_processors processor → Starts (Build processor) (verdict status) old new
+  most_is : (processor : Option Try) (old new : State) → new.starts ≤ old.starts + count_of_processors processor → Starts (Build processor) (verdict status) old new
   most_is None old new most = record { finished = λ done. absurd (false≢true (sym (ap is_finished due_as ∙ unfinished_stop (stop_of refusal)) ∙ done)); most = most }
   most_is (Some t) old new most = record { finished = λ done. absurd (false≢true (sym (ap is_finished due_as ∙ unfinished_stop (stop_of refusal)) ∙ done)); most = most }
 
-  pub starts_from : (processors : List KeyProcessor) (processor : Option Try) (old new : ℕ) → IsKeyOf processors processor → clean.Starts processors (Err refusal) old new → Starts (Build processor) (verdict status) old new
-  starts_from processors processor old new is most = most_is processor old new (subst (λ n. new ≤ old + n) (count_is processors processor is) most)
+  pub starts_from : (processors : List KeyProcessor) (processor : Option Try) (old new : State) → IsKeyOf processors processor → clean.Starts processors (Err refusal) old new → Starts (Build processor) (verdict status) old new
+  starts_from processors processor old new is most = most_is processor old new (subst (λ n. new.starts ≤ old.starts + n) (count_is processors processor is) most)
 
 -- ---- starts of a run that was finished
 
-pub starts_finished : (processors : List KeyProcessor) (processor : Option Try) (finished : Finished) (old new : ℕ) → IsKeyOf processors processor → clean.Starts processors (Ok finished) old new → Starts (Build processor) Done old new
+pub starts_finished : (processors : List KeyProcessor) (processor : Option Try) (finished : Finished) (old new : State) → IsKeyOf processors processor → clean.Starts processors (Ok finished) old new → Starts (Build processor) Done old new
 starts_finished processors None finished old new is starts =
     let n : finished.started ≡ 0 = starts.0 ∙ count_is processors None is in
-    record { finished = λ done. starts.1 ∙ ap (λ k. old + k) n; most = omega (arith, starts.1, n) }
+    record { finished = λ done. starts.1 ∙ ap (λ k. old.starts + k) n; most = omega (arith, starts.1, n) }
 starts_finished processors (Some t) finished old new is starts =
     let n : finished.started ≡ 1 = starts.0 ∙ count_is processors (Some t) is in
-    record { finished = λ done. starts.1 ∙ ap (λ k. old + k) n; most = omega (arith, starts.1, n) }
+    record { finished = λ done. starts.1 ∙ ap (λ k. old.starts + k) n; most = omega (arith, starts.1, n) }
 
-pub tries_build : (processors : List KeyProcessor) (processor : Option Try) (old new : List Try) → IsKeyOf processors processor → clean.Tries processors old new → Tries (Build processor) old new
+pub tries_build : (processors : List KeyProcessor) (processor : Option Try) (old new : State) → IsKeyOf processors processor → clean.Tries processors old new → Tries (Build processor) old new
 tries_build [] None old new is tries = tries
 tries_build [] (Some t) old new is tries = absurd cc
 tries_build (p ∷ ps) None old new is tries = absurd cc
 tries_build (p ∷ ps) (Some t) old new is (inl same) = inl same
-tries_build (p ∷ ps) (Some t) old new is (inr more) = inr (more ∙ ap (λ x. old ++ x ∷ []) (head_is p ps t is))
+tries_build (p ∷ ps) (Some t) old new is (inr more) = inr (more ∙ ap (λ x. old.tried ++ x ∷ []) (head_is p ps t is))
 
 -- ---- the run
 
-run_is : (says : Says) (processors : List KeyProcessor) (processor : Option Try) (units : Units) → IsKeyOf processors processor → clean_run says processors units ≡ run_over says processor units
-run_is says [] None units is = refl
-run_is says [] (Some t) units is = absurd cc
-run_is says (p ∷ ps) None units is = absurd cc
-run_is says (p ∷ ps) (Some t) units is = ap (λ x. run_of says x units) (head_is p ps t is)
+run_is : (says : Says) (processors : List KeyProcessor) (processor : Option Try) (table : TypeTable) → IsKeyOf processors processor → clean_run says processors table ≡ run_over says processor table
+run_is says [] None table is = refl
+run_is says [] (Some t) table is = absurd cc
+run_is says (p ∷ ps) None table is = absurd cc
+run_is says (p ∷ ps) (Some t) table is = ap (λ x. run_of says x table) (head_is p ps t is)
 
-shown_is : (says : Says) (processors : List KeyProcessor) (processor : Option Try) (units : Units) (known known' : Known) → IsKeyOf processors processor → ShowsAll processors (run_over says processor units) known known' → ShowsRunOver says processor units known known'
-shown_is says processors None units known known' is shown = tt
-shown_is says [] (Some t) units known known' is shown = absurd cc
-shown_is says (p ∷ ps) (Some t) units known known' is shown = subst (λ x. ShowsNew x (frames_of (run_of says t units)) known known') (head_is p ps t is) shown
+shown_is : (processors : List KeyProcessor) (processor : Option Try) (table : TypeTable) (old new : State) → IsKeyOf processors processor → ShowsAll processors (run_over old.says processor table) old new → ShowsRunOver processor table old new
+shown_is processors None table old new is shown = tt
+shown_is [] (Some t) table old new is shown = absurd cc
+shown_is (p ∷ ps) (Some t) table old new is shown = subst (λ x. ShowsNew x (frames_of (run_of old.says t table)) old new) (head_is p ps t is) shown
 
-pub outcome_is : (says : Says) (processor : Option Try) (units : Units) → outcome_of says processor (Ok units) ≡ outcome_of_run (count_of_processors processor) (name_of processor) (run_over says processor units)
-outcome_is says None units = refl
-outcome_is says (Some t) units = refl
+pub outcome_is : (says : Says) (processor : Option Try) (table : TypeTable) → outcome_of says processor (Ok table) ≡ outcome_of_run (count_of_processors processor) (name_of processor) (run_over says processor table)
+outcome_is says None table = refl
+outcome_is says (Some t) table = refl
 
-tells_more : (processors : List KeyProcessor) (processor : Option Try) (known known' : Known) → IsKeyOf processors processor → clean.TellsMore processors known known' → TellsMore (Build processor) known known'
-tells_more [] None known known' is more = more
-tells_more [] (Some t) known known' is more = absurd cc
-tells_more (p ∷ ps) None known known' is more = absurd cc
-tells_more (p ∷ ps) (Some t) known known' is more = more
+tells_more : (processors : List KeyProcessor) (processor : Option Try) (old new : State) → IsKeyOf processors processor → clean.TellsMore processors old new → TellsMore (Build processor) old new
+tells_more [] None old new is more = more
+tells_more [] (Some t) old new is more = absurd cc
+tells_more (p ∷ ps) None old new is more = absurd cc
+tells_more (p ∷ ps) (Some t) old new is more = more
 
 -- where it is talked of a run, it is of a build
 talked_by : (talks : Bool) (processors : List KeyProcessor) (processor : Option Try) (P Q : Type 0) → IsKeyOf processors processor → clean.Talked talks processors P → (P → Q) → TalkedBy talks processor Q
@@ -140,37 +141,48 @@ talked_by talks [] (Some t) P Q is p then = absurd cc
 talked_by talks (q ∷ qs) None P Q is p then = absurd cc
 talked_by talks (q ∷ qs) (Some t) P Q is p then = λ told. then (p told)
 
-module _ (says : Says) (processors : List KeyProcessor) (processor : Option Try) (units : Units) (is : IsKeyOf processors processor) where
+module _ (processors : List KeyProcessor) (processor : Option Try) (table : TypeTable) (is : IsKeyOf processors processor) (old new : State) where
   abbrev over : Run
-  over = run_over says processor units
+  over = run_over old.says processor table
 
   -- a refusal is the clean build's
-  verdict_here : (s : Stop) → StopsAs over (frames_of over) s → OrFree (verdict_of (outcome_of says processor (Ok units))) (stopped s)
-  verdict_here (stop.Refused refusal) due_as = λ free. sym (ap verdict_of (outcome_is says processor units ∙ ap (outcome_of_run (count_of_processors processor) (name_of processor)) due_as))
+  verdict_here : (s : Stop) → StopsAs over (frames_of over) s → OrFree (verdict_of (outcome_of old.says processor (Ok table))) (stopped s)
+  verdict_here (stop.Refused refusal) due_as = λ free. sym (ap verdict_of (outcome_is old.says processor table ∙ ap (outcome_of_run (count_of_processors processor) (name_of processor)) due_as))
   verdict_here (stop.Failed object) due_as = λ free. absurd cc
   verdict_here stop.Memory due_as = λ free. absurd cc
 
-  module _ (known known' : Known) where
-    makes_finished : (finished : Finished) → clean.Cleans processors over known known' (Ok finished) → Makes says processor units known known' (Ok finished)
-    makes_finished finished cleans = record {
-      comes = record { made = cleans.comes.made; is = cleans.comes.is; has = cleans.comes.has; starts = cleans.comes.started ∙ count_is processors processor is };
-      more = tells_more processors processor known known' is cleans.more;
-      shown = λ due. shown_is says processors processor units known known' is (cleans.shown refl);
-    }
+  over_is : clean_run old.says processors table ≡ over
+  over_is = run_is old.says processors processor table is
 
-    makes_refused : (refusal : engine.Refusal) (status : Status) → verdict status ≡ stopped (stop_of refusal) → clean.Cleans processors over known known' (Err refusal) → Makes says processor units known known' (Err status)
-    makes_refused refusal status due_as cleans = record {
-      comes = subst (OrFree (verdict_of (outcome_of says processor (Ok units)))) (sym due_as) (verdict_here (stop_of refusal) cleans.comes);
-      more = tells_more processors processor known known' is cleans.more;
-      shown = λ made. shown_is says processors processor units known known' is (cleans.shown (due_stop (stop_of refusal) (ap (λ v. not (is_free v)) (sym due_as) ∙ made)));
-    }
+  module _ (result : Result Finished engine.Refusal) (cleans : clean.Cleans processors table old new result) where
+    comes_over : ComesOf processors over result
+    comes_over = subst (λ whole. ComesOf processors whole result) over_is cleans.comes
 
-    cleans_over : (result : Result Finished engine.Refusal) → clean.Cleans processors (clean_run says processors units) known known' result → clean.Cleans processors over known known' result
-    cleans_over result cleans = subst (λ whole. clean.Cleans processors whole known known' result) (run_is says processors processor units is) cleans
+    shown_over : is_due result ≡ true → ShowsRunOver processor table old new
+    shown_over due = shown_is processors processor table old new is (subst (λ whole. ShowsAll processors whole old new) over_is (cleans.shown due))
 
-    pub made_from : (talks : Bool) (finished : Finished) → clean.Talked talks processors (clean.Cleans processors (clean_run says processors units) known known' (Ok finished)) → TalkedBy talks processor (Makes says processor units known known' (Ok finished))
-    made_from talks finished cleans = talked_by talks processors processor _ _ is cleans (λ c. makes_finished finished (cleans_over (Ok finished) c))
+    more_over : TellsMore (Build processor) old new
+    more_over = tells_more processors processor old new is cleans.more
 
-    pub refused_from : (talks : Bool) (refusal : engine.Refusal) (status : Status) → verdict status ≡ stopped (stop_of refusal)
-        → clean.Talked talks processors (clean.Cleans processors (clean_run says processors units) known known' (Err refusal)) → TalkedBy talks processor (Makes says processor units known known' (Err status))
-    refused_from talks refusal status due_as cleans = talked_by talks processors processor _ _ is cleans (λ c. makes_refused refusal status due_as (cleans_over (Err refusal) c))
+  makes_finished : (finished : Finished) → clean.Cleans processors table old new (Ok finished) → Makes processor table old new (Ok finished)
+  makes_finished finished cleans =
+      let comes = comes_over (Ok finished) cleans in
+      record {
+        comes = record { made = comes.made; is = comes.is; has = comes.has; starts = comes.started ∙ count_is processors processor is };
+        more = more_over (Ok finished) cleans;
+        shown = λ due. shown_over (Ok finished) cleans refl;
+      }
+
+  makes_refused : (refusal : engine.Refusal) (status : Status) → verdict status ≡ stopped (stop_of refusal) → clean.Cleans processors table old new (Err refusal) → Makes processor table old new (Err status)
+  makes_refused refusal status due_as cleans = record {
+    comes = subst (OrFree (verdict_of (outcome_of old.says processor (Ok table)))) (sym due_as) (verdict_here (stop_of refusal) (comes_over (Err refusal) cleans));
+    more = more_over (Err refusal) cleans;
+    shown = λ made. shown_over (Err refusal) cleans (due_stop (stop_of refusal) (ap (λ v. not (is_free v)) (sym due_as) ∙ made));
+  }
+
+  pub made_from : (talks : Bool) (finished : Finished) → clean.Talked talks processors (clean.Cleans processors table old new (Ok finished)) → TalkedBy talks processor (Makes processor table old new (Ok finished))
+  made_from talks finished cleans = talked_by talks processors processor _ _ is cleans (λ c. makes_finished finished c)
+
+  pub refused_from : (talks : Bool) (refusal : engine.Refusal) (status : Status) → verdict status ≡ stopped (stop_of refusal)
+      → clean.Talked talks processors (clean.Cleans processors table old new (Err refusal)) → TalkedBy talks processor (Makes processor table old new (Err status))
+  refused_from talks refusal status due_as cleans = talked_by talks processors processor _ _ is cleans (λ c. makes_refused refusal status due_as c)

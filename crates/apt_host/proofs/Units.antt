@@ -1,118 +1,153 @@
--- How units are entered one by one.
-use Rattle.std.proofs.Common.{◌≡◌, ℕ, suc, ◌+◌, ◌<◌, ◌≤◌, Bool, true, false, cond, List, [], ◌∷◌, ◌++◌, drop, length, get_or, Option, None, Some, Result, Ok, Err, String, Vec, refl, sym, ap, ◌∙◌, subst, drop-cons, add-one, arith}
-use Rattle.std.specs.BTreeMap.{BTreeMap}
-use Rattle.std.specs.declared.alloc.Global.{Global}
-use Rattle.std.specs.Prelude.{is_none, is_some, ◌&&◌}
-use Rattle.std.specs.FinMap as fin
+-- How sources are entered one by one.
+use Rattle.std.proofs.Common.{◌≡◌, ℕ, suc, ◌+◌, ◌<◌, ◌≤◌, Bool, true, false, cond, List, [], ◌∷◌, ◌++◌, drop, length, get_or, Result, Ok, Err, inl, inr, refl, sym, ap, ◌∙◌, subst, drop-cons, add-one, arith}
+use Rattle.std.specs.Prelude.{nat_lt}
 use Rattle.std.proofs.lemmas.Bool.{lt-ltb, le-ltb}
-use Rattle.source_form.specs.declared.form.SourceForm.{SourceForm}
-use Rattle.source_form.specs.Form.{form_of, canonical}
 use Rattle.apt_outside.specs.Files.{Files}
+use Rattle.element_table.specs.TypeTable.{TypeTable, empty_table}
 use Rattle.tree_store.specs.Sources.{sources_of}
 use Rattle.tree_store.specs.declared.sources.RawSource.{RawSource}
-use Rattle.round_engine.specs.Refusals.{UnbuiltForm}
-use Rattle.round_engine.specs.Units.{Units}
+use Rattle.round_engine.specs.declared.source_fault.SourceFault.{SourceFault}
+use Rattle.round_engine.specs.declared.source_fault.SourceFault.TheVariants as code
+use Rattle.round_engine.specs.Refusals as stop
+use Rattle.round_engine.specs.Refusals.{Refusal, UnbuiltForm, past}
+use Rattle.round_engine.specs.Units.{Obstacle, Unbuilt, Duplicate, TooLarge, Entered, enter_source, and_then}
+use Rattle.round_engine.specs.Entering.{Obstructs}
 use Rattle.apt_host.specs.declared.status.Status.{Status}
-use Rattle.apt_host.specs.Project.{max_source, enter_form, enter_next, enter_all, units_of, StopsAt}
-use Rattle.apt_host.specs.Entering.{RefusesAs, EntersAll, StopsLeast}
+use Rattle.apt_host.specs.Verdicts.{Verdict, Done, Errors, Refused, Failed, Memory, OrMemory}
+use Rattle.apt_host.specs.Project.{max_source, table_after, enter_next, enter_all, units_of, StopsAt}
+use Rattle.apt_host.specs.Entering.{of_source, RefusesAs, EntersAll, StopsLeast}
 
-pub full : (units : Units) (count : ℕ) (form : SourceForm) → 1000 ≤ count → enter_form units count (Some form) ≡ None
-full units count form past = ap (λ b. cond (b && is_none (fin.get units (canonical form))) (Some (fin.insert units (canonical form) form.annotation)) None) (le-ltb count 1000 past)
+-- ---- one source
 
-none_of_some : (o : Option (List ℕ)) (b : Bool) → is_some o ≡ b → is_none o ≡ (cond b false true)
-none_of_some None b e = ap (λ c. cond c false true) e
-none_of_some (Some x) b e = ap (λ c. cond c false true) e
+module _ (table : TypeTable) (count : ℕ) (source : RawSource) where
+  abbrev here : Result TypeTable Refusal
+  here = table_after source.path (enter_source table source.bytes)
 
-pub repeated : (units : Units) (count : ℕ) (form : SourceForm) → count < 1000 → is_some (fin.get units (canonical form)) ≡ true → enter_form units count (Some form) ≡ None
-repeated units count form below there = ap (λ b. cond (b && is_none (fin.get units (canonical form))) (Some (fin.insert units (canonical form) form.annotation)) None) (lt-ltb count 1000 below)
-    ∙ ap (λ b. cond b (Some (fin.insert units (canonical form) form.annotation)) None) (none_of_some (fin.get units (canonical form)) true there)
+  pub full : 1000 ≤ count → enter_next table count source ≡ Err (UnbuiltForm source.path)
+  full past = ap (λ b. cond b here (Err (UnbuiltForm source.path))) (le-ltb count 1000 past)
 
-pub entered : (units : Units) (count : ℕ) (form : SourceForm) → count < 1000 → is_some (fin.get units (canonical form)) ≡ false → enter_form units count (Some form) ≡ Some (fin.insert units (canonical form) form.annotation)
-entered units count form below absent = ap (λ b. cond (b && is_none (fin.get units (canonical form))) (Some (fin.insert units (canonical form) form.annotation)) None) (lt-ltb count 1000 below)
-    ∙ ap (λ b. cond b (Some (fin.insert units (canonical form) form.annotation)) None) (none_of_some (fin.get units (canonical form)) false absent)
+  room : count < 1000 → enter_next table count source ≡ here
+  room below = ap (λ b. cond b here (Err (UnbuiltForm source.path))) (lt-ltb count 1000 below)
+
+  pub entered : (next : TypeTable) (names : List (List ℕ)) → count < 1000 → enter_source table source.bytes ≡ Ok (record { table = next; names = names }) → enter_next table count source ≡ Ok next
+  entered next names below is = room below ∙ ap (table_after source.path) is
+
+  refused_by : (outcome : Result Entered Obstacle) (fault : SourceFault) → Obstructs outcome fault → RefusesAs (table_after source.path outcome) (of_source source.path fault)
+  refused_by outcome code.Unbuilt is = ap (table_after source.path) is
+  refused_by outcome (code.Duplicate name) is = ap (table_after source.path) is
+  refused_by outcome (code.TooLarge what) is = ap (table_after source.path) is
+  refused_by outcome code.Memory is = tt
+
+  or_memory : (outcome : Result TypeTable Refusal) (due v : Verdict) → RefusesAs outcome due → OrMemory due v → RefusesAs outcome v
+  or_memory outcome due v is (inl same) = subst (RefusesAs outcome) (sym same) is
+  or_memory outcome due v is (inr memory) = subst (RefusesAs outcome) (sym memory) tt
+
+  pub refused : (fault : SourceFault) (v : Verdict) → count < 1000 → Obstructs (enter_source table source.bytes) fault → OrMemory (of_source source.path fault) v → RefusesAs (enter_next table count source) v
+  refused fault v below is due = subst (λ o. RefusesAs o v) (sym (room below)) (or_memory here (of_source source.path fault) v (refused_by (enter_source table source.bytes) fault is) due)
+
+  pub full_as : (v : Verdict) → 1000 ≤ count → OrMemory (of_source source.path code.Unbuilt) v → RefusesAs (enter_next table count source) v
+  full_as v past due = subst (λ o. RefusesAs o v) (sym (full past)) (or_memory (Err (UnbuiltForm source.path)) (of_source source.path code.Unbuilt) v refl due)
+
+-- ---- more sources
 
 -- one source more
-pub enters_next : (units new : Units) (count i : ℕ) (sources : List RawSource) (source : RawSource) → i < length sources → source ≡ get_or sources i source → enter_form units count (form_of source.bytes) ≡ Some new → enter_all units count (drop i sources) ≡ enter_all new (count + 1) (drop (i + 1) sources)
-enters_next units new count i sources source below is enters =
-    ap (enter_all units count) (drop-cons sources i source below ∙ ap (λ s. s ∷ drop (suc i) sources) (sym is))
-    ∙ ap (λ o. enter_next o source.path (λ e. enter_all e (count + 1) (drop (suc i) sources))) enters ∙ ap (λ n. enter_all new (count + 1) (drop n sources)) (sym (add-one i))
+pub enters_next : (table new : TypeTable) (count i : ℕ) (sources : List RawSource) (source : RawSource) → i < length sources → source ≡ get_or sources i source → enter_next table count source ≡ Ok new → enter_all table count (drop i sources) ≡ enter_all new (count + 1) (drop (i + 1) sources)
+enters_next table new count i sources source below is enters =
+    ap (enter_all table count) (drop-cons sources i source below ∙ ap (λ s. s ∷ drop (suc i) sources) (sym is))
+    ∙ ap (λ o. and_then o (λ e. enter_all e (count + 1) (drop (suc i) sources))) enters ∙ ap (λ n. enter_all new (count + 1) (drop n sources)) (sym (add-one i))
+
+refuses_then : (outcome : Result TypeTable Refusal) (v : Verdict) (next : TypeTable → Result TypeTable Refusal) → RefusesAs outcome v → RefusesAs (and_then outcome next) v
+refuses_then outcome (Refused refusal) next is = ap (λ o. and_then o next) is
+refuses_then outcome (Failed object) next is = is
+refuses_then outcome Memory next is = tt
+refuses_then outcome Done next is = absurd is
+refuses_then outcome (Errors count) next is = absurd is
 
 -- the first source that can't be entered is refused
-pub enters_not : (units : Units) (count i : ℕ) (sources : List RawSource) (source : RawSource) → i < length sources → source ≡ get_or sources i source → enter_form units count (form_of source.bytes) ≡ None → enter_all units count (drop i sources) ≡ Err (UnbuiltForm source.path)
-enters_not units count i sources source below is enters =
-    ap (enter_all units count) (drop-cons sources i source below ∙ ap (λ s. s ∷ drop (suc i) sources) (sym is))
-    ∙ ap (λ o. enter_next o source.path (λ e. enter_all e (count + 1) (drop (suc i) sources))) enters
+pub enters_not : (table : TypeTable) (count i : ℕ) (sources : List RawSource) (source : RawSource) (v : Verdict) → i < length sources → source ≡ get_or sources i source → RefusesAs (enter_next table count source) v → RefusesAs (enter_all table count (drop i sources)) v
+enters_not table count i sources source v below is refuses =
+    subst (λ ss. RefusesAs (enter_all table count ss) v) (sym (drop-cons sources i source below ∙ ap (λ s. s ∷ drop (suc i) sources) (sym is)))
+    (refuses_then (enter_next table count source) v (λ e. enter_all e (count + 1) (drop (suc i) sources)) refuses)
 
 -- ---- the source at which entering stops
 
+-- a refusal that names a path names that of the source
+path_by : (source : RawSource) (path : List ℕ) (b : Bool) (outcome : Result Entered Obstacle) → cond b (table_after source.path outcome) (Err (UnbuiltForm source.path)) ≡ Err (UnbuiltForm path) → path ≡ source.path
+path_by source path true (Ok entered) e = absurd (let same : Ok entered.table ≡ Err (UnbuiltForm path) = e in cc)
+path_by source path true (Err Unbuilt) e = (let same : Err (UnbuiltForm source.path) ≡ Err (UnbuiltForm path) = e in cc)
+path_by source path true (Err (Duplicate name)) e = (let same : Err (UnbuiltForm source.path) ≡ Err (UnbuiltForm path) = e in cc)
+path_by source path true (Err (TooLarge what)) e = absurd (let same : Err (past what) ≡ Err (UnbuiltForm path) = e in cc)
+path_by source path false outcome e = (let same : Err (UnbuiltForm source.path) ≡ Err (UnbuiltForm path) = e in cc)
+
+path_of : (table : TypeTable) (count : ℕ) (source : RawSource) (path : List ℕ) → enter_next table count source ≡ Err (UnbuiltForm path) → path ≡ source.path
+path_of table count source path is = path_by source path (nat_lt count 1000) (enter_source table source.bytes) is
+
 -- the same from sources that were entered before
-record StopsFrom (old : Units) (count : ℕ) (sources : List RawSource) (path : List ℕ) : Type 0 where
+record StopsFrom (old : TypeTable) (count : ℕ) (sources : List RawSource) (refusal : Refusal) : Type 0 where
   before : List RawSource
   source : RawSource
   after : List RawSource
   split : sources ≡ before ++ source ∷ after
-  path_is : path ≡ source.path
-  units : Units
-  entered : enter_all old count before ≡ Ok units
-  refused : enter_form units (count + length before) (form_of source.bytes) ≡ None
+  table : TypeTable
+  entered : enter_all old count before ≡ Ok table
+  refused : enter_next table (count + length before) source ≡ Err refusal
 
-module _ (path : List ℕ) where
+module _ (refusal : Refusal) where
   -- the first source is refused
-  here : (old : Units) (count : ℕ) (source : RawSource) (sources : List RawSource) → enter_form old count (form_of source.bytes) ≡ None → path ≡ source.path → StopsFrom old count (source ∷ sources) path
-  here old count source sources none is =
+  stops_here : (old : TypeTable) (count : ℕ) (source : RawSource) (sources : List RawSource) → enter_next old count source ≡ Err refusal → StopsFrom old count (source ∷ sources) refusal
+  stops_here old count source sources is =
       let n : count + 0 ≡ count = omega arith in
       record {
         before = [];
         source = source;
         after = sources;
         split = refl;
-        path_is = is;
-        units = old;
+        table = old;
         entered = refl;
-        refused = ap (λ k. enter_form old k (form_of source.bytes)) n ∙ none;
+        refused = ap (λ k. enter_next old k source) n ∙ is;
       }
 
   -- a later one is
-  later : (old next : Units) (count : ℕ) (source : RawSource) (sources : List RawSource) → enter_form old count (form_of source.bytes) ≡ Some next → StopsFrom next (count + 1) sources path → StopsFrom old count (source ∷ sources) path
-  later old next count source sources some rest =
+  stops_later : (old next : TypeTable) (count : ℕ) (source : RawSource) (sources : List RawSource) → enter_next old count source ≡ Ok next → StopsFrom next (count + 1) sources refusal → StopsFrom old count (source ∷ sources) refusal
+  stops_later old next count source sources is rest =
       let n : count + suc (length rest.before) ≡ (count + 1) + length rest.before = omega arith in
       record {
         before = source ∷ rest.before;
         source = rest.source;
         after = rest.after;
         split = ap (λ ss. source ∷ ss) rest.split;
-        path_is = rest.path_is;
-        units = rest.units;
-        entered = ap (λ o. enter_next o source.path (λ e. enter_all e (count + 1) rest.before)) some ∙ rest.entered;
-        refused = ap (λ k. enter_form rest.units k (form_of rest.source.bytes)) n ∙ rest.refused;
+        table = rest.table;
+        entered = ap (λ o. and_then o (λ e. enter_all e (count + 1) rest.before)) is ∙ rest.entered;
+        refused = ap (λ k. enter_next rest.table k rest.source) n ∙ rest.refused;
       }
 
-  by_source : (old : Units) (count : ℕ) (source : RawSource) (sources : List RawSource) (entered : Option Units) → enter_form old count (form_of source.bytes) ≡ entered
-      → ((next : Units) → enter_all next (count + 1) sources ≡ Err (UnbuiltForm path) → StopsFrom next (count + 1) sources path)
-      → enter_next entered source.path (λ e. enter_all e (count + 1) sources) ≡ Err (UnbuiltForm path) → StopsFrom old count (source ∷ sources) path
-  by_source old count source sources None none then is = here old count source sources none (let e : Err (UnbuiltForm source.path) ≡ Err (UnbuiltForm path) = is in cc)
-  by_source old count source sources (Some next) some then is = later old next count source sources some (then next is)
+  by_source : (old : TypeTable) (count : ℕ) (source : RawSource) (sources : List RawSource) (outcome : Result TypeTable Refusal) → enter_next old count source ≡ outcome
+      → ((next : TypeTable) → enter_all next (count + 1) sources ≡ Err refusal → StopsFrom next (count + 1) sources refusal)
+      → and_then outcome (λ e. enter_all e (count + 1) sources) ≡ Err refusal → StopsFrom old count (source ∷ sources) refusal
+  by_source old count source sources (Err why) is then e = stops_here old count source sources (is ∙ e)
+  by_source old count source sources (Ok next) is then e = stops_later old next count source sources is (then next e)
 
-  stops : (old : Units) (count : ℕ) (sources : List RawSource) → enter_all old count sources ≡ Err (UnbuiltForm path) → StopsFrom old count sources path
-  stops old count [] is = absurd (let e : Ok old ≡ Err (UnbuiltForm path) = is in cc)
-  stops old count (source ∷ sources) is = by_source old count source sources (enter_form old count (form_of source.bytes)) refl (λ next. stops next (count + 1) sources) is
+  stops : (old : TypeTable) (count : ℕ) (sources : List RawSource) → enter_all old count sources ≡ Err refusal → StopsFrom old count sources refusal
+  stops old count [] is = absurd (let e : Ok old ≡ Err refusal = is in cc)
+  stops old count (source ∷ sources) is = by_source old count source sources (enter_next old count source) refl (λ next. stops next (count + 1) sources) is
 
-  pub stops_at : (sources : List RawSource) → enter_all fin.empty 0 sources ≡ Err (UnbuiltForm path) → StopsAt sources path
+  pub stops_at : (sources : List RawSource) → enter_all empty_table 0 sources ≡ Err refusal → StopsAt sources refusal
   stops_at sources is =
-      let from = stops fin.empty 0 sources is in
+      let from = stops empty_table 0 sources is in
       let n : length from.before ≡ 0 + length from.before = omega arith in
+      let refused : enter_next from.table (length from.before) from.source ≡ Err refusal = ap (λ k. enter_next from.table k from.source) n ∙ from.refused in
       record {
         before = from.before;
         source = from.source;
         after = from.after;
         split = from.split;
-        path_is = from.path_is;
-        units = from.units;
+        path_is = λ path same. path_of from.table (length from.before) from.source path (refused ∙ ap Err same);
+        table = from.table;
         entered = from.entered;
-        refused = ap (λ k. enter_form from.units k (form_of from.source.bytes)) n ∙ from.refused;
+        refused = refused;
       }
 
 -- a project that is refused is so by the least path
-pub stops_least : (project : Files) (result : Result (BTreeMap (String Global) (Vec ℕ Global)) Status) → EntersAll (units_of project) result → StopsLeast project result
-stops_least project (Ok units) enters = tt
-stops_least project (Err status) enters = λ path is. stops_at path (sources_of max_source project) (subst (RefusesAs (units_of project)) is enters)
+pub stops_least : (project : Files) (result : Result TypeTable Status) → EntersAll (units_of project) result → StopsLeast project result
+stops_least project (Ok table) enters = tt
+stops_least project (Err status) enters = λ refusal is. stops_at refusal (sources_of max_source project) (subst (RefusesAs (units_of project)) is enters)

@@ -9,7 +9,7 @@ use Rattle.apt_outside.specs.declared.fault.Fault.TheVariants as outside
 use Rattle.apt_outside.specs.Stream.{Appends}
 use Rattle.apt_host.specs.Endings.{of_store, sink_verdict}
 use Rattle.round_engine.specs.Refusals.{Refusal, BadWords, Object, Tree, Sink, Children}
-use Rattle.round_engine.specs.Units.{Units}
+use Rattle.element_table.specs.TypeTable.{TypeTable}
 use Rattle.apt_host.specs.Words.{Request, Build, Bad}
 use Rattle.apt_host.specs.Project.{units_of}
 use Rattle.apt_host.specs.CleanBuild.{Summary, Outcome, clean}
@@ -27,10 +27,10 @@ memory_or_not (Refused refusal) A is other = other (λ e. cc)
 memory_or_not (Failed object) A is other = other (λ e. cc)
 
 -- a fact that holds holds where it is told
-pub talked : (talks : Bool) (processor : Option Try) (entered : Result Units Refusal) (P : Type 0) → P → Talked talks processor entered P
+pub talked : (talks : Bool) (processor : Option Try) (entered : Result TypeTable Refusal) (P : Type 0) → P → Talked talks processor entered P
 talked talks None entered P p = p
 talked talks (Some processor) (Err refusal) P p = p
-talked talks (Some processor) (Ok units) P p = λ told. p
+talked talks (Some processor) (Ok table) P p = λ told. p
 
 -- ---- the report
 

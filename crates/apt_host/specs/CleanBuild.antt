@@ -3,7 +3,7 @@ use Rattle.std.specs.Prelude.{ℕ, ◌+◌, List, [], length, Option, None, Some
 use Rattle.apt_outside.specs.Files.{Files}
 use Rattle.apt_outside.specs.Child.{Says, Try}
 use Rattle.round_engine.specs.declared.messages.Placed.{Placed}
-use Rattle.round_engine.specs.Units.{Units}
+use Rattle.element_table.specs.TypeTable.{TypeTable}
 use Rattle.round_engine.specs.Refusals.{Refusal}
 use Rattle.round_engine.specs.Run.{Run, files_among, run_of}
 use Rattle.round_engine.specs.Run as run
@@ -52,10 +52,10 @@ abbrev pub outcome_of_run : ℕ → List ℕ → Run → Outcome
 outcome_of_run started processor (run.Finished sent rounds made messages unread) = finished (summary started rounds processor messages unread) (files_among made)
 outcome_of_run started processor (run.Refused sent refusal) = Refused refusal
 
-abbrev pub outcome_of : Says → Option Try → Result Units Refusal → Outcome
+abbrev pub outcome_of : Says → Option Try → Result TypeTable Refusal → Outcome
 outcome_of says processor (Err refusal) = Refused refusal
-outcome_of says None (Ok units) = outcome_of_run 0 [] (run.Finished [] 2 [] [] [])
-outcome_of says (Some processor) (Ok units) = outcome_of_run 1 processor.0 (run_of says processor units)
+outcome_of says None (Ok table) = outcome_of_run 0 [] (run.Finished [] 2 [] [] [])
+outcome_of says (Some processor) (Ok table) = outcome_of_run 1 processor.0 (run_of says processor table)
 
 abbrev pub clean : Says → Option Try → Files → Outcome
 clean says processor project = outcome_of says processor (units_of project)

@@ -1,5 +1,5 @@
 -- What the report and the store have of a file that was made.
-use Rattle.std.specs.Prelude.{◌≡◌, ◌≢◌, ℕ, List, [], length, map, All}
+use Rattle.std.specs.Prelude.{◌≡◌, ◌≢◌, ℕ, ◌<◌, ◌^◌, ◌-◌, Bool, List, [], length, map, All}
 use Rattle.std.specs.FinMap as fin
 use Rattle.apt_outside.specs.Files.{Files}
 use Rattle.tree_store.specs.declared.record.StoredFile.{StoredFile}
@@ -32,6 +32,10 @@ numbered_of made = (made.store, made.bytes)
 -- its path and its bytes
 abbrev pub file_of : Made → List ℕ × List ℕ
 file_of made = (made.path, made.bytes)
+
+-- its number, its path and its bytes fit into the fields of an entry
+abbrev pub FitsEntry : Made → Type 0
+FitsEntry made = (made.store < 2 ^ 32) × (length made.path < 2 ^ 32) × (length made.bytes < 2 ^ 32)
 
 -- what a report says of a finished run
 abbrev pub summary_of : List ℕ → code.Summary → Summary

@@ -2,10 +2,10 @@
 use Rattle.std.specs.Prelude.{◌≡◌, ◌==◌, ℕ, Bool, true, false, not, List, [], ◌∷◌, map, if◌then◌else◌, Option, None, Some, Result, Ok, Err}
 use Rattle.apt_outside.specs.Count.{Told}
 use Rattle.apt_outside.specs.Files.{Files}
-use Rattle.apt_outside.specs.Child.{Says, Try, Known}
+use Rattle.apt_outside.specs.Child.{Says, Try, State}
 use Rattle.wire_frames.specs.declared.frame.Creation.{Creation}
 use Rattle.round_engine.specs.declared.running.Finished.{Finished}
-use Rattle.round_engine.specs.Units.{Units}
+use Rattle.element_table.specs.TypeTable.{TypeTable}
 use Rattle.round_engine.specs.Run.{Run, run_of}
 use Rattle.round_engine.specs.Run as run
 use Rattle.round_engine.specs.Shown.{ShowsNew}
@@ -19,15 +19,15 @@ use Rattle.apt_host.specs.Words.{Build}
 use Rattle.apt_host.specs.Promises.{TellsMore}
 use Rattle.apt_host.specs.Verdicts.{Verdict, Done, Errors, OrFree, is_free, verdict, verdict_of}
 
--- the run of a build over these units
-abbrev pub run_over : Says → Option Try → Units → Run
-run_over says None units = run.Finished [] 2 [] [] []
-run_over says (Some processor) units = run_of says processor units
+-- the run of a build over this table
+abbrev pub run_over : Says → Option Try → TypeTable → Run
+run_over says None table = run.Finished [] 2 [] [] []
+run_over says (Some processor) table = run_of says processor table
 
 -- the child that was started was shown exactly the frames of the run
-abbrev pub ShowsRunOver : Says → Option Try → Units → Known → Known → Type 0
-ShowsRunOver says None units known known' = Unit {0}
-ShowsRunOver says (Some processor) units known known' = ShowsNew processor (frames_of (run_of says processor units)) known known'
+abbrev pub ShowsRunOver : Option Try → TypeTable → State → State → Type 0
+ShowsRunOver None table old new = Unit {0}
+ShowsRunOver (Some processor) table old new = ShowsNew processor (frames_of (run_of old.says processor table)) old new
 
 abbrev pub count_of_processors : Option Try → ℕ
 count_of_processors None = 0
@@ -41,19 +41,19 @@ pub record MakesAs (whole : Run) (started : ℕ) (finished : Finished) : Type 0 
   pub starts : finished.started ≡ started
 
 -- it is the clean build's, where it is due
-abbrev pub MakesOf : Says → Option Try → Units → Result Finished Status → Type 0
-MakesOf says processor units (Ok finished) = MakesAs (run_over says processor units) (count_of_processors processor) finished
-MakesOf says processor units (Err status) = OrFree (verdict_of (outcome_of says processor (Ok units))) (verdict status)
+abbrev pub MakesOf : Says → Option Try → TypeTable → Result Finished Status → Type 0
+MakesOf says processor table (Ok finished) = MakesAs (run_over says processor table) (count_of_processors processor) finished
+MakesOf says processor table (Err status) = OrFree (verdict_of (outcome_of says processor (Ok table))) (verdict status)
 
 -- whether it is due: no fault outside and no want of memory
 abbrev pub is_made : {T : Type 0} → Result T Status → Bool
 is_made (Ok value) = true
 is_made (Err status) = not (is_free (verdict status))
 
-pub record Makes (says : Says) (processor : Option Try) (units : Units) (known known' : Known) (result : Result Finished Status) : Type 0 where
-  pub comes : MakesOf says processor units result
-  pub more : TellsMore (Build processor) known known'
-  pub shown : is_made result ≡ true → ShowsRunOver says processor units known known'
+pub record Makes (processor : Option Try) (table : TypeTable) (old new : State) (result : Result Finished Status) : Type 0 where
+  pub comes : MakesOf old.says processor table result
+  pub more : TellsMore (Build processor) old new
+  pub shown : is_made result ≡ true → ShowsRunOver processor table old new
 
 -- a fact on which what children say bears, where they tell it; without a processor none is asked
 abbrev pub TalkedBy : Bool → Option Try → Type 0 → Type 0

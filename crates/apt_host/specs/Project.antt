@@ -1,13 +1,11 @@
--- The units of a project: its sources are entered in order of path.
-use Rattle.std.specs.Prelude.{◌≡◌, ◌++◌, length, ℕ, ◌+◌, ◌&&◌, nat_lt, List, [], ◌∷◌, Option, None, Some, is_none, Result, Ok, Err, if◌then◌else◌}
-use Rattle.std.specs.FinMap as fin
+-- The type table of a project: its sources are entered in order of path.
+use Rattle.std.specs.Prelude.{◌≡◌, ◌++◌, length, ℕ, ◌+◌, nat_lt, List, [], ◌∷◌, Result, Ok, Err, if◌then◌else◌}
 use Rattle.apt_outside.specs.Files.{Files}
-use Rattle.source_form.specs.declared.form.SourceForm.{SourceForm}
-use Rattle.source_form.specs.Form.{form_of, canonical}
+use Rattle.element_table.specs.TypeTable.{TypeTable, empty_table}
 use Rattle.tree_store.specs.declared.sources.RawSource.{RawSource}
 use Rattle.tree_store.specs.Sources.{sources_of}
-use Rattle.round_engine.specs.Refusals.{Refusal, UnbuiltForm}
-use Rattle.round_engine.specs.Units.{Units}
+use Rattle.round_engine.specs.Refusals.{Refusal, UnbuiltForm, past}
+use Rattle.round_engine.specs.Units.{Obstacle, Unbuilt, Duplicate, TooLarge, Entered, enter_source, and_then}
 
 -- a source has at most so many bytes, and a project so many sources
 abbrev pub max_source : ℕ
@@ -16,33 +14,37 @@ max_source = 4096
 abbrev pub max_sources : ℕ
 max_sources = 1000
 
--- The unit of a form, beside those of so many earlier sources, where no earlier one gives its name and there is room for it.
-abbrev pub enter_form : Units → ℕ → Option SourceForm → Option Units
-enter_form units count None = None
-enter_form units count (Some form) = if nat_lt count max_sources && is_none (fin.get units (canonical form)) then Some (fin.insert units (canonical form) form.annotation) else None
+-- the refusal of a project whose source at this path can't be entered; so far one that gives a name again counts as off the form
+abbrev pub refusal_at : List ℕ → Obstacle → Refusal
+refusal_at path Unbuilt = UnbuiltForm path
+refusal_at path (Duplicate name) = UnbuiltForm path
+refusal_at path (TooLarge what) = past what
 
--- what comes after a source: the rest, or the source is refused by its path
-abbrev pub enter_next : Option Units → List ℕ → (Units → Result Units Refusal) → Result Units Refusal
-enter_next None path rest = Err (UnbuiltForm path)
-enter_next (Some units) path rest = rest units
+abbrev pub table_after : List ℕ → Result Entered Obstacle → Result TypeTable Refusal
+table_after path (Ok entered) = Ok entered.table
+table_after path (Err obstacle) = Err (refusal_at path obstacle)
 
--- all sources, or the refusal of the first that is not of the form, gives a name again or is past the thousandth
-abbrev pub enter_all : Units → ℕ → List RawSource → Result Units Refusal
-enter_all units count [] = Ok units
-enter_all units count (source ∷ sources) = enter_next (enter_form units count (form_of source.bytes)) source.path (λ entered. enter_all entered (count + 1) sources)
+-- a source after so many others, which is refused where these are a thousand
+abbrev pub enter_next : TypeTable → ℕ → RawSource → Result TypeTable Refusal
+enter_next table count source = if nat_lt count max_sources then table_after source.path (enter_source table source.bytes) else Err (UnbuiltForm source.path)
 
--- the units of a project, or the refusal of the source that is refused with the least path
-abbrev pub units_of : Files → Result Units Refusal
-units_of project = enter_all fin.empty 0 (sources_of max_source project)
+-- all sources after so many others, or the refusal of the first that can't be entered
+abbrev pub enter_all : TypeTable → ℕ → List RawSource → Result TypeTable Refusal
+enter_all table count [] = Ok table
+enter_all table count (source ∷ sources) = and_then (enter_next table count source) (λ next. enter_all next (count + 1) sources)
 
--- Entering stops at the first source in order of path that is off the form, gives a name again or is past the thousandth: all
--- before it were entered.
-pub record StopsAt (sources : List RawSource) (path : List ℕ) : Type 0 where
+-- the table of a project, or the refusal of its source with the least path that can't be entered
+abbrev pub units_of : Files → Result TypeTable Refusal
+units_of project = enter_all empty_table 0 (sources_of max_source project)
+
+-- Entering stops at the first source in order of path that is off the form, has a name that is too long, gives a name again or is
+-- past the thousandth: all before it were entered.
+pub record StopsAt (sources : List RawSource) (refusal : Refusal) : Type 0 where
   pub before : List RawSource
   pub source : RawSource
   pub after : List RawSource
   pub split : sources ≡ before ++ source ∷ after
-  pub path_is : path ≡ source.path
-  pub units : Units
-  pub entered : enter_all fin.empty 0 before ≡ Ok units
-  pub refused : enter_form units (length before) (form_of source.bytes) ≡ None
+  pub path_is : (path : List ℕ) → refusal ≡ UnbuiltForm path → path ≡ source.path
+  pub table : TypeTable
+  pub entered : enter_all empty_table 0 before ≡ Ok table
+  pub refused : enter_next table (length before) source ≡ Err refusal

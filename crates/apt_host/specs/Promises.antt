@@ -3,14 +3,14 @@ use Rattle.std.specs.Prelude.{◌≡◌, ◌≢◌, ◌⊎◌, ℕ, ◌+◌, ◌
 use Rattle.std.specs.FinMap as fin
 use Rattle.apt_outside.specs.Count.{Rose, Told}
 use Rattle.apt_outside.specs.Files.{Files}
-use Rattle.apt_outside.specs.Child.{Says, Try, Known, AllKept}
+use Rattle.apt_outside.specs.Child.{Says, Try, State, AllKept}
 use Rattle.tree_store.specs.declared.record.StoredFile.{StoredFile}
 use Rattle.tree_store.specs.RecordFormat.{record_form}
 use Rattle.tree_store.specs.Output.{store_path, output_of, record_path, StoresStand}
-use Rattle.tree_store.specs.Storing.{AreTaken, AddsToStore, ChangesAmong, Holds}
+use Rattle.tree_store.specs.Storing.{Numbered, AreTaken, AddsToStore, ChangesAmong, Holds}
 use Rattle.round_engine.specs.Numbering.{AreLeast}
 use Rattle.round_engine.specs.Refusals.{Refusal, BadWords, Object, Tree, Sink, Children}
-use Rattle.round_engine.specs.Units.{Units}
+use Rattle.element_table.specs.TypeTable.{TypeTable}
 use Rattle.round_engine.specs.Run.{run_of}
 use Rattle.round_engine.specs.Shown.{ShowsNew, TellsOneMore}
 use Rattle.round_engine.specs.Clean.{frames_of}
@@ -19,15 +19,16 @@ use Rattle.apt_host.specs.Project.{units_of}
 use Rattle.apt_host.specs.CleanBuild.{Outcome, clean}
 use Rattle.apt_host.specs.CleanBuild as outcome
 use Rattle.apt_host.specs.Report.{report_text}
+use Rattle.apt_host.specs.Listed.{GainsFirst}
 use Rattle.apt_host.specs.Verdicts.{Verdict, Done, Errors, Refused, Failed, Memory, OrFree, OrMemory, is_free, is_finished, verdict_of, refusal_of}
 
 -- ---- what is told
 
 -- a fact on which what a child says bears, if a child is asked: the words name a processor, and the sources are read
-abbrev pub Talked : Bool → Option Try → Result Units Refusal → Type 0 → Type 0
+abbrev pub Talked : Bool → Option Try → Result TypeTable Refusal → Type 0 → Type 0
 Talked talks None entered P = P
 Talked talks (Some processor) (Err refusal) P = P
-Talked talks (Some processor) (Ok units) P = Told talks P
+Talked talks (Some processor) (Ok table) P = Told talks P
 
 -- a fact of a build over this project, where the tree tells what it holds and the children what they say
 abbrev pub ToldOf : Bool → Bool → Option Try → Files → Type 0 → Type 0
@@ -120,6 +121,10 @@ IsFront rose report (Refused refusal) text = text ≡ []
 IsFront rose report (Failed object) text = IsFrontAt object report text
 IsFront rose report Memory text = (text ≡ []) ⊎ (text ≡ report) ⊎ (rose × ((n : ℕ) × (text ≡ take n report)))
 
+-- what stands of a report; where the tree failed behind it, the store had gained the files
+abbrev pub StandsFirst : Bool → List ℕ → Numbered → Verdict → Files → Files → List ℕ → Type 0
+StandsFirst tells report stored v old new text = IsFront ⊥ report v text × Told tells (GainsFirst v text stored old new)
+
 -- the line of a refusal; a part of it only where the sink's count rose, and none where memory was wanted for it
 abbrev pub IsLine : Verdict → Type 0 → List ℕ → Type 0
 IsLine v rose line = (line ≡ refusal_of v) ⊎ ((v ≡ Memory) × (line ≡ [])) ⊎ (rose × ((n : ℕ) × (line ≡ take n (refusal_of v))))
@@ -172,25 +177,25 @@ started_of (Build None) = 0
 started_of (Build (Some processor)) = 1
 started_of (Bad at) = 0
 
-pub record Starts (request : Request) (v : Verdict) (before now : ℕ) : Type 0 where
-  pub finished : is_finished v ≡ true → now ≡ before + started_of request
-  pub most : now ≤ before + started_of request
+pub record Starts (request : Request) (v : Verdict) (old new : State) : Type 0 where
+  pub finished : is_finished v ≡ true → new.starts ≡ old.starts + started_of request
+  pub most : new.starts ≤ old.starts + started_of request
 
 -- no start but that of the processor that the words name was tried
-abbrev pub Tries : Request → List Try → List Try → Type 0
-Tries (Build (Some processor)) old new = (new ≡ old) ⊎ (new ≡ old ++ processor ∷ [])
-Tries (Build None) old new = new ≡ old
-Tries (Bad at) old new = new ≡ old
+abbrev pub Tries : Request → State → State → Type 0
+Tries (Build (Some processor)) old new = (new.tried ≡ old.tried) ⊎ (new.tried ≡ old.tried ++ processor ∷ [])
+Tries (Build None) old new = new.tried ≡ old.tried
+Tries (Bad at) old new = new.tried ≡ old.tried
 
 -- where a source of the project is refused, no child is started
-abbrev pub StartsUnread : Request → Files → ℕ → ℕ → Type 0
-StartsUnread (Build processor) project before now = (refusal : Refusal) → units_of project ≡ Err refusal → now ≡ before
-StartsUnread (Bad at) project before now = now ≡ before
+abbrev pub StartsUnread : Request → Files → State → State → Type 0
+StartsUnread (Build processor) project old new = (refusal : Refusal) → units_of project ≡ Err refusal → new.starts ≡ old.starts
+StartsUnread (Bad at) project old new = new.starts ≡ old.starts
 
 -- nor is a start of one tried
-abbrev pub TriesUnread : Request → Files → List Try → List Try → Type 0
-TriesUnread (Build processor) project old new = (refusal : Refusal) → units_of project ≡ Err refusal → new ≡ old
-TriesUnread (Bad at) project old new = new ≡ old
+abbrev pub TriesUnread : Request → Files → State → State → Type 0
+TriesUnread (Build processor) project old new = (refusal : Refusal) → units_of project ≡ Err refusal → new.tried ≡ old.tried
+TriesUnread (Bad at) project old new = new.tried ≡ old.tried
 
 -- the processor that the words name, or none
 abbrev pub IsNamed : Option Try → List ℕ → Type 0
@@ -204,18 +209,18 @@ NamesChild (Bad at) (Failed (Children name)) = ⊥
 NamesChild request other = Unit {0}
 
 -- nothing is told anew but of one child of which nothing was told before, and of none where none is started
-abbrev pub TellsMore : Request → Known → Known → Type 0
-TellsMore (Build (Some processor)) known known' = TellsOneMore known known'
-TellsMore (Build None) known known' = AllKept known known'
-TellsMore (Bad at) known known' = AllKept known known'
+abbrev pub TellsMore : Request → State → State → Type 0
+TellsMore (Build (Some processor)) old new = TellsOneMore old new
+TellsMore (Build None) old new = AllKept old.known new.known
+TellsMore (Bad at) old new = AllKept old.known new.known
 
 -- The child that was started was not known before and was shown exactly the frames of the run: the first frame, round 1 where
 -- its annotation is present, then the others up to the last, and the replies between them.
-abbrev pub ShowsOver : Option Try → Says → Result Units Refusal → Known → Known → Verdict → Type 0
-ShowsOver None says entered known known' v = Unit {0}
-ShowsOver (Some processor) says (Err refusal) known known' v = AllKept known known'
-ShowsOver (Some processor) says (Ok units) known known' v = is_free v ≡ false → ShowsNew processor (frames_of (run_of says processor units)) known known'
+abbrev pub ShowsOver : Option Try → Result TypeTable Refusal → State → State → Verdict → Type 0
+ShowsOver None entered old new v = Unit {0}
+ShowsOver (Some processor) (Err refusal) old new v = AllKept old.known new.known
+ShowsOver (Some processor) (Ok table) old new v = is_free v ≡ false → ShowsNew processor (frames_of (run_of old.says processor table)) old new
 
-abbrev pub ShowsRun : Request → Says → Files → Known → Known → Verdict → Type 0
-ShowsRun (Build processor) says project known known' v = ShowsOver processor says (units_of project) known known' v
-ShowsRun (Bad at) says project known known' v = Unit {0}
+abbrev pub ShowsRun : Request → Files → State → State → Verdict → Type 0
+ShowsRun (Build processor) project old new v = ShowsOver processor (units_of project) old new v
+ShowsRun (Bad at) project old new v = Unit {0}

@@ -1,8 +1,10 @@
 -- How a call ends, as a value: its number, its line, and which ends may come at any point.
 use Rattle.std.specs.Prelude.{◌≡◌, ◌⊎◌, ℕ, ◌≤◌, Bool, true, false, List, [], ◌++◌, codes, decimal, Result, Ok, Err}
 use Rattle.apt_outside.specs.Count.{Rose}
+use Rattle.apt_base.specs.declared.kinds.What.{What}
+use Rattle.apt_base.specs.declared.kinds.What.TheVariants as what
 use Rattle.round_engine.specs.Refusals as stop
-use Rattle.round_engine.specs.Refusals.{Refusal, BadWords, UnbuiltForm, UnbuiltTalk, TooManyQuestions, GeneratedDuplicate, TooManyRounds, Object, Tree, Sink, Children, Stop}
+use Rattle.round_engine.specs.Refusals.{Refusal, BadWords, UnbuiltForm, UnbuiltTalk, TooManyQuestions, GeneratedDuplicate, TooManyRounds, TooLarge, Object, Tree, Sink, Children, Stop}
 use Rattle.apt_host.specs.declared.status.Status.{Status}
 use Rattle.apt_host.specs.declared.status.Status.TheVariants as code
 use Rattle.apt_host.specs.CleanBuild as outcome
@@ -27,6 +29,7 @@ verdict (code.UnbuiltTalk processor) = Refused (UnbuiltTalk processor)
 verdict (code.TooManyQuestions processor most) = Refused (TooManyQuestions processor most)
 verdict (code.GeneratedDuplicate name) = Refused (GeneratedDuplicate name)
 verdict code.TooManyRounds = Refused TooManyRounds
+verdict (code.TooLarge what limit) = Refused (TooLarge what limit)
 verdict code.TreeFault = Failed Tree
 verdict code.SinkFault = Failed Sink
 verdict (code.ChildFault processor) = Failed (Children processor)
@@ -110,6 +113,7 @@ number_of (BadWords at) = 2
 number_of (TooManyQuestions processor most) = 11
 number_of (GeneratedDuplicate name) = 19
 number_of TooManyRounds = 20
+number_of (TooLarge what limit) = 21
 number_of (UnbuiltForm path) = 25
 number_of (UnbuiltTalk processor) = 26
 
@@ -126,6 +130,23 @@ code_of (Refused refusal) = number_of refusal
 code_of Memory = 3
 code_of (Failed object) = number_of_failure object
 
+-- the name of a limit
+abbrev pub what_text : What → List ℕ
+what_text what.Files = codes "Files"
+what_text what.FileBytes = codes "FileBytes"
+what_text what.SourceBytes = codes "SourceBytes"
+what_text what.StubBytes = codes "StubBytes"
+what_text what.ConfigBytes = codes "ConfigBytes"
+what_text what.Processors = codes "Processors"
+what_text what.Types = codes "Types"
+what_text what.Name = codes "Name"
+what_text what.Children = codes "Children"
+what_text what.Depth = codes "Depth"
+what_text what.Frame = codes "Frame"
+what_text what.Record = codes "Record"
+what_text what.Script = codes "Script"
+what_text what.Rounds = codes "Rounds"
+
 -- the line of a refusal
 abbrev pub line_of : Refusal → List ℕ
 line_of (BadWords at) = codes "refused: BadWords(" ++ (decimal at ++ codes ")\n")
@@ -134,6 +155,7 @@ line_of (UnbuiltTalk processor) = codes "refused: UnbuiltTalk(" ++ (processor ++
 line_of (TooManyQuestions processor most) = codes "refused: TooManyQuestions(" ++ (processor ++ (codes ", " ++ (decimal most ++ codes ")\n")))
 line_of (GeneratedDuplicate name) = codes "refused: GeneratedDuplicate(" ++ (name ++ codes ")\n")
 line_of TooManyRounds = codes "refused: TooManyRounds(64)\n"
+line_of (TooLarge what limit) = codes "refused: TooLarge(" ++ (what_text what ++ (codes ", " ++ (decimal limit ++ codes ")\n")))
 
 abbrev pub line_of_failure : Object → List ℕ
 line_of_failure Tree = codes "refused: TreeFault\n"

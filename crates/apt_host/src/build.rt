@@ -2,7 +2,6 @@
 ghost use Rattle.std.specs.Prelude.{◌≡◌, ◌<◌, ◌^◌, All, IfOk, IfErr, length, map, option_map, true};
 ghost use Rattle.std.specs.List.Sorted.{IsStrictlyIncreasing};
 ghost use Rattle.apt_outside.specs.Count.{Rose, Told};
-ghost use Rattle.apt_outside.specs.Held.{files_of};
 ghost use Rattle.round_engine.specs.Clean.{IsPlain, try_of, AreNumbered};
 ghost use Rattle.tree_store.specs.Output.{StoresStand, SameOutside};
 ghost use Rattle.apt_base.specs.Fields.{is_text};
@@ -12,8 +11,8 @@ ghost use Rattle.apt_host.specs.Shown.{shown_processor, build_by};
 ghost use Rattle.apt_host.specs.Verdicts.{verdict, Done, OrFree, is_tree, is_sink, is_children, fails, HasCause};
 ghost use Rattle.apt_host.specs.Endings.{ended, closed, EndsEarly, IsConcluded};
 ghost use Rattle.apt_host.specs.Making.{Makes, TalkedBy, tries_of, name_of, concluded, concluding_report};
-ghost use Rattle.apt_host.specs.Listed.{entry_of, numbered_of, GainsFirst, Places};
-ghost use Rattle.apt_host.specs.Promises.{Answers, OffTable, PublishesClean, Leaves, LeavesUndone, KeepsOutput, Adds, IsFront, Reports, Starts, Tries, StartsUnread, TriesUnread, NamesChild, TellsMore, ShowsRun};
+ghost use Rattle.apt_host.specs.Listed.{entry_of, numbered_of, FitsEntry, Places};
+ghost use Rattle.apt_host.specs.Promises.{Answers, OffTable, PublishesClean, Leaves, LeavesUndone, KeepsOutput, Adds, StandsFirst, Reports, Starts, Tries, StartsUnread, TriesUnread, NamesChild, TellsMore, ShowsRun};
 
 use crate::Status;
 use crate::project::read_units;
@@ -22,9 +21,9 @@ use crate::report::Summary;
 use crate::words::Processor;
 use apt_base::{Kind, List, Name, NoMemory};
 use apt_outside::{Children, Sink, Tree};
+use element_table::Table;
 use round_engine::{Finished, Key, KeyProcessor, LEVEL, Project, clean};
 use std::alloc::Global;
-use std::collections::BTreeMap;
 use tree_store::taken_numbers;
 
 /// How a build ends that was not refused.
@@ -81,32 +80,32 @@ fn name_of<'a>(processor: &Option<Processor<'a>>) -> &'a str
     }
 }
 
-/// Runs the rounds over the units, and gives what they came to.
+/// Runs the rounds over the table of a project, and gives what they came to.
 fn make<C: Children>(
     alloc: Global,
     processor: &Option<Processor<'_>>,
-    units: BTreeMap<String, Vec<u8>>,
+    table: Table,
     taken: &List<u32>,
     children: &mut C,
 ) -> Result<Finished, Status>
     requires { IsStrictlyIncreasing taken.now }
     ensures cause { HasCause is_children (ended result) (C.faults children.old) (C.faults children.new) }
     ensures early { IfErr result (λ status. EndsEarly is_children (verdict status)) }
-    ensures live { C.live children.new ≡ C.live children.old }
-    ensures starts { Starts (build_by processor.now) (ended result) (C.starts children.old)
-        (C.starts children.new) }
-    ensures says { Told C.tells (C.says children.new ≡ C.says children.old) }
-    ensures tried { Told C.tells (Tries (build_by processor.now) (C.tried children.old)
-        (C.tried children.new)) }
+    ensures live { (C.state children.new).live ≡ (C.state children.old).live }
+    ensures starts { Starts (build_by processor.now) (ended result)
+        (C.state children.old) (C.state children.new) }
+    ensures says { Told C.tells ((C.state children.new).says ≡ (C.state children.old).says) }
+    ensures tried { Told C.tells (Tries (build_by processor.now)
+        (C.state children.old) (C.state children.new)) }
     ensures named { NamesChild (build_by processor.now) (ended result) }
     ensures numbered { IfOk result (λ finished. AreNumbered taken.now finished.files) }
     ensures made { TalkedBy C.tells (option_map shown_processor processor.now)
-        (Makes (C.says children.old) (option_map shown_processor processor.now)
-        (files_of units) (C.known children.old) (C.known children.new) result) }
+        (Makes (option_map shown_processor processor.now) table
+        (C.state children.old) (C.state children.new) result) }
 {
     let project = Project {
         key: key_of(alloc, processor)?,
-        initial: units,
+        initial: table,
     };
     match clean(alloc, &project, taken.as_slice(), children) {
         Ok(finished) => Ok(finished),
@@ -123,8 +122,7 @@ fn conclude<T: Tree, W: Sink>(
     output: &mut W,
 ) -> Result<Ending, Status>
     requires count { length finished.files < 2 ^ 32 }
-    requires sizes { All (λ file. (file.store < 2 ^ 32) × (length file.path < 2 ^ 32) ×
-        (length file.bytes < 2 ^ 32)) finished.files }
+    requires sizes { All FitsEntry finished.files }
     requires texts { All (λ file. is_text file.path ≡ true) finished.files }
     requires distinct { AreDistinct (map numbered_of finished.files) }
     requires absent { Told T.tells (AreAbsent (T.files tree.old) (map numbered_of finished.files)) }
@@ -137,9 +135,8 @@ fn conclude<T: Tree, W: Sink>(
         (record_form (map entry_of finished.files)) (T.files tree.old) (T.files tree.new)) }
     ensures leaves { Told T.tells (LeavesUndone (closed result) (T.files tree.old) (T.files tree.new)) }
     ensures outside { Told T.tells (SameOutside (T.files tree.old) (T.files tree.new)) }
-    ensures written { Told W.tells (Adds (λ text. IsFront ⊥ (concluding_report processor.now finished)
-        (closed result) text
-        × Told T.tells (GainsFirst (closed result) text (map numbered_of finished.files) (T.files tree.old) (T.files tree.new)))
+    ensures written { Told W.tells (Adds (StandsFirst T.tells (concluding_report processor.now finished)
+        (map numbered_of finished.files) (closed result) (T.files tree.old) (T.files tree.new))
         (W.written output.old) (W.written output.new)) }
 {
     let Finished {
@@ -177,41 +174,41 @@ pub fn build<T: Tree, C: Children, W: Sink>(
     output: &mut W,
 ) -> Result<Ending, Status>
     ensures tree_cause { HasCause is_tree (closed result) (T.faults tree.old) (T.faults tree.new) }
-    ensures child_cause { HasCause is_children (closed result) (C.faults children.old) (C.faults children.new) }
+    ensures children { HasCause is_children (closed result) (C.faults children.old) (C.faults children.new) }
     ensures sink_cause { HasCause is_sink (closed result) (W.faults output.old) (W.faults output.new) }
-    ensures live { C.live children.new ≡ C.live children.old }
-    ensures starts { Starts (build_by processor.entry) (closed result) (C.starts children.old)
-        (C.starts children.new) }
-    ensures says { Told C.tells (C.says children.new ≡ C.says children.old) }
-    ensures tried { Told C.tells (Tries (build_by processor.entry) (C.tried children.old)
-        (C.tried children.new)) }
+    ensures live { (C.state children.new).live ≡ (C.state children.old).live }
+    ensures starts { Starts (build_by processor.entry) (closed result)
+        (C.state children.old) (C.state children.new) }
+    ensures says { Told C.tells ((C.state children.new).says ≡ (C.state children.old).says) }
+    ensures tried { Told C.tells (Tries (build_by processor.entry)
+        (C.state children.old) (C.state children.new)) }
     ensures starts_unread { Told T.tells (StartsUnread (build_by processor.entry)
-        (T.files tree.old) (C.starts children.old) (C.starts children.new)) }
+        (T.files tree.old) (C.state children.old) (C.state children.new)) }
     ensures tries_unread { Told T.tells (Told C.tells (TriesUnread (build_by processor.entry)
-        (T.files tree.old) (C.tried children.old) (C.tried children.new))) }
+        (T.files tree.old) (C.state children.old) (C.state children.new))) }
     ensures named { NamesChild (build_by processor.entry) (closed result) }
     ensures on_table { OffTable (build_by processor.entry) (closed result)
         tree.old tree.new children.old children.new }
-    ensures answer { Answers T.tells C.tells (build_by processor.entry) (C.says children.old)
+    ensures answer { Answers T.tells C.tells (build_by processor.entry) (C.state children.old).says
         (T.files tree.old) (closed result) }
-    ensures published { PublishesClean T.tells C.tells (build_by processor.entry) (C.says children.old)
+    ensures published { PublishesClean T.tells C.tells (build_by processor.entry) (C.state children.old).says
         (T.files tree.old) (T.files tree.new) (closed result) }
     ensures leaves { Told T.tells (Leaves (closed result) (T.files tree.old) (T.files tree.new)) }
     ensures kept { Told T.tells (KeepsOutput (T.files tree.old) (T.files tree.new) (closed result)) }
     ensures stand { Told T.tells (StoresStand (T.files tree.old) → StoresStand (T.files tree.new)) }
     ensures outside { Told T.tells (SameOutside (T.files tree.old) (T.files tree.new)) }
-    ensures more { Told C.tells (TellsMore (build_by processor.entry) (C.known children.old)
-        (C.known children.new)) }
-    ensures shown { Told T.tells (Told C.tells (ShowsRun (build_by processor.entry) (C.says children.old)
-        (T.files tree.old) (C.known children.old) (C.known children.new) (closed result))) }
+    ensures more { Told C.tells (TellsMore (build_by processor.entry)
+        (C.state children.old) (C.state children.new)) }
+    ensures shown { Told T.tells (Told C.tells (ShowsRun (build_by processor.entry) (T.files tree.old)
+        (C.state children.old) (C.state children.new) (closed result))) }
     ensures written { Told W.tells (Adds (Reports T.tells C.tells (build_by processor.entry)
-        (C.says children.old)
+        (C.state children.old).says
         (T.files tree.old) (T.files tree.new) (closed result)
         (Rose (W.faults output.old) (W.faults output.new)))
         (W.written output.old) (W.written output.new)) }
 {
-    let units = read_units(alloc, tree)?;
+    let table = read_units(alloc, tree)?;
     let taken = taken_numbers(alloc, tree)?;
-    let finished = make(alloc, &processor, units, &taken, children)?;
+    let finished = make(alloc, &processor, table, &taken, children)?;
     conclude(alloc, name_of(&processor), finished, tree, output)
 }

@@ -35,33 +35,32 @@ fn work<T: Tree, C: Children, W: Sink>(
     output: &mut W,
 ) -> Status
     ensures tree_cause { HasCause is_tree (verdict result) (T.faults tree.old) (T.faults tree.new) }
-    ensures child_cause { HasCause is_children (verdict result) (C.faults children.old)
-        (C.faults children.new) }
+    ensures children { HasCause is_children (verdict result) (C.faults children.old) (C.faults children.new) }
     ensures sink_cause { HasCause is_sink (verdict result) (W.faults output.old) (W.faults output.new) }
-    ensures live { C.live children.new ≡ C.live children.old }
-    ensures starts { Starts (asked words.now) (verdict result) (C.starts children.old) (C.starts children.new) }
-    ensures says { Told C.tells (C.says children.new ≡ C.says children.old) }
-    ensures tried { Told C.tells (Tries (asked words.now) (C.tried children.old) (C.tried children.new)) }
+    ensures live { (C.state children.new).live ≡ (C.state children.old).live }
+    ensures starts { Starts (asked words.now) (verdict result) (C.state children.old) (C.state children.new) }
+    ensures says { Told C.tells ((C.state children.new).says ≡ (C.state children.old).says) }
+    ensures tried { Told C.tells (Tries (asked words.now) (C.state children.old) (C.state children.new)) }
     ensures starts_unread { Told T.tells (StartsUnread (asked words.now)
-        (T.files tree.old) (C.starts children.old) (C.starts children.new)) }
+        (T.files tree.old) (C.state children.old) (C.state children.new)) }
     ensures tries_unread { Told T.tells (Told C.tells (TriesUnread (asked words.now)
-        (T.files tree.old) (C.tried children.old) (C.tried children.new))) }
+        (T.files tree.old) (C.state children.old) (C.state children.new))) }
     ensures named { NamesChild (asked words.now) (verdict result) }
     ensures off_table { OffTable (asked words.now) (verdict result)
         tree.old tree.new children.old children.new }
-    ensures answer { Answers T.tells C.tells (asked words.now) (C.says children.old) (T.files tree.old)
+    ensures answer { Answers T.tells C.tells (asked words.now) (C.state children.old).says (T.files tree.old)
         (verdict result) }
-    ensures published { PublishesClean T.tells C.tells (asked words.now) (C.says children.old)
+    ensures published { PublishesClean T.tells C.tells (asked words.now) (C.state children.old).says
         (T.files tree.old) (T.files tree.new) (verdict result) }
     ensures leaves { Told T.tells (Leaves (verdict result) (T.files tree.old) (T.files tree.new)) }
     ensures kept { Told T.tells (KeepsOutput (T.files tree.old) (T.files tree.new) (verdict result)) }
     ensures stand { Told T.tells (StoresStand (T.files tree.old) → StoresStand (T.files tree.new)) }
     ensures outside { Told T.tells (SameOutside (T.files tree.old) (T.files tree.new)) }
-    ensures more { Told C.tells (TellsMore (asked words.now) (C.known children.old) (C.known children.new)) }
-    ensures shown { Told T.tells (Told C.tells (ShowsRun (asked words.now) (C.says children.old)
-        (T.files tree.old) (C.known children.old) (C.known children.new) (verdict result))) }
-    ensures written { Told W.tells (Adds (Reports T.tells C.tells (asked words.now) (C.says children.old)
-        (T.files tree.old) (T.files tree.new) (verdict result)
+    ensures more { Told C.tells (TellsMore (asked words.now) (C.state children.old) (C.state children.new)) }
+    ensures shown { Told T.tells (Told C.tells (ShowsRun (asked words.now) (T.files tree.old)
+        (C.state children.old) (C.state children.new) (verdict result))) }
+    ensures written { Told W.tells (Adds (Reports T.tells C.tells (asked words.now)
+        (C.state children.old).says (T.files tree.old) (T.files tree.new) (verdict result)
         (Rose (W.faults output.old) (W.faults output.new)))
         (W.written output.old) (W.written output.new)) }
 {
@@ -118,32 +117,31 @@ pub fn run<T: Tree, C: Children, R: Source, W: Sink>(
 ) -> Status
     // A fault of an object comes only where its count rose, and no count falls.
     ensures tree_cause { HasCause is_tree (verdict result) (T.faults tree.old) (T.faults tree.new) }
-    ensures child_cause { HasCause is_children (verdict result) (C.faults children.old)
-        (C.faults children.new) }
+    ensures children { HasCause is_children (verdict result) (C.faults children.old) (C.faults children.new) }
     ensures sink_cause { HasCause is_sink (verdict result) (W.faults output.old) (W.faults output.new) }
 
     // The source is not touched.
     ensures input { input.new ≡ input.old }
 
     // Every child that was started is stopped, and none but the processor's was tried; none where a source is refused.
-    ensures live { C.live children.new ≡ C.live children.old }
-    ensures starts { Starts (asked words.now) (verdict result) (C.starts children.old) (C.starts children.new) }
-    ensures says { Told C.tells (C.says children.new ≡ C.says children.old) }
-    ensures tried { Told C.tells (Tries (asked words.now) (C.tried children.old) (C.tried children.new)) }
+    ensures live { (C.state children.new).live ≡ (C.state children.old).live }
+    ensures starts { Starts (asked words.now) (verdict result) (C.state children.old) (C.state children.new) }
+    ensures says { Told C.tells ((C.state children.new).says ≡ (C.state children.old).says) }
+    ensures tried { Told C.tells (Tries (asked words.now) (C.state children.old) (C.state children.new)) }
     ensures starts_unread { Told T.tells (StartsUnread (asked words.now)
-        (T.files tree.old) (C.starts children.old) (C.starts children.new)) }
+        (T.files tree.old) (C.state children.old) (C.state children.new)) }
     ensures tries_unread { Told T.tells (Told C.tells (TriesUnread (asked words.now)
-        (T.files tree.old) (C.tried children.old) (C.tried children.new))) }
+        (T.files tree.old) (C.state children.old) (C.state children.new))) }
     ensures named { NamesChild (asked words.now) (verdict result) }
 
     // The answer is the clean build's, unless it is a fault or want of memory; words that no command has change nothing.
     ensures off_table { OffTable (asked words.now) (verdict result)
         tree.old tree.new children.old children.new }
-    ensures answer { Answers T.tells C.tells (asked words.now) (C.says children.old) (T.files tree.old)
+    ensures answer { Answers T.tells C.tells (asked words.now) (C.state children.old).says (T.files tree.old)
         (verdict result) }
 
     // What is published is the clean build's; after any other answer the former output stands. Of the tree nothing else changes.
-    ensures published { PublishesClean T.tells C.tells (asked words.now) (C.says children.old)
+    ensures published { PublishesClean T.tells C.tells (asked words.now) (C.state children.old).says
         (T.files tree.old) (T.files tree.new) (verdict result) }
     ensures leaves { Told T.tells (Leaves (verdict result) (T.files tree.old) (T.files tree.new)) }
     ensures kept { Told T.tells (KeepsOutput (T.files tree.old) (T.files tree.new) (verdict result)) }
@@ -151,13 +149,13 @@ pub fn run<T: Tree, C: Children, R: Source, W: Sink>(
     ensures outside { Told T.tells (SameOutside (T.files tree.old) (T.files tree.new)) }
 
     // A new child is shown exactly the run.
-    ensures more { Told C.tells (TellsMore (asked words.now) (C.known children.old) (C.known children.new)) }
-    ensures shown { Told T.tells (Told C.tells (ShowsRun (asked words.now) (C.says children.old)
-        (T.files tree.old) (C.known children.old) (C.known children.new) (verdict result))) }
+    ensures more { Told C.tells (TellsMore (asked words.now) (C.state children.old) (C.state children.new)) }
+    ensures shown { Told T.tells (Told C.tells (ShowsRun (asked words.now) (T.files tree.old)
+        (C.state children.old) (C.state children.new) (verdict result))) }
 
     // What is written is the clean build's report, or ends in the refusal's line.
-    ensures written { Told W.tells (Writes (Reports T.tells C.tells (asked words.now) (C.says children.old)
-        (T.files tree.old) (T.files tree.new) (verdict result)
+    ensures written { Told W.tells (Writes (Reports T.tells C.tells (asked words.now)
+        (C.state children.old).says (T.files tree.old) (T.files tree.new) (verdict result)
         (Rose (W.faults output.old) (W.faults output.new)))
         (IsLine (verdict result) (Rose (W.faults output.old) (W.faults output.new)))
         (W.written output.old) (W.written output.new)) }

@@ -1,80 +1,82 @@
-// The units of a project.
-ghost use Rattle.std.specs.Prelude.{◌≡◌, IfErr, Ok, Some, None, drop, false};
-ghost use Rattle.std.specs.FinMap as fin;
+// The type table of a project.
+ghost use Rattle.std.specs.Prelude.{◌≡◌, IfErr, drop, false};
 ghost use Rattle.apt_outside.specs.Count.{Told};
-ghost use Rattle.apt_outside.specs.Held.{files_of};
-ghost use Rattle.source_form.specs.Form.{form_of};
-ghost use Rattle.apt_host.specs.Verdicts.{verdict, is_tree, HasCause};
+ghost use Rattle.element_table.specs.TypeTable.{empty_table};
+ghost use Rattle.round_engine.specs.declared.source_fault.SourceFault.TheVariants as code;
+ghost use Rattle.apt_host.specs.Verdicts.{verdict, OrMemory, is_tree, HasCause};
 ghost use Rattle.apt_host.specs.Endings.{ended, EndsEarly};
-ghost use Rattle.apt_host.specs.Project.{enter_form, enter_all, units_of};
-ghost use Rattle.apt_host.specs.Entering.{Enters, EntersAll, StopsLeast};
+ghost use Rattle.apt_host.specs.Project.{enter_next, enter_all, units_of};
+ghost use Rattle.apt_host.specs.Entering.{of_source, Enters, EntersAll, StopsLeast};
 
 use crate::Status;
-use apt_base::NoMemory;
+use apt_base::Name;
 use apt_outside::Tree;
-use source_form::{MAX_SOURCE, SourceForm, read_form};
+use element_table::Table;
+use round_engine::{SourceFault, enter_source, limit_of};
+use source_form::MAX_SOURCE;
 use std::alloc::Global;
-use std::collections::BTreeMap;
 use tree_store::{RawSource, read_sources};
 
 const MAX_SOURCES: usize = 1000;
 
-/// Enters the unit of a form, where no earlier one gives its name and there is room for it.
-fn enter_form(
-    alloc: Global,
-    units: &mut BTreeMap<String, Vec<u8>>,
-    count: usize,
-    form: &SourceForm,
-) -> Result<bool, NoMemory>
-    ensures { Enters (enter_form (files_of units.old) count (Some form.now)) (files_of units.new) result }
+fn unbuilt(path: &Name) -> Status
+    ensures is { OrMemory (of_source path.now code.Unbuilt) (verdict result) }
+    ensures early { EndsEarly (λ _. false) (verdict result) }
 {
-    let name = form.canonical(alloc)?;
-    if count >= MAX_SOURCES {
-        return Ok(false);
+    match path.copy() {
+        Ok(path) => Status::UnbuiltForm { path },
+        Err(_) => Status::Memory,
     }
-    if units.get(name.as_str()).is_some() {
-        return Ok(false);
-    }
-    let name = String::from_str(alloc, name.as_str())?;
-    let annotation = form.annotation.as_str().as_bytes().to_vec(alloc)?;
-    units.insert(name, annotation)?;
-    Ok(true)
 }
 
-/// Enters a source, where it is of the form.
-fn enter_source(
+// The end of a call by a source at this path, or `Memory` where there is none for the path.
+fn refused(path: &Name, fault: SourceFault) -> Status
+    ensures is { OrMemory (of_source path.now fault) (verdict result) }
+    ensures early { EndsEarly (λ _. false) (verdict result) }
+{
+    match fault {
+        SourceFault::Unbuilt | SourceFault::Duplicate { .. } => unbuilt(path),
+        SourceFault::TooLarge { what } => Status::TooLarge {
+            what,
+            limit: limit_of(what),
+        },
+        SourceFault::Memory => Status::Memory,
+    }
+}
+
+/// Enters a source after so many others.
+fn enter_next(
     alloc: Global,
-    units: &mut BTreeMap<String, Vec<u8>>,
+    table: &mut Table,
     count: usize,
     source: &RawSource,
-) -> Result<bool, NoMemory>
-    ensures { Enters (enter_form (files_of units.old) count (form_of source.now.bytes)) (files_of units.new)
-        result }
+) -> Result<(), Status>
+    ensures enters { Enters (enter_next table.old count source.now) table.new result }
+    ensures early { IfErr result (λ status. EndsEarly (λ _. false) (verdict status)) }
 {
-    match read_form(alloc, source.bytes.as_slice())? {
-        None => Ok(false),
-        Some(form) => enter_form(alloc, units, count, &form),
+    if count >= MAX_SOURCES {
+        return Err(unbuilt(&source.path));
+    }
+    match enter_source(alloc, table, source.bytes.as_slice()) {
+        Ok(_) => Ok(()),
+        Err(fault) => Err(refused(&source.path, fault)),
     }
 }
 
 /// Enters all sources, or refuses the first that cannot be entered.
-fn enter_all(alloc: Global, sources: &[RawSource]) -> Result<BTreeMap<String, Vec<u8>>, Status>
-    ensures units { EntersAll (enter_all fin.empty 0 sources.now) result }
+fn enter_all(alloc: Global, sources: &[RawSource]) -> Result<Table, Status>
+    ensures units { EntersAll (enter_all empty_table 0 sources.now) result }
     ensures early { IfErr result (λ status. EndsEarly (λ _. false) (verdict status)) }
 {
-    let mut units = BTreeMap::new(alloc);
+    let mut table = Table::new(alloc);
     for (count, source) in sources.iter().enumerate() {
-        if !enter_source(alloc, &mut units, count, source)? {
-            return Err(Status::UnbuiltForm {
-                path: source.path.copy()?,
-            });
-        }
+        enter_next(alloc, &mut table, count, source)?;
     }
-    Ok(units)
+    Ok(table)
 }
 
-/// Reads the sources, and enters them.
-pub fn read_units<T: Tree>(alloc: Global, tree: &mut T) -> Result<BTreeMap<String, Vec<u8>>, Status>
+/// Reads the sources, and enters them into the type table.
+pub fn read_units<T: Tree>(alloc: Global, tree: &mut T) -> Result<Table, Status>
     ensures cause { HasCause is_tree (ended result) (T.faults tree.old) (T.faults tree.new) }
     ensures early { IfErr result (λ status. EndsEarly is_tree (verdict status)) }
     ensures same { Told T.tells (T.files tree.new ≡ T.files tree.old) }

@@ -8,8 +8,8 @@ ghost use Rattle.tree_store.specs.Storing.{AreDistinct, AreAbsent, AddsToStore};
 ghost use Rattle.apt_host.specs.Verdicts.{verdict, Done, OrFree, is_tree, is_sink, is_output, HasCause};
 ghost use Rattle.apt_host.specs.Endings.{ended, sink_verdict, EndsEarly};
 ghost use Rattle.apt_host.specs.Report.{errors_report};
-ghost use Rattle.apt_host.specs.Listed.{entry_of, entry_with, numbered_of, summary_of, Spells, GainsFirst, Places};
-ghost use Rattle.apt_host.specs.Promises.{Adds, IsFront};
+ghost use Rattle.apt_host.specs.Listed.{entry_of, entry_with, numbered_of, FitsEntry, summary_of, Spells, Places};
+ghost use Rattle.apt_host.specs.Promises.{Adds, IsFront, StandsFirst};
 
 use crate::Status;
 use crate::report::{Summary, errors_report, report};
@@ -50,8 +50,7 @@ fn entry_of(path: Name, store: u32, bytes: &List<u8>) -> StoredFile
 }
 
 fn prepare(alloc: Global, made: List<Made>) -> Result<Prepared, NoMemory>
-    requires sizes { All (λ file. (file.store < 2 ^ 32) × (length file.path < 2 ^ 32) ×
-        (length file.bytes < 2 ^ 32)) made }
+    requires sizes { All FitsEntry made }
     requires texts { All (λ file. is_text file.path ≡ true) made }
     ensures entries { IfOk result (λ prepared. prepared.entries ≡ map entry_of made) }
     ensures stored { IfOk result (λ prepared. prepared.stored ≡ map numbered_of made) }
@@ -80,8 +79,7 @@ pub fn spell(
     made: List<Made>,
 ) -> Result<Written, NoMemory>
     requires count { length made < 2 ^ 32 }
-    requires sizes { All (λ file. (file.store < 2 ^ 32) × (length file.path < 2 ^ 32) ×
-        (length file.bytes < 2 ^ 32)) made }
+    requires sizes { All FitsEntry made }
     requires texts { All (λ file. is_text file.path ≡ true) made }
     ensures { IfOk result (λ written. Spells (summary_of processor.now summary.now)
         made written.stored written.record_bytes written.report.items) }
@@ -144,9 +142,8 @@ pub fn publish<T: Tree, W: Sink>(
         (Places written.now.stored written.now.record_bytes (T.files tree.old) (T.files tree.new))) }
     ensures adds { Told T.tells (OnErr result (AddsToStore (T.files tree.old) (T.files tree.new))) }
     ensures outside { Told T.tells (SameOutside (T.files tree.old) (T.files tree.new)) }
-    ensures written { Told W.tells (Adds (λ text. IsFront ⊥ written.now.report.items (ended result) text
-        × Told T.tells (GainsFirst (ended result) text written.now.stored (T.files tree.old) (T.files tree.new)))
-        (W.written output.old) (W.written output.new)) }
+    ensures written { Told W.tells (Adds (StandsFirst T.tells written.now.report.items written.now.stored
+        (ended result) (T.files tree.old) (T.files tree.new)) (W.written output.old) (W.written output.new)) }
 {
     put_files(alloc, tree, &written.stored)?;
     if let Err(fault) = output.write_all(&written.report) {

@@ -2,11 +2,11 @@
 ghost use Rattle.std.specs.Prelude.{◌≡◌, ◌++◌, IfOk, OnOk, codes, string_bytes, map};
 ghost use Rattle.std.specs.List.{flat_map};
 ghost use Rattle.apt_host.specs.Report.{mode_line, kind_text, escaped, message_line, unread_line, told_lines, file_line, report_of, errors_report};
-ghost use Rattle.apt_host.specs.Verdicts.{verdict, refusal_of};
+ghost use Rattle.apt_host.specs.Verdicts.{verdict, what_text, refusal_of};
 ghost use Rattle.apt_host.specs.Listed.{listed, summary_of};
 
 use crate::Status;
-use apt_base::{List, Name};
+use apt_base::{List, Name, What};
 use round_engine::Placed;
 use std::alloc::{AllocError, Global};
 use tree_store::StoredFile;
@@ -185,6 +185,28 @@ pub fn errors_report(
     Ok(report)
 }
 
+// The name of a limit.
+fn what_text(what: What) -> &'static str
+    ensures { result.now ≡ what_text what }
+{
+    match what {
+        What::Files => "Files",
+        What::FileBytes => "FileBytes",
+        What::SourceBytes => "SourceBytes",
+        What::StubBytes => "StubBytes",
+        What::ConfigBytes => "ConfigBytes",
+        What::Processors => "Processors",
+        What::Types => "Types",
+        What::Name => "Name",
+        What::Children => "Children",
+        What::Depth => "Depth",
+        What::Frame => "Frame",
+        What::Record => "Record",
+        What::Script => "Script",
+        What::Rounds => "Rounds",
+    }
+}
+
 /// The line of a refusal. A build that ended with a report has none.
 pub fn refusal(alloc: Global, status: &Status) -> Result<String, AllocError>
     ensures { IfOk result (λ text. string_bytes text ≡ refusal_of (verdict status.now)) }
@@ -209,6 +231,10 @@ pub fn refusal(alloc: Global, status: &Status) -> Result<String, AllocError>
             format!(in alloc; "refused: GeneratedDuplicate({name})\n")
         }
         Status::TooManyRounds => String::from_str(alloc, "refused: TooManyRounds(64)\n"),
+        Status::TooLarge { what, limit } => {
+            let what = what_text(*what);
+            format!(in alloc; "refused: TooLarge({what}, {limit})\n")
+        }
         Status::TreeFault => String::from_str(alloc, "refused: TreeFault\n"),
         Status::SinkFault => String::from_str(alloc, "refused: SinkFault\n"),
         Status::ChildFault { processor } => {

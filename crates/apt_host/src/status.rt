@@ -5,7 +5,7 @@ ghost use Rattle.apt_host.specs.declared.status.Status.TheVariants as code;
 ghost use Rattle.apt_host.specs.Verdicts.{verdict, stopped, code_of};
 ghost use Rattle.apt_host.specs.Endings.{of_store};
 
-use apt_base::{Name, NoMemory};
+use apt_base::{Name, NoMemory, What};
 use std::alloc::{AllocError, AllocFailed};
 use tree_store::StoreFault;
 
@@ -49,6 +49,13 @@ pub enum Status {
     },
     /// Round 64 would not be the last.
     TooManyRounds,
+    /// What is counted passes its limit: the bytes of a canonical name, or the types of the table.
+    TooLarge {
+        /// Which limit.
+        what: What,
+        /// How much there may be.
+        limit: u32,
+    },
     /// A call of the tree failed.
     TreeFault,
     /// A call of the sink failed.
@@ -77,6 +84,7 @@ impl From<round_engine::Refusal> for Status {
                 Status::GeneratedDuplicate { name }
             }
             round_engine::Refusal::TooManyRounds => Status::TooManyRounds,
+            round_engine::Refusal::TooLarge { what, limit } => Status::TooLarge { what, limit },
             round_engine::Refusal::Memory => Status::Memory,
         }
     }
@@ -138,6 +146,10 @@ impl Status {
                 Ok(Status::GeneratedDuplicate { name: name.copy()? })
             }
             Status::TooManyRounds => Ok(Status::TooManyRounds),
+            Status::TooLarge { what, limit } => Ok(Status::TooLarge {
+                what: *what,
+                limit: *limit,
+            }),
             Status::TreeFault => Ok(Status::TreeFault),
             Status::SinkFault => Ok(Status::SinkFault),
             Status::ChildFault { processor } => Ok(Status::ChildFault {
@@ -162,6 +174,7 @@ impl Status {
             Status::TooManyQuestions { .. } => 11,
             Status::GeneratedDuplicate { .. } => 19,
             Status::TooManyRounds => 20,
+            Status::TooLarge { .. } => 21,
             Status::UnbuiltForm { .. } => 25,
             Status::UnbuiltTalk { .. } => 26,
         }

@@ -1,5 +1,5 @@
 // The objects of a case.
-use crate::pieces::{Named, read_piece, read_pieces};
+use crate::pieces::{Named, created_classes, read_piece, read_pieces};
 use apt_outside::{MemorySink, MemorySource, MemoryTree, Script, ScriptChildren};
 use case_lines::{Calls, CaseFault, escaped, hex_digits, numbers, text, texts};
 use std::alloc::Global;
@@ -30,6 +30,7 @@ impl Calls for Objects {
     fn call(&mut self, alloc: Global, words: &[&str]) -> Result<String, CaseFault> {
         match words {
             ["let", name, pieces @ ..] => self.name_bytes(alloc, name, pieces),
+            ["classes", name, count] => self.name_classes(alloc, name, count.parse::<u32>()?),
             ["tree", failing @ ..] => self.begin_tree(alloc, failing),
             ["put", path, pieces @ ..] => self.put_file(alloc, path, pieces),
             ["sink", failing @ ..] => self.plan_sink(alloc, failing),
@@ -64,6 +65,12 @@ impl Objects {
         pieces: &[&str],
     ) -> Result<String, CaseFault> {
         let bytes = read_pieces(alloc, &self.named, pieces)?;
+        self.named.insert(String::from_str(alloc, name)?, bytes)?;
+        ok(alloc)
+    }
+
+    fn name_classes(&mut self, alloc: Global, name: &str, count: u32) -> Result<String, CaseFault> {
+        let bytes = created_classes(alloc, count)?;
         self.named.insert(String::from_str(alloc, name)?, bytes)?;
         ok(alloc)
     }

@@ -52,3 +52,37 @@ pub fn read_pieces(alloc: Global, named: &Named, words: &[&str]) -> Result<Vec<u
     }
     Ok(bytes)
 }
+
+fn add_length(bytes: &mut Vec<u8>, length: usize) -> Result<(), CaseFault> {
+    let length = u32::try_from(length).map_err(|_| CaseFault::Memory)?;
+    bytes.extend_from_slice(&length.to_be_bytes())?;
+    Ok(())
+}
+
+fn add_text(bytes: &mut Vec<u8>, text: &str) -> Result<(), CaseFault> {
+    add_length(bytes, text.len())?;
+    bytes.extend_from_slice(text.as_bytes())?;
+    Ok(())
+}
+
+// The fields of the frame that creates the source of one class.
+fn created_class(alloc: Global, number: u32) -> Result<Vec<u8>, CaseFault> {
+    let name = format!(in alloc; "p.T{number}")?;
+    let content = format!(in alloc; "package p; @q.A class T{number} {{}}")?;
+    let mut fields = vec![in alloc; 0x42]?;
+    add_text(&mut fields, name.as_str())?;
+    add_text(&mut fields, content.as_str())?;
+    add_length(&mut fields, 0)?;
+    Ok(fields)
+}
+
+/// The frames that create the sources of so many classes.
+pub fn created_classes(alloc: Global, count: u32) -> Result<Vec<u8>, CaseFault> {
+    let mut bytes = Vec::new(alloc);
+    for number in 0..count {
+        let fields = created_class(alloc, number)?;
+        add_length(&mut bytes, fields.len())?;
+        bytes.extend_from_slice(fields.as_slice())?;
+    }
+    Ok(bytes)
+}

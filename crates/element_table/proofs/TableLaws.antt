@@ -1,5 +1,5 @@
 -- What a table has after a unit was entered.
-use Rattle.std.proofs.Common.{◌≡◌, ℕ, ◌+◌, ◌≤◌, Bool, true, false, cond, ◌||◌, T, List, [], ◌∷◌, map, length, is_some, lit≤, Option, Some, None, IfSome, IsTrue, nat_le, refl, sym, ap, subst, ◌∙◌, arith}
+use Rattle.std.proofs.Common.{◌≡◌, ℕ, ◌+◌, ◌≤◌, Bool, true, false, cond, ◌||◌, T, List, [], ◌∷◌, map, length, is_some, lit≤, Option, Some, None, Result, Ok, Err, IfSome, IsTrue, nat_le, refl, sym, ap, subst, ◌∙◌, arith}
 use Rattle.std.specs.List.{sum_by}
 use Rattle.std.specs.Option.{option_or}
 use Rattle.std.specs.Ordering.{nat_cmp, is_eq, eq_by_cmp}
@@ -16,11 +16,12 @@ use Rattle.std.proofs.lemmas.Slice.Eq.{bytes_eq-Decides}
 use Rattle.decl_tree.specs.declared.compilation.UnitText.{UnitText}
 use Rattle.element_table.specs.declared.answer.Answer.{Answer}
 use Rattle.element_table.specs.declared.answer.Answer.TheVariants.{IsNew, IsDuplicate, IsTooMany}
+use Rattle.element_table.specs.declared.fault.EnterFault.TheVariants.{Duplicate, TooMany}
 use Rattle.element_table.specs.declared.part.Part.{Part}
 use Rattle.element_table.specs.declared.part.Part.TheVariants.{Source, Stub}
 use Rattle.element_table.specs.TypeCounts.{unit_types}
 use Rattle.element_table.specs.UnitNames.{unit_name}
-use Rattle.element_table.specs.TypeTable.{Units, TypeTable, unit_of, part_of, has_unit, types_in, table_types, most_types, up_to_most, table_of, empty_table, entered, counted_answer, answer_to, IsNamed, IsTable, IsTableOf}
+use Rattle.element_table.specs.TypeTable.{Units, TypeTable, unit_of, part_of, has_unit, types_in, table_types, most_types, up_to_most, table_of, empty_table, entered, counted_answer, answer_to, Answers, IsThere, IsFull, outcome_by, outcome_of, IsNamed, IsTable, IsTableOf}
 
 -- ---- one part
 
@@ -97,6 +98,18 @@ first_free false b e = refl
 second_free : (a b : Bool) → (a || b) ≡ false → b ≡ false
 second_free true b e = absurd (cc)
 second_free false b e = e
+
+-- ---- what entering comes to
+
+module _ (part : Part) (table : TypeTable) (unit : UnitText) where
+  pub outcome_of-Ok : (next : TypeTable) → Answers (answer_to table unit) (Ok tt) → next ≡ entered part unit table → outcome_of part unit table ≡ Ok next
+  outcome_of-Ok next answer is = ap (λ a. outcome_by a part unit table) answer.1 ∙ ap Ok (sym is)
+
+  pub outcome_of-Duplicate : (back : UnitText) → Answers (answer_to table unit) (Err (Duplicate back)) → outcome_of part unit table ≡ Err IsThere
+  outcome_of-Duplicate back answer = ap (λ a. outcome_by a part unit table) answer
+
+  pub outcome_of-TooMany : (back : UnitText) → Answers (answer_to table unit) (Err (TooMany back)) → outcome_of part unit table ≡ Err IsFull
+  outcome_of-TooMany back answer = ap (λ a. outcome_by a part unit table) answer
 
 -- ---- the empty table
 

@@ -85,6 +85,22 @@ answer_to table unit =
     if has_unit table (unit_name unit) then IsDuplicate
     else counted_answer (up_to_most (table_types table + unit_types unit))
 
+-- what stands against a unit
+pub data Against : Type 0 where
+  -- its name is in the table
+  IsThere : Against
+  -- with its types the table would have too many
+  IsFull : Against
+
+abbrev pub outcome_by : Answer → Part → UnitText → TypeTable → Result TypeTable Against
+outcome_by (IsNew types) part unit table = Ok (entered part unit table)
+outcome_by IsDuplicate part unit table = Err IsThere
+outcome_by IsTooMany part unit table = Err IsFull
+
+-- what entering a unit comes to: the new table, or what stands against it
+abbrev pub outcome_of : Part → UnitText → TypeTable → Result TypeTable Against
+outcome_of part unit table = outcome_by (answer_to table unit) part unit table
+
 -- entering a unit gave the answer that is due. Want of memory may come in place of it
 abbrev pub Answers : Answer → Result Unit EnterFault → Type 0
 Answers answer (Ok done) = (types : ℕ) × (answer ≡ IsNew types)

@@ -1,13 +1,13 @@
 -- From the run of a processor to a clean run.
 use Rattle.std.proofs.Common.{◌≡◌, ℕ, Bool, true, false, List, ◌∷◌, Ok, Err, refl, sym, ap, ◌∙◌, subst}
 use Rattle.std.proofs.lemmas.Bool.{false≢true}
-use Rattle.apt_outside.specs.Child.{Says, Known}
+use Rattle.apt_outside.specs.Child.{State}
 use Rattle.apt_filer.specs.Filing.{Filings}
 use Rattle.round_engine.specs.declared.refusal.Refusal as code
 use Rattle.round_engine.specs.declared.rounds.Rounds.{Rounds}
 use Rattle.round_engine.specs.declared.running.Finished as declared
 use Rattle.round_engine.specs.declared.project.KeyProcessor.{KeyProcessor}
-use Rattle.round_engine.specs.Units.{Units}
+use Rattle.element_table.specs.TypeTable.{TypeTable}
 use Rattle.round_engine.specs.Refusals as stop
 use Rattle.round_engine.specs.Refusals.{Refusal, Stop, is_refusal}
 use Rattle.round_engine.specs.Faults.{stop_of}
@@ -21,15 +21,15 @@ pub record Counts (rounds : Rounds) (finished : declared.Finished) : Type 0 wher
   pub messages_are : finished.messages ≡ rounds.messages
   pub unread_are : finished.unread ≡ rounds.unread
 
-module _ (says : Says) (processor : KeyProcessor) (others : List KeyProcessor) (units : Units) (filings : Filings) (known known' : Known) where
+module _ (processor : KeyProcessor) (others : List KeyProcessor) (table : TypeTable) (old new : State) (filings : Filings) where
   abbrev whole : Run
-  whole = run_of says (try_of processor) units
+  whole = run_of old.says (try_of processor) table
 
-  shown_as : (sent : List (List ℕ)) → frames_of whole ≡ sent → ShowsNew (try_of processor) sent known known' → ShowsNew (try_of processor) (frames_of whole) known known'
-  shown_as sent is shown = subst (λ s. ShowsNew (try_of processor) s known known') (sym is) shown
+  shown_as : (sent : List (List ℕ)) → frames_of whole ≡ sent → ShowsNew (try_of processor) sent old new → ShowsNew (try_of processor) (frames_of whole) old new
+  shown_as sent is shown = subst (λ s. ShowsNew (try_of processor) s old new) (sym is) shown
 
-  pub cleans_ok : (rounds : Rounds) (finished : declared.Finished) → Runs says (try_of processor) units filings known known' (Ok rounds) → Counts rounds finished → Has filings.made finished → finished.started ≡ 1
-      → Cleans (processor ∷ others) whole known known' (Ok finished)
+  pub cleans_ok : (rounds : Rounds) (finished : declared.Finished) → Runs (try_of processor) table old new filings (Ok rounds) → Counts rounds finished → Has filings.made finished → finished.started ≡ 1
+      → Cleans (processor ∷ others) table old new (Ok finished)
   cleans_ok rounds finished runs counts has started =
       let ran = runs.ran refl in
       let sent_is : frames_of whole ≡ ran.sent = ap frames_of ran.comes in
@@ -60,12 +60,12 @@ module _ (says : Says) (processor : KeyProcessor) (others : List KeyProcessor) (
   free_as (stop.Failed object) free = tt
   free_as stop.Memory free = tt
 
-  cleans_by : (refusal : code.Refusal) (b : Bool) → is_refusal (stop_of refusal) ≡ b → Runs says (try_of processor) units filings known known' (Err refusal) → Cleans (processor ∷ others) whole known known' (Err refusal)
+  cleans_by : (refusal : code.Refusal) (b : Bool) → is_refusal (stop_of refusal) ≡ b → Runs (try_of processor) table old new filings (Err refusal) → Cleans (processor ∷ others) table old new (Err refusal)
   cleans_by refusal true due runs =
       let ran = runs.ran due in
       let due_as = stops_as (stop_of refusal) ran.sent due ran.comes in
       record { comes = due_as.1; more = runs.more; shown = λ e. shown_as ran.sent due_as.0 ran.shown }
   cleans_by refusal false free runs = record { comes = free_as (stop_of refusal) free; more = runs.more; shown = λ due. absurd (false≢true (sym free ∙ due)) }
 
-  pub cleans_err : (refusal : code.Refusal) → Runs says (try_of processor) units filings known known' (Err refusal) → Cleans (processor ∷ others) whole known known' (Err refusal)
+  pub cleans_err : (refusal : code.Refusal) → Runs (try_of processor) table old new filings (Err refusal) → Cleans (processor ∷ others) table old new (Err refusal)
   cleans_err refusal runs = cleans_by refusal (is_refusal (stop_of refusal)) refl runs

@@ -1,41 +1,116 @@
--- Sources that are entered one after another.
-use Rattle.std.proofs.Common.{◌≡◌, ℕ, Bool, true, false, cond, List, ◌∷◌, Some, Result, Ok, Err, ap, ◌∙◌}
-use Rattle.std.specs.Prelude.{is_some, ◌||◌}
-use Rattle.std.specs.FinMap as fin
-use Rattle.source_form.specs.declared.form.SourceForm.{SourceForm}
-use Rattle.source_form.specs.Form.{form_of, canonical}
-use Rattle.round_engine.specs.Refusals.{Refusal, GeneratedDuplicate, Stop, Refused, Failed, Memory}
-use Rattle.round_engine.specs.Units.{Units, Entered, add_unit, enter_form, enter_then, enter_all}
-use Rattle.round_engine.specs.Entering.{entered, RefusesAs}
+-- Units that are entered one after another, and sources.
+use Rattle.std.proofs.Common.{◌≡◌, ℕ, List, [], ◌∷◌, ◌++◌, Result, Ok, Err, inl, inr, ap, ◌∙◌, refl, sym, subst}
+use Rattle.std.specs.Prelude.{map}
+use Rattle.decl_tree.specs.declared.compilation.UnitText.{UnitText}
+use Rattle.element_table.specs.declared.fault.EnterFault.{EnterFault}
+use Rattle.element_table.specs.declared.fault.EnterFault.TheVariants as enter
+use Rattle.element_table.specs.declared.part.Part.TheVariants.{Source}
+use Rattle.element_table.specs.UnitNames.{unit_name}
+use Rattle.element_table.specs.TypeTable.{TypeTable, answer_to, entered, Answers, unit_back}
+use Rattle.element_table.proofs.TableLaws.{outcome_of-Ok, outcome_of-Duplicate, outcome_of-TooMany}
+use Rattle.source_form.specs.declared.fault.ParseFault.{ParseFault}
+use Rattle.source_form.specs.declared.fault.ParseFault.TheVariants as parse
+use Rattle.source_form.specs.Units.{Flaw, Parses}
+use Rattle.round_engine.specs.declared.source_fault.SourceFault.{SourceFault}
+use Rattle.round_engine.specs.declared.source_fault.SourceFault.TheVariants as code
+use Rattle.round_engine.specs.Names.{NameSet, with_name, with_names}
+use Rattle.round_engine.specs.Refusals.{Refusal, Stop, Refused, Failed, Memory, OrMemory}
+use Rattle.round_engine.specs.Units.{Obstacle, Duplicate, TooLarge, Entered, enter_by, enter_unit, and_then, enter_units, enter_read, enter_source, Gathered, gather, enter_created, gather_all, ascending}
+use Rattle.round_engine.specs.Entering.{Reports, gathered, of_parse, Obstructs, EntersUnits, RefusesAs, of_source}
 
-module _ (initial created roots : Units) (path : List ℕ) (form : SourceForm) where
-  abbrev before : Entered
-  before = entered initial created roots
+-- ---- one unit
 
-  abbrev name : List ℕ
-  name = canonical form
+-- a unit that the table took
+pub enters_unit : (table next : TypeTable) (unit : UnitText) → Answers (answer_to table unit) (Ok tt) → next ≡ entered Source unit table → EntersUnits (enter_unit table unit) next (Ok tt)
+enters_unit table next unit answer is = ap (enter_by (unit_name unit)) (outcome_of-Ok Source table unit next answer is)
 
-  chosen : (b : Bool) → (is_some (fin.get initial name) || is_some (fin.get created name)) ≡ b → enter_form before path (Some form) ≡ cond b (Err (GeneratedDuplicate name)) (Ok (add_unit form before))
-  chosen b is = ap (λ c. cond c (Err (GeneratedDuplicate name)) (Ok (add_unit form before))) is
+-- a unit that it did not take
+pub enters_unit-not : (table next : TypeTable) (unit : UnitText) (fault : EnterFault) (told : SourceFault) → Answers (answer_to table unit) (Err fault) → unit_back fault ≡ unit → Reports fault told → EntersUnits (enter_unit table unit) next (Err told)
+enters_unit-not table next unit (enter.Duplicate back) code.Unbuilt answer is told = absurd told
+enters_unit-not table next unit (enter.Duplicate back) (code.Duplicate name) answer is told = ap (enter_by (unit_name unit)) (outcome_of-Duplicate Source table unit back answer) ∙ ap (λ n. Err (Duplicate n)) (sym (told ∙ ap unit_name is))
+enters_unit-not table next unit (enter.Duplicate back) (code.TooLarge what) answer is told = absurd told
+enters_unit-not table next unit (enter.TooMany back) code.Unbuilt answer is told = absurd told
+enters_unit-not table next unit (enter.TooMany back) (code.Duplicate name) answer is told = absurd told
+enters_unit-not table next unit (enter.TooMany back) (code.TooLarge what) answer is told = ap (enter_by (unit_name unit)) (outcome_of-TooMany Source table unit back answer) ∙ ap (λ w. Err (TooLarge w)) (sym told)
+enters_unit-not table next unit (enter.Memory back) code.Unbuilt answer is told = absurd told
+enters_unit-not table next unit (enter.Memory back) (code.Duplicate name) answer is told = absurd told
+enters_unit-not table next unit (enter.Memory back) (code.TooLarge what) answer is told = absurd told
+enters_unit-not table next unit fault code.Memory answer is told = tt
 
-  pub repeats_initial : is_some (fin.get initial name) ≡ true → enter_form before path (Some form) ≡ Err (GeneratedDuplicate name)
-  repeats_initial there = chosen true (ap (λ b. b || is_some (fin.get created name)) there)
+-- ---- more units
 
-  pub repeats_created : is_some (fin.get initial name) ≡ false → is_some (fin.get created name) ≡ true → enter_form before path (Some form) ≡ Err (GeneratedDuplicate name)
-  repeats_created absent there = chosen true (ap (λ b. b || is_some (fin.get created name)) absent ∙ there)
+-- one that entered decides nothing
+pub enters_more : (table next : TypeTable) (unit : UnitText) (units : List UnitText) → enter_unit table unit ≡ Ok next → enter_units table (unit ∷ units) ≡ enter_units next units
+enters_more table next unit units is = ap (λ o. and_then o (λ t. enter_units t units)) is
 
-  pub enters_form : is_some (fin.get initial name) ≡ false → is_some (fin.get created name) ≡ false → enter_form before path (Some form) ≡ Ok (entered initial (fin.insert created name form.annotation) (fin.insert roots name form.annotation))
-  enters_form absent new = chosen false (ap (λ b. b || is_some (fin.get created name)) absent ∙ new)
+obstructs_then : {A B : Type 0} (outcome : Result A Obstacle) (fault : SourceFault) (next : A → Result B Obstacle) → Obstructs outcome fault → Obstructs (and_then outcome next) fault
+obstructs_then outcome code.Unbuilt next is = ap (λ o. and_then o next) is
+obstructs_then outcome (code.Duplicate name) next is = ap (λ o. and_then o next) is
+obstructs_then outcome (code.TooLarge what) next is = ap (λ o. and_then o next) is
+obstructs_then outcome code.Memory next is = tt
 
--- one source more
-pub enters_next : (before after : Entered) (source : List ℕ × List ℕ) (sources : List (List ℕ × List ℕ)) → enter_form before source.0 (form_of source.1) ≡ Ok after → enter_all before (source ∷ sources) ≡ enter_all after sources
-enters_next before after source sources is = ap (λ o. enter_then o (λ next. enter_all next sources)) is
+-- the first that did not
+pub enters_no_more : (table : TypeTable) (unit : UnitText) (units : List UnitText) (fault : SourceFault) → Obstructs (enter_unit table unit) fault → Obstructs (enter_units table (unit ∷ units)) fault
+enters_no_more table unit units fault stands = obstructs_then (enter_unit table unit) fault (λ t. enter_units t units) stands
+
+-- ---- a source
+
+pub reads_not : (table : TypeTable) (read : Result (List UnitText) Flaw) (fault : ParseFault) → Parses read (Err fault) → Obstructs (enter_read table read) (of_parse fault)
+reads_not table read parse.Unbuilt is = ap (enter_read table) is
+reads_not table read (parse.TooLarge what) is = ap (enter_read table) is
+reads_not table read parse.Memory is = tt
+
+pub enters_source : (table next : TypeTable) (read : Result (List UnitText) Flaw) (units : List UnitText) (names : List (List ℕ)) → read ≡ Ok units → enter_units table units ≡ Ok next → names ≡ map unit_name units → enter_read table read ≡ Ok (record { table = next; names = names })
+enters_source table next read units names is enters are =
+    ap (enter_read table) is ∙ ap (λ o. and_then o (λ t. Ok (record { table = t; names = map unit_name units }))) enters ∙ ap (λ ns. Ok (record { table = next; names = ns })) (sym are)
+
+pub enters_source-not : (table : TypeTable) (read : Result (List UnitText) Flaw) (units : List UnitText) (fault : SourceFault) → read ≡ Ok units → Obstructs (enter_units table units) fault → Obstructs (enter_read table read) fault
+enters_source-not table read units fault is obstructs =
+    subst (λ r. Obstructs (enter_read table r) fault) (sym is) (obstructs_then (enter_units table units) fault (λ t. Ok (record { table = t; names = map unit_name units })) obstructs)
+
+-- ---- created sources
+
+refused_by : (roots : NameSet) (path : List ℕ) (outcome : Result Entered Obstacle) (fault : SourceFault) → Obstructs outcome fault → RefusesAs (gather roots path outcome) (of_source path fault)
+refused_by roots path outcome code.Unbuilt is = ap (gather roots path) is
+refused_by roots path outcome (code.Duplicate name) is = ap (gather roots path) is
+refused_by roots path outcome (code.TooLarge what) is = ap (gather roots path) is
+refused_by roots path outcome code.Memory is = tt
+
+or_memory : {A : Type 0} (outcome : Result A Refusal) (due s : Stop) → RefusesAs outcome due → OrMemory due s → RefusesAs outcome s
+or_memory outcome due s is (inl same) = subst (RefusesAs outcome) (sym same) is
+or_memory outcome due s is (inr memory) = subst (RefusesAs outcome) (sym memory) tt
+
+-- a created source that can't be entered
+pub created_not : (table : TypeTable) (roots : NameSet) (path content : List ℕ) (fault : SourceFault) (s : Stop) → Obstructs (enter_source table content) fault → OrMemory (of_source path fault) s → RefusesAs (enter_created (gathered table roots) (path, content)) s
+created_not table roots path content fault s is due = or_memory _ (of_source path fault) s (refused_by roots path (enter_source table content) fault is) due
+
+-- one that was
+pub created_enters : (table next : TypeTable) (roots roots' : NameSet) (path content : List ℕ) (names : List (List ℕ)) → enter_source table content ≡ Ok (record { table = next; names = names }) → roots' ≡ with_names roots names
+    → enter_created (gathered table roots) (path, content) ≡ Ok (gathered next roots')
+created_enters table next roots roots' path content names is are = ap (gather roots path) is ∙ ap (λ r. Ok (gathered next r)) (sym are)
+
+-- ---- more created sources
+
+pub gathers_more : (before after : Gathered) (created : List ℕ × List ℕ) (sources : List (List ℕ × List ℕ)) → enter_created before created ≡ Ok after → gather_all before (created ∷ sources) ≡ gather_all after sources
+gathers_more before after created sources is = ap (λ o. and_then o (λ next. gather_all next sources)) is
+
+refuses_then : {A B : Type 0} (outcome : Result A Refusal) (s : Stop) (next : A → Result B Refusal) → RefusesAs outcome s → RefusesAs (and_then outcome next) s
+refuses_then outcome (Refused refusal) next is = ap (λ o. and_then o next) is
+refuses_then outcome (Failed object) next is = absurd is
+refuses_then outcome Memory next is = tt
+
+refuses_ascending : (outcome : Result Gathered Refusal) (s : Stop) → RefusesAs outcome s → RefusesAs (ascending outcome) s
+refuses_ascending outcome (Refused refusal) is = ap ascending is
+refuses_ascending outcome (Failed object) is = absurd is
+refuses_ascending outcome Memory is = tt
 
 -- the first that is refused
-refused_then : (outcome : Result Entered Refusal) (s : Stop) (next : Entered → Result Entered Refusal) → RefusesAs outcome s → RefusesAs (enter_then outcome next) s
-refused_then outcome (Refused refusal) next is = ap (λ o. enter_then o next) is
-refused_then outcome (Failed object) next is = absurd is
-refused_then outcome Memory next is = tt
+pub gathers_not : (before : Gathered) (created : List ℕ × List ℕ) (sources : List (List ℕ × List ℕ)) (s : Stop) → RefusesAs (enter_created before created) s → RefusesAs (ascending (gather_all before (created ∷ sources))) s
+gathers_not before created sources s is = refuses_ascending _ s (refuses_then (enter_created before created) s (λ next. gather_all next sources) is)
 
-pub enters_not : (before : Entered) (source : List ℕ × List ℕ) (sources : List (List ℕ × List ℕ)) (s : Stop) → RefusesAs (enter_form before source.0 (form_of source.1)) s → RefusesAs (enter_all before (source ∷ sources)) s
-enters_not before source sources s is = refused_then (enter_form before source.0 (form_of source.1)) s (λ next. enter_all next sources) is
+-- ---- names
+
+-- a name more behind those that were added
+pub with_names_push : (set : NameSet) (names : List (List ℕ)) (name : List ℕ) → with_names set (names ++ name ∷ []) ≡ with_name (with_names set names) name
+with_names_push set [] name = refl
+with_names_push set (first ∷ names) name = with_names_push (with_name set first) names name

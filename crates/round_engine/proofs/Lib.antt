@@ -1,4 +1,4 @@
-pub mod Presence
+pub mod NameSets
 pub mod NumberLemmas
 pub mod RoundLemmas
 pub mod EnterLemmas

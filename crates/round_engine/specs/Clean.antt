@@ -1,10 +1,10 @@
 -- The clean run over a project, from nothing.
-use Rattle.std.specs.Prelude.{◌≡◌, ◌⊎◌, ℕ, ◌==◌, ◌+◌, ◌≤◌, ◌<◌, ◌^◌, ◌||◌, Bool, true, false, List, [], ◌∷◌, length, take, map, filter, All, Result, Ok, Err, IfErr, IfSome}
+use Rattle.std.specs.Prelude.{◌≡◌, ℕ, ◌==◌, ◌+◌, ◌≤◌, ◌<◌, ◌^◌, ◌||◌, Bool, true, List, [], ◌∷◌, length, take, map, filter, All, Result, Ok, Err, IfErr, IfSome}
 use Rattle.std.specs.FinMap as fin
 use Rattle.apt_base.specs.Fields.{is_text}
 use Rattle.apt_outside.specs.Count.{Told}
 use Rattle.apt_outside.specs.Files.{Files}
-use Rattle.apt_outside.specs.Child.{Says, Try, Known, AllKept}
+use Rattle.apt_outside.specs.Child.{Says, Try, State, AllKept}
 use Rattle.wire_frames.specs.declared.frame.Creation.{Creation}
 use Rattle.wire_frames.specs.declared.frame.Message.{Message}
 use Rattle.round_engine.specs.declared.messages.Placed.{Placed}
@@ -15,7 +15,7 @@ use Rattle.round_engine.specs.declared.running.Finished as declared
 use Rattle.round_engine.specs.declared.refusal.Refusal as code
 use Rattle.round_engine.specs.Refusals.{named_by}
 use Rattle.round_engine.specs.Faults.{stop_of, is_due}
-use Rattle.round_engine.specs.Units.{Units}
+use Rattle.element_table.specs.TypeTable.{TypeTable}
 use Rattle.round_engine.specs.Numbering.{AreLeast}
 use Rattle.round_engine.specs.Shown.{ShowsNew, TellsOneMore, TriedOnce, StopsAs}
 use Rattle.round_engine.specs.Run.{Run, Finished, Refused, level, files_among, run_of}
@@ -31,9 +31,9 @@ pub record IsPlain (key : Key) : Type 0 where
   pub one : length key.processors ≤ 1
 
 -- without a processor, two rounds run in which nothing is asked
-abbrev pub clean_run : Says → List KeyProcessor → Units → Run
-clean_run says [] units = Finished [] 2 [] [] []
-clean_run says (processor ∷ others) units = run_of says (try_of processor) units
+abbrev pub clean_run : Says → List KeyProcessor → TypeTable → Run
+clean_run says [] table = Finished [] 2 [] [] []
+clean_run says (processor ∷ others) table = run_of says (try_of processor) table
 
 -- ---- what is counted
 
@@ -72,9 +72,9 @@ frames_of (Finished sent rounds made messages unread) = sent
 frames_of (Refused sent fault) = sent
 
 -- the child that was started for the processor was shown exactly the frames of the run
-abbrev pub ShowsAll : List KeyProcessor → Run → Known → Known → Type 0
-ShowsAll [] run known known' = AllKept known known'
-ShowsAll (processor ∷ others) run known known' = ShowsNew (try_of processor) (frames_of run) known known'
+abbrev pub ShowsAll : List KeyProcessor → Run → State → State → Type 0
+ShowsAll [] run old new = AllKept old.known new.known
+ShowsAll (processor ∷ others) run old new = ShowsNew (try_of processor) (frames_of run) old new
 
 -- the processor has this name
 abbrev pub IsNamed : List KeyProcessor → List ℕ → Type 0
@@ -93,19 +93,19 @@ pub record FinishesAs (processors : List KeyProcessor) (whole : Run) (finished :
   pub started : finished.started ≡ length (take 1 processors)
 
 -- nothing is told anew but of one child, and of none where there is no processor
-abbrev pub TellsMore : List KeyProcessor → Known → Known → Type 0
-TellsMore [] known known' = AllKept known known'
-TellsMore (processor ∷ others) known known' = TellsOneMore known known'
+abbrev pub TellsMore : List KeyProcessor → State → State → Type 0
+TellsMore [] old new = AllKept old.known new.known
+TellsMore (processor ∷ others) old new = TellsOneMore old new
 
 -- what came of it is the run, and where the answer is due the child was shown exactly the run's frames
 abbrev pub ComesOf : List KeyProcessor → Run → Result declared.Finished code.Refusal → Type 0
 ComesOf processors whole (Ok finished) = FinishesAs processors whole finished
 ComesOf processors whole (Err refusal) = StopsAs whole (frames_of whole) (stop_of refusal)
 
-pub record Cleans (processors : List KeyProcessor) (whole : Run) (known known' : Known) (result : Result declared.Finished code.Refusal) : Type 0 where
-  pub comes : ComesOf processors whole result
-  pub more : TellsMore processors known known'
-  pub shown : is_due result ≡ true → ShowsAll processors whole known known'
+pub record Cleans (processors : List KeyProcessor) (table : TypeTable) (old new : State) (result : Result declared.Finished code.Refusal) : Type 0 where
+  pub comes : ComesOf processors (clean_run old.says processors table) result
+  pub more : TellsMore processors old new
+  pub shown : is_due result ≡ true → ShowsAll processors (clean_run old.says processors table) old new
 
 -- a fact on which what children say bears, where they tell it; without a processor none is asked
 abbrev pub Talked : Bool → List KeyProcessor → Type 0 → Type 0
@@ -115,11 +115,11 @@ Talked talks (processor ∷ others) P = Told talks P
 -- ---- starts and counts
 
 -- one child was started for each processor, or at most one where the run was refused
-abbrev pub Starts : List KeyProcessor → Result declared.Finished code.Refusal → ℕ → ℕ → Type 0
-Starts processors (Ok finished) old new = (finished.started ≡ length (take 1 processors)) × (new ≡ old + finished.started)
-Starts processors (Err refusal) old new = new ≤ old + length (take 1 processors)
+abbrev pub Starts : List KeyProcessor → Result declared.Finished code.Refusal → State → State → Type 0
+Starts processors (Ok finished) old new = (finished.started ≡ length (take 1 processors)) × (new.starts ≡ old.starts + finished.started)
+Starts processors (Err refusal) old new = new.starts ≤ old.starts + length (take 1 processors)
 
 -- no start but that of the processor was tried
-abbrev pub Tries : List KeyProcessor → List Try → List Try → Type 0
-Tries [] old new = new ≡ old
+abbrev pub Tries : List KeyProcessor → State → State → Type 0
+Tries [] old new = new.tried ≡ old.tried
 Tries (processor ∷ others) old new = TriedOnce (try_of processor) old new

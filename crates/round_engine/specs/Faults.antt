@@ -5,7 +5,7 @@ use Rattle.child_session.specs.declared.fault.SessionFault.{SessionFault}
 use Rattle.child_session.specs.declared.fault.SessionFault.TheVariants as session
 use Rattle.round_engine.specs.declared.refusal.Refusal as declared
 use Rattle.round_engine.specs.declared.refusal.Refusal.TheVariants as code
-use Rattle.round_engine.specs.Refusals.{UnbuiltForm, UnbuiltTalk, TooManyQuestions, GeneratedDuplicate, TooManyRounds, Children, Stop, Refused, Failed, Memory, is_refusal, is_failure}
+use Rattle.round_engine.specs.Refusals.{UnbuiltForm, UnbuiltTalk, TooManyQuestions, GeneratedDuplicate, TooManyRounds, TooLarge, Children, Stop, Refused, Failed, Memory, is_refusal, is_failure}
 
 abbrev pub stop_of : declared.Refusal → Stop
 stop_of (code.ChildFault processor) = Failed (Children processor)
@@ -14,6 +14,7 @@ stop_of (code.TooManyQuestions processor most) = Refused (TooManyQuestions proce
 stop_of (code.UnbuiltForm path) = Refused (UnbuiltForm path)
 stop_of (code.GeneratedDuplicate name) = Refused (GeneratedDuplicate name)
 stop_of code.TooManyRounds = Refused TooManyRounds
+stop_of (code.TooLarge what limit) = Refused (TooLarge what limit)
 stop_of code.Memory = Memory
 
 -- a fault of a session of the processor with this name

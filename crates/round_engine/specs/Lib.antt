@@ -1,3 +1,5 @@
+pub mod Limits
+pub mod Names
 pub mod Refusals
 pub mod Units
 pub mod Run

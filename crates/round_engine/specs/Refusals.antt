@@ -1,5 +1,7 @@
 -- Why a call of the host ends before its work is done. Each refusal stands here once, with what its line names.
 use Rattle.std.specs.Prelude.{◌≡◌, ◌⊎◌, ℕ, Bool, true, false, List, Option, None, Some, IfSome}
+use Rattle.apt_base.specs.declared.kinds.What.{What}
+use Rattle.round_engine.specs.Limits.{limit_of}
 
 pub data Refusal : Type 0 where
   -- the first word that no command has there, by its position
@@ -14,6 +16,12 @@ pub data Refusal : Type 0 where
   GeneratedDuplicate : (name : List ℕ) → Refusal
   -- round 64 would not be the last
   TooManyRounds : Refusal
+  -- what is counted passes its limit
+  TooLarge : (what : What) (limit : ℕ) → Refusal
+
+-- past this limit
+abbrev pub past : What → Refusal
+past what = TooLarge what (limit_of what)
 
 -- the processor that a refusal names, if it names one
 abbrev pub processor_of : Refusal → Option (List ℕ)

@@ -1,6 +1,6 @@
 -- What the calls of the engine say: what came of a run that is under way.
-use Rattle.std.specs.Prelude.{◌≡◌, ◌⊎◌, ◌+◌, ◌≤◌, ℕ, Bool, true, false, List, [], ◌∷◌, ◌++◌, None, Some, Result, Ok, Err, IsSomeAnd}
-use Rattle.apt_outside.specs.Child.{Says, Try, Child, Known, OthersKept, AllKept}
+use Rattle.std.specs.Prelude.{◌≡◌, ◌⊎◌, ◌+◌, ◌≤◌, ℕ, Bool, true, List, [], ◌∷◌, ◌++◌, None, Some, Result, Ok, Err, IsSomeAnd}
+use Rattle.apt_outside.specs.Child.{Says, Try, Child, State, begun, OthersKept, AllKept}
 use Rattle.apt_filer.specs.Filing.{Filings}
 use Rattle.wire_frames.specs.declared.frame.Message.{Message}
 use Rattle.child_session.specs.declared.fault.SessionFault.{SessionFault}
@@ -13,16 +13,17 @@ use Rattle.round_engine.specs.declared.messages.Placed.{Placed}
 use Rattle.round_engine.specs.Refusals as stop
 use Rattle.round_engine.specs.Refusals.{Stop}
 use Rattle.round_engine.specs.Faults.{stop_of, is_due}
-use Rattle.round_engine.specs.Units.{Units, Table}
-use Rattle.round_engine.specs.Run.{Round, Progress, limit, act, Run, Finished, Refused, rounds_from, run_of}
+use Rattle.element_table.specs.TypeTable.{TypeTable}
+use Rattle.round_engine.specs.Units.{all_of}
+use Rattle.round_engine.specs.Run.{Round, Progress, limit, act, Run, Finished, Refused, last_round, rounds_before_last, next_of, start, rounds_from, run_of}
 
 -- ---- what the code has of these
 
-abbrev pub shown_round : code_round.Round → Units → Round
-shown_round round roots = record { number = round.number; over = round.over; error = round.error; roots = roots }
+abbrev pub shown_round : code_round.Round → TypeTable → List (List ℕ) → Round
+shown_round round table roots = record { number = round.number; over = round.over; error = round.error; table = table; roots = roots }
 
-abbrev pub standing : Table → Bool → Filings → List Placed → Progress
-standing table asked filings messages = record { table = table; asked = asked; filings = filings; messages = messages }
+abbrev pub standing : Bool → Filings → List Placed → Progress
+standing asked filings messages = record { asked = asked; filings = filings; messages = messages }
 
 -- ---- one round
 
@@ -33,8 +34,13 @@ pub record Acted (says : Says) (pattern : List ℕ) (r : Round) (p : Progress) (
   pub comes : Comes (act (says before.name before.command) pattern r before.sent p) (limit r.roots) result after.sent filings'
   pub answered : OnAnswered result (HasAnswered says after)
 
-pub record Acts (child : ℕ) (says : Says) (known known' : Known) (pattern : List ℕ) (r : Round) (p : Progress) (filings' : Filings) (result : Result (List Message) SessionFault) : Type 0 where
-  pub acted : WasAnswered child says known known' (Acted says pattern r p filings' result)
+pub record Acts (child : ℕ) (pattern : List ℕ) (r : Round) (p : Progress) (old new : State) (filings' : Filings) (result : Result (List Message) SessionFault) : Type 0 where
+  pub acted : WasAnswered child old new (Acted old.says pattern r p filings' result)
+
+-- the same, whatever the messages up to then
+abbrev pub ActsIn : ℕ → List ℕ → Round → Bool → State → State → Filings → Filings → Result (List Message) SessionFault → Type 0
+ActsIn child pattern r asked old new filings filings' result =
+    (messages : List Placed) → Acts child pattern r (standing asked filings messages) old new filings' result
 
 -- ---- a run that is under way
 
@@ -49,8 +55,8 @@ pub record Underway (says : Says) (whole : Whole) (processor pattern : List ℕ)
   pub answered : HasAnswered says after
   pub rest : rounds_from processor (says before.name before.command) pattern left r after.sent p ≡ whole before
 
-pub record GoesOn (child : ℕ) (says : Says) (known known' : Known) (whole : Whole) (processor pattern : List ℕ) (left : ℕ) (r : Round) (p : Progress) : Type 0 where
-  pub way : WasAnswered child says known known' (Underway says whole processor pattern left r p)
+pub record GoesOn (child : ℕ) (whole : Whole) (processor pattern : List ℕ) (left : ℕ) (r : Round) (p : Progress) (old new : State) : Type 0 where
+  pub way : WasAnswered child old new (Underway old.says whole processor pattern left r p)
 
 -- a run that was sent these frames stopped so, unless it is a stop that may come at any point
 abbrev pub StopsAs : Run → List (List ℕ) → Stop → Type 0
@@ -68,14 +74,27 @@ pub record Ended (whole : Whole) (filings' : Filings) (result : Result Rounds de
   pub command : after.command ≡ before.command
   pub comes : ComesTo (whole before) result after.sent filings'
 
-pub record Ends (child : ℕ) (says : Says) (known known' : Known) (whole : Whole) (filings' : Filings) (result : Result Rounds declared.Refusal) : Type 0 where
-  pub ended : WasAnswered child says known known' (Ended whole filings' result)
+pub record Ends (child : ℕ) (whole : Whole) (old new : State) (filings' : Filings) (result : Result Rounds declared.Refusal) : Type 0 where
+  pub ended : WasAnswered child old new (Ended whole filings' result)
+
+-- what comes of the last round
+abbrev pub last_from : Says → List ℕ → List ℕ → ℕ → Bool → TypeTable → Progress → Whole
+last_from says processor pattern number error table p before = last_round processor (says before.name before.command) pattern number error table before.sent p
+
+-- what comes of all rounds over this table
+abbrev pub all_from : Says → List ℕ → List ℕ → TypeTable → Whole
+all_from says processor pattern table before = rounds_from processor (says before.name before.command) pattern rounds_before_last (next_of 1 (all_of table)) before.sent (start table)
+
+-- the last round came to its end
+abbrev pub EndsLast : ℕ → List ℕ → List ℕ → code_round.Round → TypeTable → Bool → List Placed → State → State → Filings → Filings → Result Rounds declared.Refusal → Type 0
+EndsLast child processor pattern round table asked messages old new filings filings' result =
+    Ends child (last_from old.says processor pattern round.number round.error table (standing asked filings messages)) old new filings' result
+
+-- so did all rounds
+abbrev pub EndsAll : ℕ → List ℕ → List ℕ → TypeTable → State → State → Filings → Result Rounds declared.Refusal → Type 0
+EndsAll child processor pattern table old new filings' result = Ends child (all_from old.says processor pattern table) old new filings' result
 
 -- ---- a child from its start to its stop
-
--- a child that was just started
-abbrev pub begun : Says → Try → Child
-begun says processor = record { name = processor.0; command = processor.1; sent = []; waiting = says processor.0 processor.1 [] }
 
 -- the child was just started, and nothing was made before: what came of it is the run
 pub record CameTo (whole : Run) (processor : Try) (filings' : Filings) (result : Result Rounds declared.Refusal) (after : Child) : Type 0 where
@@ -83,8 +102,8 @@ pub record CameTo (whole : Run) (processor : Try) (filings' : Filings) (result :
   pub command : after.command ≡ processor.1
   pub comes : ComesTo whole result after.sent filings'
 
-pub record Came (child : ℕ) (says : Says) (name : List ℕ) (units : Units) (filings' : Filings) (known known' : Known) (result : Result Rounds declared.Refusal) : Type 0 where
-  pub came : (command : List (List ℕ)) → known child ≡ Some (begun says (name, command)) → IsSomeAnd (known' child) (CameTo (run_of says (name, command) units) (name, command) filings' result)
+pub record Came (child : ℕ) (name : List ℕ) (table : TypeTable) (old new : State) (filings' : Filings) (result : Result Rounds declared.Refusal) : Type 0 where
+  pub came : (command : List (List ℕ)) → old.known child ≡ Some (begun old.says (name, command)) → IsSomeAnd (new.known child) (CameTo (run_of old.says (name, command) table) (name, command) filings' result)
 
 -- a child of the processor that was sent these frames
 pub record IsSent (processor : Try) (sent : List (List ℕ)) (child : Child) : Type 0 where
@@ -94,32 +113,32 @@ pub record IsSent (processor : Try) (sent : List (List ℕ)) (child : Child) : T
 
 -- a child of which nothing was told before is that of the processor and was shown exactly these frames; nothing is told
 -- anew of any other
-pub record ShowsNew (processor : Try) (sent : List (List ℕ)) (known known' : Known) : Type 0 where
+pub record ShowsNew (processor : Try) (sent : List (List ℕ)) (old new : State) : Type 0 where
   pub child : ℕ
-  pub new : known child ≡ None
-  pub others : OthersKept child known known'
-  pub shown : IsSomeAnd (known' child) (IsSent processor sent)
+  pub unknown : old.known child ≡ None
+  pub others : OthersKept child old.known new.known
+  pub shown : IsSomeAnd (new.known child) (IsSent processor sent)
 
 -- nothing is told anew, or only of a child of which nothing was told before
-abbrev pub TellsOneMore : Known → Known → Type 0
-TellsOneMore known known' = AllKept known known' ⊎ ((child : ℕ) × (known child ≡ None) × OthersKept child known known')
+abbrev pub TellsOneMore : State → State → Type 0
+TellsOneMore old new = AllKept old.known new.known ⊎ ((child : ℕ) × (old.known child ≡ None) × OthersKept child old.known new.known)
 
 -- what came of it is the run, and the child that was started for it was shown exactly that run's frames
-pub record RanAs (whole : Run) (processor : Try) (filings' : Filings) (known known' : Known) (result : Result Rounds declared.Refusal) : Type 0 where
+pub record RanAs (whole : Run) (processor : Try) (old new : State) (filings' : Filings) (result : Result Rounds declared.Refusal) : Type 0 where
   pub sent : List (List ℕ)
   pub comes : ComesTo whole result sent filings'
-  pub shown : ShowsNew processor sent known known'
+  pub shown : ShowsNew processor sent old new
 
 -- what came of it is the run, where its answer is due
-pub record Runs (says : Says) (processor : Try) (units : Units) (filings' : Filings) (known known' : Known) (result : Result Rounds declared.Refusal) : Type 0 where
-  pub more : TellsOneMore known known'
-  pub ran : is_due result ≡ true → RanAs (run_of says processor units) processor filings' known known' result
+pub record Runs (processor : Try) (table : TypeTable) (old new : State) (filings' : Filings) (result : Result Rounds declared.Refusal) : Type 0 where
+  pub more : TellsOneMore old new
+  pub ran : is_due result ≡ true → RanAs (run_of old.says processor table) processor old new filings' result
 
 -- at most this start was tried
-abbrev pub TriedOnce : Try → List Try → List Try → Type 0
-TriedOnce processor old new = (new ≡ old) ⊎ (new ≡ old ++ processor ∷ [])
+abbrev pub TriedOnce : Try → State → State → Type 0
+TriedOnce processor old new = (new.tried ≡ old.tried) ⊎ (new.tried ≡ old.tried ++ processor ∷ [])
 
 -- one child was started, or at most one where the run was refused
-abbrev pub StartedOnce : {T : Type 0} → Result T declared.Refusal → ℕ → ℕ → Type 0
-StartedOnce (Ok rounds) old new = new ≡ old + 1
-StartedOnce (Err fault) old new = new ≤ old + 1
+abbrev pub StartedOnce : {T : Type 0} → Result T declared.Refusal → State → State → Type 0
+StartedOnce (Ok rounds) old new = new.starts ≡ old.starts + 1
+StartedOnce (Err fault) old new = new.starts ≤ old.starts + 1

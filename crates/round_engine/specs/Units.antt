@@ -1,52 +1,123 @@
--- The units of a run: by the name of its type, the name of the annotation that is written on each.
-use Rattle.std.specs.Prelude.{ℕ, Bool, ◌||◌, List, [], ◌∷◌, Option, None, Some, is_some, Result, Ok, Err, if◌then◌else◌}
+-- The units of a run in the type table: how the units of a source enter it, and which annotations are written on them.
+use Rattle.std.specs.Prelude.{ℕ, Bool, false, List, [], ◌∷◌, ◌++◌, map, Result, Ok, Err}
 use Rattle.std.specs.List.{list_any}
+use Rattle.std.specs.Option.{option_map_or}
 use Rattle.std.specs.Str.{bytes_eq}
-use Rattle.std.specs.Ordering.{nat_cmp}
-use Rattle.std.specs.Cmp.Lexicographic.{slice_cmp}
 use Rattle.std.specs.FinMap as fin
-use Rattle.std.specs.FinMap.{FinMap}
-use Rattle.source_form.specs.declared.form.SourceForm.{SourceForm}
-use Rattle.source_form.specs.Form.{form_of, canonical}
-use Rattle.round_engine.specs.Refusals.{Refusal, UnbuiltForm, GeneratedDuplicate}
+use Rattle.apt_base.specs.declared.kinds.What.{What}
+use Rattle.apt_base.specs.declared.kinds.What.TheVariants.{Types}
+use Rattle.decl_tree.specs.declared.annotation.AnnotationText.{AnnotationText, out-AnnotationText}
+use Rattle.decl_tree.specs.declared.compilation.Body.{Body}
+use Rattle.decl_tree.specs.declared.compilation.Body.TheVariants.{Declared, Info}
+use Rattle.decl_tree.specs.declared.compilation.UnitText.{UnitText}
+use Rattle.element_table.specs.declared.part.Part.TheVariants.{Source}
+use Rattle.element_table.specs.UnitNames.{unit_name}
+use Rattle.element_table.specs.TypeTable.{TypeTable, unit_of, Against, IsThere, IsFull, outcome_of}
+use Rattle.source_form.specs.Units as source
+use Rattle.source_form.specs.Units.{Flaw, units_of}
+use Rattle.round_engine.specs.Names.{NameSet, with_names, names_in}
+use Rattle.round_engine.specs.Refusals.{Refusal, UnbuiltForm, GeneratedDuplicate, past}
 
-abbrev pub Units : Type 0
-Units = FinMap (slice_cmp nat_cmp) (List ℕ)
+-- ---- annotations
 
--- a name of an annotation that is written on one of the units; so far names count as they are written
-abbrev pub is_present : Units → List ℕ → Bool
-is_present units name = list_any (λ annotation. bytes_eq annotation name) (fin.values units)
+-- the annotations of a declaration, or of a package
+abbrev pub annotations_of : Body → List AnnotationText
+annotations_of (Declared declaration) = declaration.annotations
+annotations_of (Info annotations doc) = annotations
 
--- ---- reading created sources
+-- an annotation of this name is written on what the unit declares; so far names count as they are written
+abbrev pub is_written : List ℕ → UnitText → Bool
+is_written name unit = list_any (λ annotation. bytes_eq (out-AnnotationText annotation).name name) (annotations_of unit.body)
 
--- the units of a run: the initial ones, and those of created sources
-pub record Table : Type 0 where
-  pub initial : Units
-  pub created : Units
+-- an annotation of this name is written on one of these units of the table
+abbrev pub is_present : TypeTable → List (List ℕ) → List ℕ → Bool
+is_present table roots name = list_any (λ root. option_map_or (is_written name) (unit_of table root) false) roots
 
-abbrev pub has_unit : Table → List ℕ → Bool
-has_unit table name = is_some (fin.get table.initial name) || is_some (fin.get table.created name)
+-- ---- a source
 
--- all units, and those that were entered since the last round
+-- why a source cannot be entered
+pub data Obstacle : Type 0 where
+  -- it is not of the form that is read so far
+  Unbuilt : Obstacle
+  -- it gives a type that is there
+  Duplicate : (name : List ℕ) → Obstacle
+  -- it passes a limit
+  TooLarge : (what : What) → Obstacle
+
+abbrev pub of_flaw : Flaw → Obstacle
+of_flaw source.Unbuilt = Unbuilt
+of_flaw (source.TooLarge what) = TooLarge what
+
+-- a table, and the names of the units that were entered into its sources
 pub record Entered : Type 0 where
-  pub table : Table
-  pub roots : Units
+  pub table : TypeTable
+  pub names : List (List ℕ)
 
-abbrev pub add_unit : SourceForm → Entered → Entered
-add_unit form entered = record {
-  table = record { initial = entered.table.initial; created = fin.insert entered.table.created (canonical form) form.annotation };
-  roots = fin.insert entered.roots (canonical form) form.annotation;
-}
+abbrev pub enter_by : List ℕ → Result TypeTable Against → Result TypeTable Obstacle
+enter_by name (Ok table) = Ok table
+enter_by name (Err IsThere) = Err (Duplicate name)
+enter_by name (Err IsFull) = Err (TooLarge Types)
 
-abbrev pub enter_form : Entered → List ℕ → Option SourceForm → Result Entered Refusal
-enter_form entered path None = Err (UnbuiltForm path)
-enter_form entered path (Some form) = if has_unit entered.table (canonical form) then Err (GeneratedDuplicate (canonical form)) else Ok (add_unit form entered)
+abbrev pub enter_unit : TypeTable → UnitText → Result TypeTable Obstacle
+enter_unit table unit = enter_by (unit_name unit) (outcome_of Source unit table)
 
-abbrev pub enter_then : Result Entered Refusal → (Entered → Result Entered Refusal) → Result Entered Refusal
-enter_then (Ok entered) next = next entered
-enter_then (Err refusal) next = Err refusal
+-- what comes next, unless something stands against it
+abbrev pub and_then : {A B E : Type 0} → Result A E → (A → Result B E) → Result B E
+and_then (Ok value) next = next value
+and_then (Err why) next = Err why
 
--- sources, each by its path and its bytes, are read and entered one after another
-abbrev pub enter_all : Entered → List (List ℕ × List ℕ) → Result Entered Refusal
-enter_all entered [] = Ok entered
-enter_all entered (source ∷ sources) = enter_then (enter_form entered source.0 (form_of source.1)) (λ next. enter_all next sources)
+-- units are entered one after another, up to the first that can't be
+abbrev pub enter_units : TypeTable → List UnitText → Result TypeTable Obstacle
+enter_units table [] = Ok table
+enter_units table (unit ∷ units) = and_then (enter_unit table unit) (λ next. enter_units next units)
+
+abbrev pub enter_read : TypeTable → Result (List UnitText) Flaw → Result Entered Obstacle
+enter_read table (Err flaw) = Err (of_flaw flaw)
+enter_read table (Ok units) = and_then (enter_units table units) (λ next. Ok (record { table = next; names = map unit_name units }))
+
+-- the units that these bytes give are entered
+abbrev pub enter_source : TypeTable → List ℕ → Result Entered Obstacle
+enter_source table bytes = enter_read table (units_of bytes)
+
+-- ---- created sources
+
+-- a table, and the names of all that was entered since the last round
+pub record Gathered : Type 0 where
+  pub table : TypeTable
+  pub roots : NameSet
+
+-- the refusal of a run whose created source at this path can't be entered
+abbrev pub refusal_at : List ℕ → Obstacle → Refusal
+refusal_at path Unbuilt = UnbuiltForm path
+refusal_at path (Duplicate name) = GeneratedDuplicate name
+refusal_at path (TooLarge what) = past what
+
+abbrev pub gather : NameSet → List ℕ → Result Entered Obstacle → Result Gathered Refusal
+gather roots path (Ok next) = Ok (record { table = next.table; roots = with_names roots next.names })
+gather roots path (Err obstacle) = Err (refusal_at path obstacle)
+
+abbrev pub enter_created : Gathered → List ℕ × List ℕ → Result Gathered Refusal
+enter_created gathered created = gather gathered.roots created.0 (enter_source gathered.table created.1)
+
+-- sources, each by its path and its bytes, are read and entered one after another, up to the first that is refused
+abbrev pub gather_all : Gathered → List (List ℕ × List ℕ) → Result Gathered Refusal
+gather_all gathered [] = Ok gathered
+gather_all gathered (created ∷ sources) = and_then (enter_created gathered created) (λ next. gather_all next sources)
+
+-- the names of all that was entered, ascending
+abbrev pub ascending : Result Gathered Refusal → Result Entered Refusal
+ascending (Ok gathered) = Ok (record { table = gathered.table; names = names_in gathered.roots })
+ascending (Err refusal) = Err refusal
+
+abbrev pub enter_all : TypeTable → List (List ℕ × List ℕ) → Result Entered Refusal
+enter_all table sources = ascending (gather_all (record { table = table; roots = fin.empty }) sources)
+
+-- ---- the first round
+
+-- a project's table, of which all source units are roots
+abbrev pub all_of : TypeTable → Entered
+all_of table = record { table = table; names = fin.keys table.source }
+
+-- the names of all units, those of the sources first
+abbrev pub unit_names : TypeTable → List (List ℕ)
+unit_names table = fin.keys table.source ++ fin.keys table.stub

@@ -1,8 +1,7 @@
-// The run of one processor over the units of a project.
-ghost use Rattle.std.specs.Prelude.{◌≡◌, Contains, map, string_bytes, IfErr};
+// The run of one processor over the type table of a project.
+ghost use Rattle.std.specs.Prelude.{◌≡◌, Contains, IfErr};
 ghost use Rattle.apt_outside.specs.Count.{Told};
-ghost use Rattle.apt_outside.specs.Held.{files_of};
-ghost use Rattle.child_session.specs.Talk.{Attends};
+ghost use Rattle.apt_outside.specs.Child.{call, Attends};
 ghost use Rattle.round_engine.specs.Refusals.{Names};
 ghost use Rattle.round_engine.specs.Faults.{stop_of, HasReason};
 ghost use Rattle.round_engine.specs.Run.{new_filings};
@@ -15,8 +14,8 @@ use apt_base::Name;
 use apt_filer::Filer;
 use apt_outside::Children;
 use child_session::{SessionFault, exchange};
+use element_table::Table;
 use std::alloc::Global;
-use std::collections::BTreeMap;
 
 /// Shows a child that was just started all that its processor is asked.
 fn show_all<C: Children>(
@@ -24,19 +23,18 @@ fn show_all<C: Children>(
     children: &mut C,
     child: u32,
     name: &Name,
-    units: &BTreeMap<String, Vec<u8>>,
+    table: &Table,
     filer: &mut Filer,
 ) -> Result<Rounds, Refusal>
-    requires lives { Contains (C.live children.old) child }
-    requires new { filer.old ≡ new_filings (files_of units.now) }
+    requires lives { Contains (C.state children.old).live child }
+    requires new { filer.old ≡ new_filings table.now }
     ensures reason { HasReason (C.faults children.old) (C.faults children.new) result }
     ensures named { IfErr result (λ refusal. Names name.now (stop_of refusal)) }
-    ensures starts { C.starts children.new ≡ C.starts children.old }
-    ensures live { C.live children.new ≡ C.live children.old }
-    ensures attends { Told C.tells (Attends child (C.says children.old) (C.says children.new)
-        (C.tried children.old) (C.tried children.new) (C.known children.old) (C.known children.new)) }
-    ensures came { Told C.tells (Came child (C.says children.old) name.now (files_of units.now) filer.new
-        (C.known children.old) (C.known children.new) result) }
+    ensures starts { (C.state children.new).starts ≡ (C.state children.old).starts }
+    ensures live { (C.state children.new).live ≡ (C.state children.old).live }
+    ensures attends { Told C.tells (Attends child (C.state children.old) (C.state children.new)) }
+    ensures came { Told C.tells (Came child name.now table.now
+        (C.state children.old) (C.state children.new) filer.new result) }
 {
     let init = init_frame(alloc, name)?;
     let answer = match exchange(alloc, children, child, init.as_slice()) {
@@ -45,7 +43,7 @@ fn show_all<C: Children>(
     };
     match pattern_of(answer)? {
         None => Err(refusal_of(name, SessionFault::Unbuilt)),
-        Some(pattern) => show_rounds(alloc, children, child, name, &pattern, units, filer),
+        Some(pattern) => show_rounds(alloc, children, child, name, &pattern, table, filer),
     }
 }
 
@@ -55,25 +53,25 @@ pub fn run_processor<C: Children>(
     children: &mut C,
     name: &Name,
     command: &[String],
-    units: &BTreeMap<String, Vec<u8>>,
+    table: &Table,
     filer: &mut Filer,
 ) -> Result<Rounds, Refusal>
-    requires new { filer.old ≡ new_filings (files_of units.now) }
+    requires new { filer.old ≡ new_filings table.now }
     ensures reason { HasReason (C.faults children.old) (C.faults children.new) result }
     ensures named { IfErr result (λ refusal. Names name.now (stop_of refusal)) }
-    ensures starts { StartedOnce result (C.starts children.old) (C.starts children.new) }
-    ensures live { C.live children.new ≡ C.live children.old }
-    ensures says { Told C.tells (C.says children.new ≡ C.says children.old) }
-    ensures tried { Told C.tells (TriedOnce (name.now, map string_bytes command.now) (C.tried children.old)
-        (C.tried children.new)) }
-    ensures runs { Told C.tells (Runs (C.says children.old) (name.now, map string_bytes command.now)
-        (files_of units.now) filer.new (C.known children.old) (C.known children.new) result) }
+    ensures starts { StartedOnce result (C.state children.old) (C.state children.new) }
+    ensures live { (C.state children.new).live ≡ (C.state children.old).live }
+    ensures says { Told C.tells ((C.state children.new).says ≡ (C.state children.old).says) }
+    ensures tried { Told C.tells
+        (TriedOnce (call name.now command.now) (C.state children.old) (C.state children.new)) }
+    ensures runs { Told C.tells (Runs (call name.now command.now) table.now
+        (C.state children.old) (C.state children.new) filer.new result) }
 {
     let child = match children.start(name.as_str(), command) {
         Ok(child) => child,
         Err(fault) => return Err(refusal_of(name, SessionFault::from(fault))),
     };
-    let outcome = show_all(alloc, children, child, name, units, filer);
+    let outcome = show_all(alloc, children, child, name, table, filer);
     children.stop(child);
     match outcome {
         Ok(rounds) => Ok(rounds),

@@ -6,19 +6,26 @@
 #![tactic(auto)]
 
 mod child;
+mod entering;
 mod frames;
+mod limits;
 mod messages;
+mod names;
 mod numbering;
 mod project;
 mod refusal;
 mod rounds;
 mod running;
+mod source_fault;
 mod sources;
 mod units;
 
+pub use entering::enter_source;
 pub use frames::LEVEL;
+pub use limits::limit_of;
 pub use messages::Placed;
 pub use numbering::{Made, number_files};
 pub use project::{Key, KeyProcessor, Project};
 pub use refusal::Refusal;
 pub use running::{Finished, clean};
+pub use source_fault::SourceFault;

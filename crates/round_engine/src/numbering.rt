@@ -134,8 +134,8 @@ pub fn number_files(
     ensures numbers { IfOk result (λ files. AreLeast taken.now [] (map (λ file. file.store) files)) }
     ensures texts { IfOk result (All (λ file. is_text file.path ≡ true)) }
     ensures written { IfOk result (All (λ file. file.written ≡ true)) }
-    ensures sizes { IfOk result (λ files. (length files < 2 ^ 32)
-        × All (λ file. (file.store < 2 ^ 32) × (length file.path < 2 ^ 32) × (length file.bytes < 2 ^ 32)) files) }
+    ensures sizes { IfOk result (λ files. (length files < 2 ^ 32) × All
+        (λ file. (file.store < 2 ^ 32) × (length file.path < 2 ^ 32) × (length file.bytes < 2 ^ 32)) files) }
 {
     let mut numbers = Numbers { taken, next: 0 };
     let mut files = List::new(alloc);

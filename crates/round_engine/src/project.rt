@@ -2,8 +2,8 @@
 ghost use Rattle.std.specs.Prelude.{◌≡◌, IfOk};
 
 use apt_base::{Kind, List, Name, NoMemory, copy_names};
+use element_table::Table;
 use std::alloc::Global;
-use std::collections::BTreeMap;
 use wire_frames::copy_options;
 
 /// A processor of a project.
@@ -95,6 +95,18 @@ impl Key {
 pub struct Project {
     /// All on which its build depends, but for its sources.
     pub key: Key,
-    /// Its units: by the canonical name of its type, the name of the annotation that is written on each.
-    pub initial: BTreeMap<String, Vec<u8>>,
+    /// Its units.
+    pub initial: Table,
+}
+
+impl Project {
+    /// An equal project.
+    pub fn copy(&self, alloc: Global) -> Result<Project, NoMemory>
+        ensures { IfOk result (λ project. project ≡ self.now) }
+    {
+        Ok(Project {
+            key: self.key.copy(alloc)?,
+            initial: self.initial.copy(alloc)?,
+        })
+    }
 }

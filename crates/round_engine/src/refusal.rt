@@ -4,7 +4,7 @@ ghost use Rattle.round_engine.specs.declared.refusal.Refusal.TheVariants as code
 ghost use Rattle.round_engine.specs.Refusals.{Names, OrMemory};
 ghost use Rattle.round_engine.specs.Faults.{stop_of, of_session};
 
-use apt_base::{Name, NoMemory};
+use apt_base::{Name, NoMemory, What};
 use child_session::SessionFault;
 use std::alloc::{AllocError, AllocFailed};
 
@@ -40,6 +40,13 @@ pub enum Refusal {
     },
     /// Round 64 would not be the last.
     TooManyRounds,
+    /// What is counted passes its limit.
+    TooLarge {
+        /// Which limit.
+        what: What,
+        /// How much there may be.
+        limit: u32,
+    },
     /// Want of memory.
     Memory,
 }
@@ -65,6 +72,10 @@ impl Refusal {
                 Ok(Refusal::GeneratedDuplicate { name: name.copy()? })
             }
             Refusal::TooManyRounds => Ok(Refusal::TooManyRounds),
+            Refusal::TooLarge { what, limit } => Ok(Refusal::TooLarge {
+                what: *what,
+                limit: *limit,
+            }),
             Refusal::Memory => Ok(Refusal::Memory),
         }
     }

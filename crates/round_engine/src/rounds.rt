@@ -1,27 +1,25 @@
 // The rounds of a run.
-ghost use Rattle.std.specs.Prelude.{◌≡◌, ◌+◌, ◌*◌, ◌||◌, not, Contains, IfOk, IfErr, drop, length, true};
+ghost use Rattle.std.specs.Prelude.{◌≡◌, ◌+◌, ◌*◌, ◌||◌, not, Contains, IfOk, IfErr, [], drop, length, true};
 ghost use Rattle.apt_outside.specs.Count.{Told};
-ghost use Rattle.apt_outside.specs.Held.{files_of};
 ghost use Rattle.child_session.specs.Faults as session;
-ghost use Rattle.child_session.specs.Talk.{Attends, HasAnswered};
+ghost use Rattle.apt_outside.specs.Child.{Attends};
 ghost use Rattle.round_engine.specs.Refusals.{Names};
 ghost use Rattle.round_engine.specs.Faults.{stop_of, HasReason};
-ghost use Rattle.round_engine.specs.Run.{is_asked, creates_source, rounds_from, rounds_before_last, last_round, next_of, new_filings, start};
-ghost use Rattle.round_engine.specs.Units.{Table};
-ghost use Rattle.round_engine.specs.declared.messages.Placed.{Placed};
-ghost use Rattle.round_engine.specs.Shown.{shown_round, standing, Acts, Ends};
+ghost use Rattle.round_engine.specs.Run.{is_asked, creates_source, new_filings};
+ghost use Rattle.round_engine.specs.Shown.{shown_round, ActsIn, EndsLast, EndsAll};
 
+use crate::entering::enter_all;
 use crate::frames::round_bytes;
 use crate::messages::{Placed, has_error, place};
 use crate::refusal::{Refusal, refusal_of};
-use crate::sources::{creates_source, enter_all, sources_among, unread_among};
-use crate::units::{is_present, roots_of, roots_or};
-use apt_base::{List, Name, NoMemory};
+use crate::sources::{creates_source, sources_among, unread_among};
+use crate::units::is_present;
+use apt_base::{List, Name, NoMemory, copy_names};
 use apt_filer::Filer;
 use apt_outside::Children;
 use child_session::{SessionFault, show_round};
+use element_table::{Part, Table};
 use std::alloc::Global;
-use std::collections::BTreeMap;
 use wire_frames::{Creation, Message};
 
 // The most rounds of a run, the last included.
@@ -65,28 +63,28 @@ fn act<C: Children>(
     child: u32,
     pattern: &Name,
     round: Round,
-    roots: &BTreeMap<String, Vec<u8>>,
+    table: &Table,
+    roots: &List<Name>,
     asked: &mut bool,
     filer: &mut Filer,
 ) -> Result<List<Message>, SessionFault>
-    requires lives { Contains (C.live children.old) child }
+    requires lives { Contains (C.state children.old).live child }
     ensures reason { session.HasReason (C.faults children.old) (C.faults children.new) result }
-    ensures starts { C.starts children.new ≡ C.starts children.old }
-    ensures live { C.live children.new ≡ C.live children.old }
-    ensures attends { Told C.tells (Attends child (C.says children.old) (C.says children.new)
-        (C.tried children.old) (C.tried children.new) (C.known children.old) (C.known children.new)) }
-    ensures asked { IfOk result (λ _. asked.new ≡ is_asked pattern.now (files_of roots.now) asked.old) }
-    ensures acts { Told C.tells ((table : Table) (messages : List Placed) → Acts child (C.says children.old)
-        (C.known children.old) (C.known children.new) pattern.now (shown_round round (files_of roots.now))
-        (standing table asked.old filer.old messages) filer.new result) }
+    ensures starts { (C.state children.new).starts ≡ (C.state children.old).starts }
+    ensures live { (C.state children.new).live ≡ (C.state children.old).live }
+    ensures attends { Told C.tells (Attends child (C.state children.old) (C.state children.new)) }
+    ensures asked { IfOk result (λ _. asked.new ≡ is_asked pattern.now (shown_round round table.now roots.now)
+        asked.old) }
+    ensures acts { Told C.tells (ActsIn child pattern.now (shown_round round table.now roots.now) asked.old
+        (C.state children.old) (C.state children.new) filer.old filer.new result) }
 {
-    let present = is_present(roots, pattern.as_str().as_bytes());
+    let present = is_present(table, roots.as_slice(), pattern.as_str().as_bytes());
     if !present && !*asked {
         return Ok(List::new(alloc));
     }
     *asked = true;
-    let names = roots_of(alloc, roots)?;
-    let most = limit_of(names.as_slice())?;
+    let names = copy_names(alloc, roots.as_slice())?;
+    let most = limit_of(roots.as_slice())?;
     let frame = round_bytes(alloc, pattern, present, round, names)?;
     show_round(alloc, children, child, frame.as_slice(), most, filer)
 }
@@ -110,29 +108,27 @@ fn finish<C: Children>(
     processor: &Name,
     pattern: &Name,
     round: Round,
+    table: &Table,
     asked: bool,
     filer: &mut Filer,
     messages: List<Placed>,
 ) -> Result<Rounds, Refusal>
-    requires lives { Contains (C.live children.old) child }
+    requires lives { Contains (C.state children.old).live child }
     requires last { round.over ≡ true }
     ensures reason { HasReason (C.faults children.old) (C.faults children.new) result }
     ensures named { IfErr result (λ refusal. Names processor.now (stop_of refusal)) }
-    ensures starts { C.starts children.new ≡ C.starts children.old }
-    ensures live { C.live children.new ≡ C.live children.old }
-    ensures attends { Told C.tells (Attends child (C.says children.old) (C.says children.new)
-        (C.tried children.old) (C.tried children.new) (C.known children.old) (C.known children.new)) }
-    ensures ends { Told C.tells ((table : Table) → Ends child (C.says children.old) (C.known children.old)
-        (C.known children.new) (λ before. last_round processor.now
-        (C.says children.old before.name before.command) pattern.now round.number round.error before.sent
-        (standing table asked filer.old messages)) filer.new result) }
+    ensures starts { (C.state children.new).starts ≡ (C.state children.old).starts }
+    ensures live { (C.state children.new).live ≡ (C.state children.old).live }
+    ensures attends { Told C.tells (Attends child (C.state children.old) (C.state children.new)) }
+    ensures ends { Told C.tells (EndsLast child processor.now pattern.now round table.now asked messages
+        (C.state children.old) (C.state children.new) filer.old filer.new result) }
 {
-    let roots = BTreeMap::new(alloc);
+    let roots = List::new(alloc);
     let count = filer.made().len();
     let mut asked = asked;
     let mut messages = messages;
     let printed = match act(
-        alloc, children, child, pattern, round, &roots, &mut asked, filer,
+        alloc, children, child, pattern, round, table, &roots, &mut asked, filer,
     ) {
         Ok(printed) => printed,
         Err(fault) => return Err(refusal_of(processor, fault)),
@@ -153,32 +149,29 @@ fn is_followed_by_last(error: bool, made: &[Creation]) -> bool
     error || !creates_source(made)
 }
 
-/// Shows the processor's child all rounds from the first on. The units are the table, and all of them are the roots of
-/// round 1.
+/// Shows the processor's child all rounds from the first on. All source units of the project's table are the roots of
+/// round 1, and the units of created sources enter a copy of it.
 pub fn show_rounds<C: Children>(
     alloc: Global,
     children: &mut C,
     child: u32,
     processor: &Name,
     pattern: &Name,
-    units: &BTreeMap<String, Vec<u8>>,
+    project: &Table,
     filer: &mut Filer,
 ) -> Result<Rounds, Refusal>
-    requires lives { Contains (C.live children.old) child }
-    requires new { filer.old ≡ new_filings (files_of units.now) }
+    requires lives { Contains (C.state children.old).live child }
+    requires new { filer.old ≡ new_filings project.now }
     ensures reason { HasReason (C.faults children.old) (C.faults children.new) result }
     ensures named { IfErr result (λ refusal. Names processor.now (stop_of refusal)) }
-    ensures starts { C.starts children.new ≡ C.starts children.old }
-    ensures live { C.live children.new ≡ C.live children.old }
-    ensures attends { Told C.tells (Attends child (C.says children.old) (C.says children.new)
-        (C.tried children.old) (C.tried children.new) (C.known children.old) (C.known children.new)) }
-    ensures ends { Told C.tells (Ends child (C.says children.old) (C.known children.old)
-        (C.known children.new) (λ before. rounds_from processor.now
-        (C.says children.old before.name before.command) pattern.now rounds_before_last
-        (next_of 1 (files_of units.now)) before.sent (start (files_of units.now))) filer.new result) }
+    ensures starts { (C.state children.new).starts ≡ (C.state children.old).starts }
+    ensures live { (C.state children.new).live ≡ (C.state children.old).live }
+    ensures attends { Told C.tells (Attends child (C.state children.old) (C.state children.new)) }
+    ensures ends { Told C.tells (EndsAll child processor.now pattern.now project.now
+        (C.state children.old) (C.state children.new) filer.new result) }
 {
-    let mut created = BTreeMap::new(alloc);
-    let mut entered = None;
+    let mut table = project.copy(alloc)?;
+    let mut roots = project.names(alloc, Part::Source)?;
     let mut messages = List::new(alloc);
     let mut asked = false;
     for number in 1..MAX_ROUNDS {
@@ -187,10 +180,9 @@ pub fn show_rounds<C: Children>(
             over: false,
             error: false,
         };
-        let roots = roots_or(units, &entered);
         let count = filer.made().len();
         let printed = match act(
-            alloc, children, child, pattern, round, roots, &mut asked, filer,
+            alloc, children, child, pattern, round, &table, &roots, &mut asked, filer,
         ) {
             Ok(printed) => printed,
             Err(fault) => return Err(refusal_of(processor, fault)),
@@ -204,11 +196,12 @@ pub fn show_rounds<C: Children>(
                 error,
             };
             return finish(
-                alloc, children, child, processor, pattern, last, asked, filer, messages,
+                alloc, children, child, processor, pattern, last, &table, asked, filer, messages,
             );
         }
         let sources = sources_among(alloc, made_since(filer, count))?;
-        entered = Some(enter_all(alloc, units, &mut created, sources)?);
+        let entered = enter_all(alloc, &mut table, sources)?;
+        roots = entered;
     }
     Err(Refusal::TooManyRounds)
 }

@@ -2,9 +2,8 @@
 ghost use Rattle.std.specs.Prelude.{◌≡◌, map, IfOk, string_bytes};
 ghost use Rattle.std.specs.List.Sorted.{IsStrictlyIncreasing};
 ghost use Rattle.apt_outside.specs.Count.{Told};
-ghost use Rattle.apt_outside.specs.Held.{files_of};
 ghost use Rattle.round_engine.specs.Faults.{HasReason};
-ghost use Rattle.round_engine.specs.Clean.{IsPlain, clean_run, AreNumbered, Has, Cleans, NamesProcessor, Talked, Starts, Tries};
+ghost use Rattle.round_engine.specs.Clean.{IsPlain, AreNumbered, Has, Cleans, NamesProcessor, Talked, Starts, Tries};
 
 use crate::child::run_processor;
 use crate::messages::{Placed, copy_messages, count_errors, count_warnings};
@@ -13,7 +12,7 @@ use crate::project::Project;
 use crate::refusal::Refusal;
 use crate::rounds::Rounds;
 use crate::sources::files_among;
-use crate::units::roots_of;
+use crate::units::unit_names;
 use apt_base::{List, Name, NoMemory, copy_names};
 use apt_filer::Filer;
 use apt_outside::Children;
@@ -113,18 +112,18 @@ pub fn clean<C: Children>(
     requires plain { IsPlain project.now.key }
     requires ascending { IsStrictlyIncreasing taken.now }
     ensures reason { HasReason (C.faults children.old) (C.faults children.new) result }
-    ensures starts { Starts project.now.key.processors result (C.starts children.old) (C.starts children.new) }
-    ensures live { C.live children.new ≡ C.live children.old }
-    ensures says { Told C.tells (C.says children.new ≡ C.says children.old) }
-    ensures tried { Told C.tells (Tries project.now.key.processors (C.tried children.old)
-        (C.tried children.new)) }
+    ensures starts { Starts project.now.key.processors result (C.state children.old) (C.state children.new) }
+    ensures live { (C.state children.new).live ≡ (C.state children.old).live }
+    ensures says { Told C.tells ((C.state children.new).says ≡ (C.state children.old).says) }
+    ensures tried { Told C.tells
+        (Tries project.now.key.processors (C.state children.old) (C.state children.new)) }
     ensures numbered { IfOk result (λ finished. AreNumbered taken.now finished.files) }
     ensures named { NamesProcessor project.now.key.processors result }
     ensures cleans { Talked C.tells project.now.key.processors
-        (Cleans project.now.key.processors (clean_run (C.says children.old) project.now.key.processors
-        (files_of project.now.initial)) (C.known children.old) (C.known children.new) result) }
+        (Cleans project.now.key.processors project.now.initial
+        (C.state children.old) (C.state children.new) result) }
 {
-    let mut filer = Filer::new(alloc, &roots_of(alloc, &project.initial)?)?;
+    let mut filer = Filer::new(alloc, &unit_names(alloc, &project.initial)?)?;
     let Some((processor, _)) = project.key.processors.as_slice().split_first() else {
         let none = Rounds {
             count: 2,

@@ -1,45 +1,56 @@
-// The units of a project, by the names of their types.
-ghost use Rattle.std.specs.Prelude.{◌≡◌, IfOk};
-ghost use Rattle.std.specs.FinMap.{keys};
-ghost use Rattle.apt_outside.specs.Held.{files_of};
-ghost use Rattle.round_engine.specs.Units.{is_present};
-ghost use Rattle.round_engine.specs.Entering.{shown_roots};
+// The units of a project in its type table.
+ghost use Rattle.std.specs.Prelude.{◌≡◌, false, IfOk};
+ghost use Rattle.std.specs.Option.{option_map_or};
+ghost use Rattle.element_table.specs.TypeTable.{unit_of};
+ghost use Rattle.round_engine.specs.Units.{annotations_of, is_written, is_present, unit_names};
 
 use apt_base::{List, Name, NoMemory};
+use decl_tree::{AnnotationText, Body, Unit};
+use element_table::{Part, Table};
 use std::alloc::Global;
-use std::collections::BTreeMap;
 
-/// Whether an annotation of this name is written on a unit.
-pub fn is_present(units: &BTreeMap<String, Vec<u8>>, name: &[u8]) -> bool
-    ensures { result ≡ is_present (files_of units.now) name.now }
+fn annotations_of(body: &Body) -> &[AnnotationText]
+    ensures { result.now ≡ annotations_of body.now }
 {
-    let mut found = false;
-    for annotation in units.values() {
-        found = found || annotation.as_slice() == name;
+    match body {
+        Body::Declared(declaration) => declaration.annotations.as_slice(),
+        Body::Info(annotations, _) => annotations.as_slice(),
     }
-    found
 }
 
-/// The names of the units, ascending by their bytes.
-pub fn roots_of(alloc: Global, units: &BTreeMap<String, Vec<u8>>) -> Result<List<Name>, NoMemory>
-    ensures { IfOk result (λ roots. roots ≡ keys (files_of units.now)) }
+fn is_written(name: &[u8], unit: &Unit) -> bool
+    ensures { result ≡ is_written name.now unit.now }
 {
-    let mut roots = List::new(alloc);
-    for name in units.keys() {
-        roots.push(Name::new(alloc, name.as_str())?)?;
-    }
-    Ok(roots)
+    annotations_of(&unit.text().body)
+        .iter()
+        .any(|annotation| annotation.name.as_str().as_bytes() == name)
 }
 
-/// The roots of a round: the units that were entered before it, or all initial ones where it is the first.
-pub fn roots_or<'a>(
-    initial: &'a BTreeMap<String, Vec<u8>>,
-    entered: &'a Option<BTreeMap<String, Vec<u8>>>,
-) -> &'a BTreeMap<String, Vec<u8>>
-    ensures { files_of result.now ≡ shown_roots (files_of initial.now) entered.now }
+// Whether an annotation of this name is written on the unit with that name.
+fn is_written_at(table: &Table, root: &Name, name: &[u8]) -> bool
+    ensures { result ≡ option_map_or (is_written name.now) (unit_of table.now root.now) false }
 {
-    match entered {
-        None => initial,
-        Some(roots) => roots,
+    match table.find(root) {
+        None => false,
+        Some(unit) => is_written(name, unit),
     }
+}
+
+/// Whether an annotation of this name is written on one of the units with these names. It takes the time of a look-up for
+/// each of them.
+pub fn is_present(table: &Table, roots: &[Name], name: &[u8]) -> bool
+    ensures { result ≡ is_present table.now roots.now name.now }
+{
+    roots.iter().any(|root| is_written_at(table, root, name))
+}
+
+/// The names of all units of a table, those of its sources first.
+pub fn unit_names(alloc: Global, table: &Table) -> Result<List<Name>, NoMemory>
+    ensures { IfOk result (λ names. names ≡ unit_names table.now) }
+{
+    let mut names = table.names(alloc, Part::Source)?;
+    for name in table.names(alloc, Part::Stub)?.into_vec() {
+        names.push(name)?;
+    }
+    Ok(names)
 }

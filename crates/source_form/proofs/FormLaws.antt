@@ -169,6 +169,15 @@ length-canonical bytes form h =
       | inr e ↦ (let len : length bytes ≡ length (text_of form) + 1 = ap length e ∙ length-append (text_of form) (codes "\n") in omega (arith, h.short))
     ]
 
+-- nor is its annotation
+pub length-annotation : (bytes : List ℕ) (form : SourceForm) → IsForm bytes form → length form.annotation ≤ 4096
+length-annotation bytes form h =
+    let text : length (text_of form) ≡ 8 + length form.package + 3 + length form.annotation + 7 + length form.name + 3 = simp length-append in
+    elim h.text [
+      | inl e ↦ (let len : length bytes ≡ length (text_of form) = ap length e in omega (arith, h.short))
+      | inr e ↦ (let len : length bytes ≡ length (text_of form) + 1 = ap length e ∙ length-append (text_of form) (codes "\n") in omega (arith, h.short))
+    ]
+
 pub is_short : (bytes : List ℕ) (r : Result (Option SourceForm) NoMemory) → IfOk r (λ form. form ≡ form_of bytes) → IfOk r (λ form. IfSome form (λ read. length (canonical read) ≤ 4096))
 is_short bytes (Ok (Some form)) h = length-canonical bytes form (form_of-is bytes form (sym h))
 is_short bytes (Ok None) h = tt

@@ -1,3 +1,4 @@
 pub mod Identifiers
 pub mod Chains
 pub mod FormLaws
+pub mod UnitLaws

@@ -1,7 +1,6 @@
 use Rattle.std.proofs.Common.{◌≡◌, ap, sym, ◌∙◌, subst, refl, option_map, map}
 use Rattle.std.proofs.lemmas.Result.{err_from_is_err_and}
 use Rattle.apt_outside.specs.Count.{Rose, Told}
-use Rattle.apt_outside.specs.Held.{files_of}
 use Rattle.apt_outside.specs.Child.{Try}
 use Rattle.tree_store.specs.Storing.{AreTaken}
 use Rattle.tree_store.specs.Output.{StoresStand}
@@ -16,11 +15,11 @@ use Rattle.apt_host.proofs.Writing.{begins_with_nothing}
 use Rattle.apt_host.proofs.Building.{distinct_made, absent_made, leaves_all, stores_stand, publishes_finished, reports_finished}
 use Rattle.apt_host.proofs.build.build.Goals as goal
 
-pub returns-in_err-units-clause-written : goal.returns-in_err-units-clause-written
-returns-in_err-units-clause-written g c = λ told.
+pub returns-in_err-table-clause-written : goal.returns-in_err-table-clause-written
+returns-in_err-table-clause-written g c = λ told.
     let p = err_from_is_err_and c.from_residual.result c.from_residual.ensures.1 in
-    let same : closed c.from_residual.result ≡ verdict c.in_err-units.field-0.0 = ap closed p.1 ∙ ap verdict p.2 in
-    begins_with_nothing _ _ _ _ _ _ _ _ _ (ap is_finished same ∙ unfinished_early is_tree _ c.in_err-units.ensures.early) (ap (fails is_sink) same ∙ no_sink_early is_tree _ refl c.in_err-units.ensures.early)
+    let same : closed c.from_residual.result ≡ verdict c.in_err-table.field-0.0 = ap closed p.1 ∙ ap verdict p.2 in
+    begins_with_nothing _ _ _ _ _ _ _ _ _ (ap is_finished same ∙ unfinished_early is_tree _ c.in_err-table.ensures.early) (ap (fails is_sink) same ∙ no_sink_early is_tree _ refl c.in_err-table.ensures.early)
 
 pub returns-in_err-taken-clause-written : goal.returns-in_err-taken-clause-written
 returns-in_err-taken-clause-written g c = λ told.
@@ -46,16 +45,16 @@ returns-clause-published g c =
     let T = g.T.Tree in
     let C = g.C.Children in
     let processor = option_map {U = Try} shown_processor c.args.processor in
-    publishes_finished T.tells C.tells (C.says c.args.children.now) processor (T.files c.args.tree.now) (files_of c.in_ok-units.units) (C.known c.args.children.now) (C.known c.make.new.children) c.in_ok-units.ensures.units
+    publishes_finished T.tells C.tells processor (T.files c.args.tree.now) c.in_ok-table.table (C.state c.args.children.now) (C.state c.make.new.children) c.in_ok-table.ensures.units
     c.in_ok-taken.taken c.in_ok-finished.finished c.in_ok-finished.ensures.numbered c.in_ok-finished.ensures.made (closed c.conclude.result) c.conclude.ensures.answer
     (T.files c.taken_numbers.new.tree) (T.files c.conclude.new.tree)
     (λ told. subst (λ tree. AreTaken tree c.in_ok-taken.taken) (sym (c.in_ok-taken.ensures.same told)) (c.in_ok-taken.ensures.taken told))
-    (λ told. c.in_ok-taken.ensures.same told ∙ c.in_ok-units.ensures.same told) c.conclude.ensures.placed
+    (λ told. c.in_ok-taken.ensures.same told ∙ c.in_ok-table.ensures.same told) c.conclude.ensures.placed
 
 pub returns-clause-leaves : goal.returns-clause-leaves
 returns-clause-leaves g c = λ told.
     let T = g.T.Tree in
-    let same : T.files c.taken_numbers.new.tree ≡ T.files c.args.tree.now = c.in_ok-taken.ensures.same told ∙ c.in_ok-units.ensures.same told in
+    let same : T.files c.taken_numbers.new.tree ≡ T.files c.args.tree.now = c.in_ok-taken.ensures.same told ∙ c.in_ok-table.ensures.same told in
     let taken = subst (λ tree. AreTaken tree c.in_ok-taken.taken) (sym (c.in_ok-taken.ensures.same told)) (c.in_ok-taken.ensures.taken told) in
     subst (λ old. Leaves (closed c.conclude.result) old (T.files c.conclude.new.tree)) same
     (leaves_all c.in_ok-taken.taken c.in_ok-finished.finished c.in_ok-finished.ensures.numbered (closed c.conclude.result) (T.files c.taken_numbers.new.tree) (T.files c.conclude.new.tree) taken (c.conclude.ensures.placed told) (c.conclude.ensures.leaves told))
@@ -63,7 +62,7 @@ returns-clause-leaves g c = λ told.
 pub returns-clause-stand : goal.returns-clause-stand
 returns-clause-stand g c = λ told stand.
     let T = g.T.Tree in
-    let same : T.files c.taken_numbers.new.tree ≡ T.files c.args.tree.now = c.in_ok-taken.ensures.same told ∙ c.in_ok-units.ensures.same told in
+    let same : T.files c.taken_numbers.new.tree ≡ T.files c.args.tree.now = c.in_ok-taken.ensures.same told ∙ c.in_ok-table.ensures.same told in
     let taken = subst (λ tree. AreTaken tree c.in_ok-taken.taken) (sym (c.in_ok-taken.ensures.same told)) (c.in_ok-taken.ensures.taken told) in
     stores_stand c.in_ok-taken.taken c.in_ok-finished.finished c.in_ok-finished.ensures.numbered (closed c.conclude.result) (T.files c.taken_numbers.new.tree) (T.files c.conclude.new.tree) taken (c.conclude.ensures.placed told) (c.conclude.ensures.leaves told)
     (subst StoresStand (sym same) stand)
@@ -77,9 +76,9 @@ returns-clause-written g c = λ told.
     let adds = subst (λ name. Adds (λ text. IsFront ⊥ (concluding_report name c.in_ok-finished.finished) (closed c.conclude.result) text
     × Told T.tells (GainsFirst (closed c.conclude.result) text (map numbered_of c.in_ok-finished.finished.files) (T.files c.taken_numbers.new.tree) (T.files c.conclude.new.tree))) (W.written c.args.output.now) (W.written c.conclude.new.output))
     c.name_of.ensures (c.conclude.ensures.written told) in
-    reports_finished T.tells C.tells (C.says c.args.children.now) processor (T.files c.args.tree.now) (files_of c.in_ok-units.units) (C.known c.args.children.now) (C.known c.make.new.children) c.in_ok-units.ensures.units
+    reports_finished T.tells C.tells processor (T.files c.args.tree.now) c.in_ok-table.table (C.state c.args.children.now) (C.state c.make.new.children) c.in_ok-table.ensures.units
     c.in_ok-taken.taken c.in_ok-finished.finished c.in_ok-finished.ensures.numbered c.in_ok-finished.ensures.made (closed c.conclude.result) c.conclude.ensures.answer
     (T.files c.taken_numbers.new.tree) (T.files c.conclude.new.tree)
     (λ t. subst (λ tree. AreTaken tree c.in_ok-taken.taken) (sym (c.in_ok-taken.ensures.same t)) (c.in_ok-taken.ensures.taken t))
-    (λ t. c.in_ok-taken.ensures.same t ∙ c.in_ok-units.ensures.same t)
+    (λ t. c.in_ok-taken.ensures.same t ∙ c.in_ok-table.ensures.same t)
     (Rose (W.faults c.args.output.now) (W.faults c.conclude.new.output)) (W.written c.args.output.now) (W.written c.conclude.new.output) c.conclude.ensures.tree_fails adds

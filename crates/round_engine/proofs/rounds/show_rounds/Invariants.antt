@@ -1,10 +1,9 @@
 use Rattle.std.proofs.Common.{◌≡◌, ◌-◌, ◌≤◌}
 use Rattle.apt_outside.specs.Count.{Told}
-use Rattle.apt_outside.specs.Held.{files_of}
-use Rattle.child_session.specs.Talk.{Attends}
-use Rattle.round_engine.specs.Run.{rounds_from, rounds_before_last, next_of, start}
-use Rattle.round_engine.specs.Entering.{shown_roots}
-use Rattle.round_engine.specs.Shown.{standing, GoesOn}
+use Rattle.apt_outside.specs.Child.{Attends}
+use Rattle.round_engine.specs.Run.{next_of}
+use Rattle.round_engine.specs.Units.{all_of}
+use Rattle.round_engine.specs.Shown.{standing, all_from, GoesOn}
 use Rattle.round_engine.proofs.rounds.show_rounds.Given as goal
 
 -- the run goes on with the rounds that are left
@@ -13,11 +12,11 @@ invariant-loop-number g l =
     let C = g.C.Children in
     record {
       later : C.faults l.fn.children ≤ C.faults l.children;
-      starts : C.starts l.children ≡ C.starts l.fn.children;
-      live : C.live l.children ≡ C.live l.fn.children;
-      attends : Told C.tells (Attends l.child (C.says l.fn.children) (C.says l.children) (C.tried l.fn.children) (C.tried l.children) (C.known l.fn.children) (C.known l.children));
-      goes : Told C.tells (GoesOn l.child (C.says l.fn.children) (C.known l.fn.children) (C.known l.children)
-          (λ before. rounds_from l.processor (C.says l.fn.children before.name before.command) l.pattern rounds_before_last (next_of 1 (files_of l.units)) before.sent (start (files_of l.units)))
-          l.processor l.pattern (64 - l.number) (next_of l.number (shown_roots (files_of l.units) l.entered))
-          (standing (record { initial = files_of l.units; created = files_of l.created }) l.asked l.filer l.messages));
+      starts : (C.state l.children).starts ≡ (C.state l.fn.children).starts;
+      live : (C.state l.children).live ≡ (C.state l.fn.children).live;
+      attends : Told C.tells (Attends l.child (C.state l.fn.children) (C.state l.children));
+      goes : Told C.tells (GoesOn l.child (all_from (C.state l.fn.children).says l.processor l.pattern l.project)
+          l.processor l.pattern (64 - l.number) (next_of l.number (record { table = l.table; names = l.roots }))
+          (standing l.asked l.filer l.messages)
+          (C.state l.fn.children) (C.state l.children));
     }

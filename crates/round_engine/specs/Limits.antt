@@ -1,0 +1,20 @@
+-- The limits of a build. A quantity that passes one is refused.
+use Rattle.std.specs.Prelude.{ℕ}
+use Rattle.apt_base.specs.declared.kinds.What.{What}
+use Rattle.apt_base.specs.declared.kinds.What.TheVariants as what
+
+abbrev pub limit_of : What → ℕ
+limit_of what.Files = 20000
+limit_of what.FileBytes = 8388608
+limit_of what.SourceBytes = 67108864
+limit_of what.StubBytes = 16777216
+limit_of what.ConfigBytes = 1048576
+limit_of what.Processors = 64
+limit_of what.Types = 50000
+limit_of what.Name = 1024
+limit_of what.Children = 65535
+limit_of what.Depth = 200
+limit_of what.Frame = 134217728
+limit_of what.Record = 1073741824
+limit_of what.Script = 67108864
+limit_of what.Rounds = 64
