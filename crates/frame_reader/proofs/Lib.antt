@@ -1,0 +1,12 @@
+pub mod Forgetting
+pub mod Gathering
+pub mod Forming
+pub mod Tables
+pub mod Lists
+pub mod Begins
+pub mod TextSets
+pub mod Sizes
+pub mod Stepping
+pub mod Following
+pub mod Staging
+pub mod Scanning

@@ -1,0 +1,21 @@
+//! Finds frames in a stream of bytes that comes in pieces, and never reads a frame again from its beginning.
+//!
+//! `specs/Nodes` says which form of the grammar each node of the tables is, and `specs/Rests` what is still to come of a frame's fields, as the reading of the bytes from here on. `specs/Steps` has what the first byte of a node leaves to come, and `specs/Follows` what one byte does to what is kept.
+//!
+//! Not promised: what the fields of a frame are worth.
+#![tactic(auto)]
+
+mod beginning;
+mod fields;
+mod found;
+mod node;
+mod scanner;
+mod stack;
+mod stage;
+mod task;
+mod texts;
+
+pub use found::{Found, Interrupted};
+pub use node::{BOUNDS, Item, ListRule, MIRRORS, Node, TAGS, VALUES};
+pub use scanner::FrameScanner;
+pub use task::{Begun, Gather, Taken, Task, TextList, TextRule, Then};
