@@ -1,0 +1,6 @@
+mod AskedLaws
+mod FirstPlaces
+mod KindLaws
+mod LineLaws
+mod NameLaws
+mod TurnLaws

@@ -1,0 +1,6 @@
+use Rattle.std.proofs.Common.{◌≡◌, ◌++◌, map, string_bytes}
+use Rattle.processor_claims.proofs.services.Names.into_list.Given as goal
+
+-- the names so far, and those to come
+abbrev pub invariant-loop-name : goal.invariant-loop-name
+invariant-loop-name l = l.names ++ map string_bytes l.name-iterator ≡ l.fn.self
