@@ -1,0 +1,10 @@
+use Rattle.std.proofs.Common.{◌≡◌, length}
+use Rattle.decl_parser.specs.Form.{many, turned}
+use Rattle.decl_parser.specs.Grammar.{silently, reads, semicolon}
+use Rattle.decl_parser.proofs.info.semicolons_of.Given as goal
+
+abbrev pub invariant-row : goal.invariant-row
+invariant-row l = turned silently (reads l.room (many semicolon) l.rest) ≡ turned silently (reads l.room (many semicolon) l.fn.symbols)
+
+abbrev pub decreases-row : goal.decreases-row
+decreases-row l = length l.rest

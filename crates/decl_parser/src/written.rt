@@ -1,0 +1,79 @@
+// What the parts of a declaration mean, before the declaration is whole: values of the grammar.
+use apt_base::{List, Name};
+use decl_tree::{AnnotationText, Around, Member, Param, TypeKind, TypeParam, TypeText, ValueText};
+
+/// Modifiers as they are written: a bit each, as in `TypeDecl`, and the annotations among them.
+#[derive(Drop)]
+pub struct Modifiers {
+    pub bits: u16,
+    pub annotations: List<AnnotationText>,
+}
+
+/// Parameters as they are written, and whether the last one takes any number of arguments.
+#[derive(Drop)]
+pub struct Params {
+    pub params: List<Param>,
+    pub varargs: bool,
+}
+
+/// What stands behind the name of a method or of a constructor.
+#[derive(Drop)]
+pub struct Signature {
+    pub params: Params,
+    /// The brackets behind the parameters.
+    pub dims: List<Around>,
+    pub thrown: List<TypeText>,
+    pub default: Option<ValueText>,
+}
+
+/// A name with the brackets behind it.
+#[derive(Drop)]
+pub struct Declarator {
+    pub name: Name,
+    pub dims: List<Around>,
+}
+
+/// A type without its modifiers and its doc comment.
+#[derive(Drop)]
+pub struct TypeRest {
+    pub kind: TypeKind,
+    pub name: Name,
+    pub parameters: List<TypeParam>,
+    pub superclass: Option<TypeText>,
+    pub interfaces: List<TypeText>,
+    pub members: List<Member>,
+}
+
+/// A member without its modifiers and its doc comment.
+#[derive(Drop)]
+pub enum Unmodified {
+    /// A `;` or an initialiser (JLS 8.6, 8.7).
+    Nothing,
+    /// Fields of one declaration (JLS 8.3).
+    Fields(TypeText, List<Declarator>),
+    Method(List<TypeParam>, TypeText, Name, Signature),
+    Constructor(List<TypeParam>, Signature),
+    Nested(TypeRest),
+}
+
+/// What ends a parameter, behind its type and the brackets there (JLS 8.4.1).
+#[derive(Drop)]
+pub enum ParamEnd {
+    /// Its name, and the brackets behind it.
+    Named(Name, List<Around>),
+    /// `...` and its name: it takes any number of arguments.
+    AnyNumber(Name),
+    /// `this`, with a name and a `.` before it or without: the receiver, which is no parameter (JLS 8.4).
+    Receiver,
+}
+
+/// What may stand behind the type and the name of a member.
+#[derive(Clone, Copy, PartialEq, Eq)]
+pub enum MemberRest {
+    /// The rest of a method or of fields.
+    Any,
+    /// The rest of a method.
+    Method,
+    /// The rest of an element of an annotation interface or of fields.
+    Element,
+}
