@@ -1,9 +1,10 @@
 // The characters of a file with their offsets.
-ghost use Rattle.std.specs.Prelude.{ℕ, List, ◌≡◌, ◌≤◌, ◌<◌, ◌/◌, length, string_bytes, slice_get, IfSome, MatchResult};
+ghost use Rattle.std.specs.Prelude.{ℕ, List, ◌≡◌, ◌≤◌, ◌<◌, ◌/◌, length, string_bytes, slice_get, IfSome, IfOk, MatchResult};
 ghost use Rattle.std.specs.Str.{chars};
 ghost use Rattle.java_tokens.specs.CharsShown.{places_from, Ascend, AreWithin};
 
 use crate::shift::{Shift, shift_at};
+use std::alloc::{AllocError, Global};
 
 /// The characters of a file, each with the offset at which it begins.
 #[derive(Drop)]
@@ -34,6 +35,17 @@ impl Chars {
     {
         let place = place_of(self.text.as_str(), at)?;
         Some(place + shift_at(self.shifts.as_slice(), place))
+    }
+
+    /// Equal characters. It fails only for want of memory.
+    pub fn copy(&self, alloc: Global) -> Result<Chars, AllocError>
+        ensures text { IfOk result (λ chars. string_bytes chars.text ≡ string_bytes self.now.text) }
+        ensures shifts { IfOk result (λ chars. chars.shifts.items ≡ self.now.shifts.items) }
+    {
+        Ok(Chars {
+            text: String::from_str(alloc, self.text.as_str())?,
+            shifts: Vec::from_slice(alloc, self.shifts.as_slice())?,
+        })
     }
 }
 

@@ -1,5 +1,5 @@
 // What is printed on a call of the program, and its exit status.
-ghost use Rattle.std.specs.Prelude.{◌≡◌, IfOk, max, if◌then◌else◌};
+ghost use Rattle.std.specs.Prelude.{◌≡◌, IfOk, max, if◌then◌else◌, string_bytes};
 ghost use Rattle.vector_tables.specs.Answers.{Answers, Reports};
 
 use crate::outcome::{outcomes, report, status};
@@ -14,6 +14,19 @@ pub struct Answer {
     pub text: String,
     /// The exit status.
     pub status: u8,
+}
+
+impl Answer {
+    /// An equal answer. It fails only for want of memory.
+    pub fn copy(&self, alloc: Global) -> Result<Answer, AllocError>
+        ensures text { IfOk result (λ answer. string_bytes answer.text ≡ string_bytes self.now.text) }
+        ensures status { IfOk result (λ answer. answer.status ≡ self.now.status) }
+    {
+        Ok(Answer {
+            text: String::from_str(alloc, self.text.as_str())?,
+            status: self.status,
+        })
+    }
 }
 
 // The answer on tables.
