@@ -1,5 +1,5 @@
 pub mod Counted
 pub mod Dotted
-pub mod Fields
+pub mod FieldsLemmas
 pub mod Readers
 pub mod Written

@@ -6,7 +6,7 @@ use Rattle.std.proofs.lemmas.Bool.{ltb-true, lt-ltb, eqb-true}
 use Rattle.std.proofs.lemmas.List.Concat.{flat_map-cons}
 use Rattle.apt_base.specs.Fields.{◌>>=◌, bool_form, is_text, u8_next, u16_next, u32_next, bool_next, text_next}
 use Rattle.apt_base.specs.Forms.{Reader, name_form, u16_form, count_form, list_form, opt_form, is_short, is_name, all_fit, fits_if_some, none_next, then_by, mapped, checked, numbered, tagged, opt_next, items_next, list_next}
-use Rattle.apt_base.proofs.Fields.{IsBytes, IsBytes-rest, bind_some, some_is, u8_next-again, u8_next-spelled, u16_next-again, u16_next-spelled, u32_next-again, u32_next-spelled, bool_next-again, bool_next-spelled, text_next-again, text_next-spelled}
+use Rattle.apt_base.proofs.FieldsLemmas.{IsBytes, IsBytes-rest, bind_some, some_is, u8_next-again, u8_next-spelled, u16_next-again, u16_next-spelled, u32_next-again, u32_next-spelled, bool_next-again, bool_next-spelled, text_next-again, text_next-spelled}
 
 -- ---- tests
 

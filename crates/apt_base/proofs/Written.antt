@@ -6,7 +6,3 @@ use Rattle.std.specs.Prelude.{OnOk}
 pub written : {E : Type 0} (r : Result (Unit {0}) E) (old mid new f g whole : List ℕ) → mid ≡ old ++ f → whole ≡ f ++ g → OnOk r (new ≡ mid ++ g) → OnOk r (new ≡ old ++ whole)
 written (Ok u) old mid new f g whole m w h = h ∙ ap (λ (t : List ℕ). t ++ g) m ∙ append_assoc old f g ∙ ap (λ (t : List ℕ). old ++ t) (sym w)
 written (Err e) old mid new f g whole m w h = tt
-
--- f was written before, and g after it
-pub then_wrote : (old mid new f g : List ℕ) → mid ≡ old ++ f → new ≡ mid ++ g → new ≡ old ++ (f ++ g)
-then_wrote old mid new f g m n = n ∙ ap (λ (t : List ℕ). t ++ g) m ∙ append_assoc old f g

@@ -34,7 +34,7 @@ text_form text = bytes_form text
 abbrev pub is_text : List ℕ → Bool
 is_text bytes = is_utf8 bytes
 
--- so many bytes from the front
+-- this many bytes from the front
 abbrev pub front_next : ℕ → List ℕ → Option (List ℕ × List ℕ)
 front_next count bytes = if nat_lt (length bytes) count then None else Some (take count bytes, drop count bytes)
 

@@ -90,7 +90,7 @@ opt_next next bytes = do
   is_there ← bool_next bytes
   if is_there.0 then mapped Some next is_there.1 else Some (None, is_there.1)
 
--- so many values
+-- this many values
 unfoldable pub items_next : {A : Type 0} → Reader A → ℕ → Reader (List A)
 items_next next zero bytes = Some ([], bytes)
 items_next next (suc n) bytes = do

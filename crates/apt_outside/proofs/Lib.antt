@@ -3,4 +3,4 @@ pub mod PlanLemmas
 pub mod Window
 pub mod Live
 pub mod ChildLemmas
-pub mod JoinedLemmas
+pub mod Joined

@@ -18,13 +18,3 @@ module _ (plan : Plan) (calls before : ℕ) (is : calls ≡ next_call plan) wher
         counted = sym (ap (λ b. cond b (min (before + 1) (2 ^ 64 - 1)) before) none);
         next = ap (λ n. Some (record { numbers = plan.numbers; calls = n })) is;
       }
-
-  -- a planned call fails, and is counted
-  pub follows_err : (now : ℕ) → now ≡ min (before + 1) (2 ^ 64 - 1) → list_any (λ k. k == calls) plan.numbers ≡ true → Follows {T = Unit {0}} plan (Some (record { numbers = plan.numbers; calls = calls })) before now (Err Failed)
-  follows_err now rose tested =
-      let some : fails_next plan ≡ true = told true tested in
-      record {
-        failed = ((λ e. some), (λ t. refl));
-        counted = rose ∙ sym (ap (λ b. cond b (min (before + 1) (2 ^ 64 - 1)) before) some);
-        next = ap (λ n. Some (record { numbers = plan.numbers; calls = n })) is;
-      }

@@ -19,7 +19,7 @@ use Rattle.decl_syntax.specs.declared.unit_reading.TypeHeading.{TypeHeading}
 use Rattle.decl_syntax.specs.declared.unit_reading.TypeHead.{TypeHead}
 use Rattle.decl_tree.specs.declared.compilation.Body.{Body}
 use Rattle.decl_tree.specs.declared.compilation.Body.TheVariants.{Declared, Info}
-use Rattle.decl_syntax.proofs.Numbers.{kind_back, kind_on, import_back, import_on}
+use Rattle.decl_syntax.proofs.NumbersLemmas.{kind_back, kind_on, import_back, import_on}
 use Rattle.decl_syntax.proofs.Types.{list_form-spelled, Reads-type_next}
 use Rattle.decl_syntax.proofs.Values.{Reads-annotation_next}
 use Rattle.decl_syntax.proofs.Members.{Reads-modifiers, Reads-type_param, Reads-field, Reads-method, Reads-constructor, Reads-constant}

@@ -1,7 +1,7 @@
 pub mod Declarations
 pub mod Legality
 pub mod Members
-pub mod Numbers
+pub mod NumbersLemmas
 pub mod Openings
 pub mod Spelled
 pub mod Types

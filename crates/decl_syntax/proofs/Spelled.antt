@@ -10,7 +10,7 @@ use Rattle.decl_syntax.specs.Reading.{unit_next, whole_unit}
 use Rattle.apt_base.specs.declared.fault.FormFault.{FormFault}
 use Rattle.apt_base.specs.declared.fault.FormFault.TheVariants.{Bad, Memory}
 use Rattle.decl_tree.specs.declared.compilation.UnitText.{UnitText}
-use Rattle.apt_base.proofs.Fields.{IsBytes, bind_some, some_is}
+use Rattle.apt_base.proofs.FieldsLemmas.{IsBytes, bind_some, some_is}
 use Rattle.decl_syntax.proofs.Declarations.{Reads-unit}
 
 ended : {A : Type 0} (b : Bool) (x y : A) → cond b (Some x) None ≡ Some y → (b ≡ true) × (x ≡ y)

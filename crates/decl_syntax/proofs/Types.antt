@@ -3,7 +3,7 @@ use Rattle.std.proofs.Common.{◌≡◌, ℕ, zero, suc, ◌-◌, arith, Bool, t
 use Rattle.std.specs.List.{flat_map}
 use Rattle.apt_base.specs.Fields.{◌>>=◌}
 use Rattle.apt_base.specs.Forms.{Reader, name_form, list_form, opt_form, all_fit, numbered, list_next}
-use Rattle.apt_base.proofs.Fields.{IsBytes, IsBytes-rest, bind_some, some_is}
+use Rattle.apt_base.proofs.FieldsLemmas.{IsBytes, IsBytes-rest, bind_some, some_is}
 use Rattle.apt_base.proofs.Readers.{Reads, Reads-none, Reads-text, Reads-numbered, Spells-variant, and_reads, opt_reads, list_reads, map_reads, same_reads}
 use Rattle.decl_tree.specs.Legal.{part_fits, base_fits, inside_type, is_legal_type}
 use Rattle.decl_tree.specs.declared.type_text.PrimitiveKind.{PrimitiveKind}
@@ -19,7 +19,7 @@ use Rattle.decl_syntax.specs.declared.type_reading.BaseKind.TheVariants as of
 use Rattle.decl_syntax.specs.Numbers.{primitive_number, primitive_of}
 use Rattle.decl_syntax.specs.Shape.{spelled, around_form, base_step, part_step, type_step, base_form, part_form, type_form}
 use Rattle.decl_syntax.specs.Reading.{opening_next, part_of, part_in, base_in, type_with, type_in, inside_next, type_next}
-use Rattle.decl_syntax.proofs.Numbers.{primitive_back, primitive_on}
+use Rattle.decl_syntax.proofs.NumbersLemmas.{primitive_back, primitive_on}
 use Rattle.decl_syntax.proofs.Openings.{kind_form, opening-again, opening-spelled}
 
 -- a list of spellings is spelled as the list of what they spell

@@ -3,7 +3,7 @@ use Rattle.std.specs.Prelude.{ℕ, zero, suc, ◌+◌, Bool, true, false, ◌==�
 use Rattle.apt_base.specs.Fields.{◌>>=◌, u8_next, u16_next, bool_next, text_next}
 use Rattle.apt_base.specs.Forms.{Reader, none_next, then_by, ◌>>◌, mapped, checked, numbered, tagged, opt_next, list_next}
 use Rattle.decl_syntax.specs.Numbers.{primitive_of, kind_of, import_of}
-use Rattle.decl_tree.specs.Legal.{is_modifiers, are_few, children, package_start, depth}
+use Rattle.decl_tree.specs.Legal.{is_modifiers, are_few, children, default_constructors, enum_methods, package_start, depth}
 use Rattle.decl_tree.specs.declared.type_text.Around.{Around}
 use Rattle.decl_tree.specs.declared.type_text.Around.TheVariants as around
 use Rattle.decl_tree.specs.declared.type_text.BaseType.{BaseType}
@@ -285,13 +285,21 @@ unfoldable pub declaration_in : (ℕ → Reader TypeDecl) → ℕ → ℕ → Re
 declaration_in nested room start =
     checked declaration_is_small (mapped declaration_of (then_by (head_next room start) (λ head. list_next (member_in room (nested (members_start start head))))))
 
--- a declaration that is nested in one with so much room
+-- a declaration that is nested in one with this much room
 unfoldable pub inside_declaration_next : ℕ → ℕ → Reader TypeDecl
 inside_declaration_next zero start = none_next
 inside_declaration_next (suc room) start = declaration_in (inside_declaration_next room) room start
 
 unfoldable pub declaration_next : ℕ → ℕ → Reader TypeDecl
 declaration_next room start = declaration_in (inside_declaration_next room) room start
+
+-- the members of a declaration with this much room, whose names begin with this many bytes
+abbrev pub members_next : ℕ → ℕ → Reader (List Member)
+members_next room start = list_next (member_in room (inside_declaration_next room start))
+
+-- how many children a type of this kind has, with this many type parameters and these members, the implicit ones counted
+abbrev pub children_of : TypeKind → ℕ → List Member → ℕ
+children_of kind parameters members = parameters + length members + default_constructors kind members + enum_methods kind
 
 -- ---- units
 

@@ -1,13 +1,13 @@
 // Declarations and units, read from their spelling.
 ghost use Rattle.std.specs.Prelude.{◌≡◌, ◌+◌, ◌≤◌, length, IfOk, Err};
 ghost use Rattle.std.specs.List.{list_any};
-ghost use Rattle.apt_base.specs.Forms.{numbered, list_next};
+ghost use Rattle.apt_base.specs.Forms.{numbered};
 ghost use Rattle.apt_base.specs.Readings.{Gives, GivesAll};
 ghost use Rattle.apt_base.specs.declared.fault.FormFault.TheVariants.{Bad};
 ghost use Rattle.decl_tree.specs.Legal.{are_few, default_constructors, enum_methods, constructs, package_start};
 ghost use Rattle.decl_tree.specs.declared.declaration.Member.{out-Member};
 ghost use Rattle.decl_syntax.specs.Numbers.{kind_of};
-ghost use Rattle.decl_syntax.specs.Reading.{canonical_next, type_heading_next, head_next, member_in, inside_declaration_next, declaration_next, body_next, unit_next, whole_unit};
+ghost use Rattle.decl_syntax.specs.Reading.{canonical_next, type_heading_next, head_next, member_in, inside_declaration_next, declaration_next, members_next, children_of, body_next, unit_next, whole_unit};
 ghost use Rattle.decl_syntax.specs.Shape.{unit_form};
 ghost use Rattle.decl_syntax.specs.Shapes.{IsNoShape};
 
@@ -97,7 +97,7 @@ fn enum_methods(kind: TypeKind) -> usize
 
 // Whether a type may have that number of type parameters and these members, the implicit ones counted.
 fn are_few(kind: TypeKind, parameters: usize, members: &[Member]) -> bool
-    ensures { result ≡ are_few (parameters + length members.now + default_constructors kind members.now + enum_methods kind) }
+    ensures { result ≡ are_few (children_of kind parameters members.now) }
 {
     let constructors = default_constructors(kind, members);
     let methods = enum_methods(kind);
@@ -255,7 +255,7 @@ fn members(
     start: usize,
 ) -> Result<List<Member>, FormFault>
     requires { start ≤ 1025 }
-    ensures { Gives result (list_next (member_in room (inside_declaration_next room start)) reader.old) reader.new }
+    ensures { Gives result (members_next room start reader.old) reader.new }
 {
     let count = read_count(reader)?;
     let mut items = List::new(alloc);

@@ -120,7 +120,7 @@ is_legal_constant room c = is_name c.name && all_fit (is_legal_annotation room) 
 
 -- ---- declarations
 
--- a canonical name of at most 1,024 bytes, of which so many stand before the simple name
+-- a canonical name of at most 1,024 bytes, of which this many stand before the simple name
 abbrev pub is_canonical : ℕ → List ℕ → Bool
 is_canonical start name = is_name name && nat_le (start + length name) 1024
 
@@ -161,7 +161,7 @@ declaration_fits nested room start d =
     && all_fit (λ m. member_fits room (nested (start + length d.name + 1)) (out-Member m)) d.members
     && are_few (children d)
 
--- a declaration that is nested in one with so much room
+-- a declaration that is nested in one with this much room
 unfoldable pub inside_declaration : ℕ → ℕ → TypeDecl → Bool
 inside_declaration zero start d = false
 inside_declaration (suc room) start d = declaration_fits (inside_declaration room) room start d

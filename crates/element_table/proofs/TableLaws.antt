@@ -178,19 +178,7 @@ module _ (table : TypeTable) (unit : UnitText) (free : has_unit table (unit_name
     few = subst (λ n. n ≤ most_types) (sym (table_types-entered Stub)) few;
   }
 
-  -- a name is looked up among the new unit and those that were there
-  pub unit_of-entered : (part : Part) (q : List ℕ) → unit_of (entered part unit table) q ≡ cond (bytes_eq q name) (Some unit) (unit_of table q)
-  unit_of-entered Source q =
-      ap (λ o. option_or o (fin.get table.stub q)) (get-more table.source name unit q)
-      ∙ elim (bytes_eq q name) as (λ b. option_or (cond b (Some unit) (fin.get table.source q)) (fin.get table.stub q) ≡ cond b (Some unit) (unit_of table q)) [ true ↦ refl | false ↦ refl ]
-  unit_of-entered Stub q =
-      ap (option_or (fin.get table.source q)) (get-more table.stub name unit q)
-      ∙ elim (bytes_eq q name) as (λ b. bytes_eq q name ≡ b → option_or (fin.get table.source q) (cond b (Some unit) (fin.get table.stub q)) ≡ cond b (Some unit) (unit_of table q)) [
-        | true ↦ λ e. ap (λ o. option_or o (Some unit)) (ap (fin.get table.source) ((bytes_eq-Decides q name).0 e) ∙ none _ no_source)
-        | false ↦ λ e. refl
-      ] refl
-
--- a unit that may be entered makes a table again, of so many types
+-- a unit that may be entered makes a table again, of this many types
 module _ (table : TypeTable) (unit : UnitText) (types : ℕ) (is : IsTable table) (new : answer_to table unit ≡ IsNew types) where
   grown : (part : Part) → IsTableOf types (entered part unit table)
   grown part =

@@ -48,10 +48,6 @@ module _ {X : Type 0} where
   pub get-shown : (m : BTreeMap (String Global) X) (q : List ℕ) → fin.get (shown m) q ≡ get_by_text m q
   get-shown m q = get-from_entries nat_list_cmp_total (map shown_entry m.entries) q ∙ find_shown m.entries q
 
-  -- the same, with the look-up of a call
-  pub get-found : (m : BTreeMap (String Global) X) (q : List ℕ) (found : Option X) → found ≡ get_by_text m q → found ≡ fin.get (shown m) q
-  get-found m q found e = e ∙ sym (get-shown m q)
-
   -- after an insertion
   pub shown-insert : (m n : BTreeMap (String Global) X) (name : List ℕ) (v : X) → UpdatesBy string_cmp (λ k. slice_cmp nat_cmp name (string_bytes k)) m n (Some v) → shown n ≡ fin.insert (shown m) name v
   shown-insert m n name v u = same_shown _ _ (λ q.

@@ -63,7 +63,7 @@ table_types table = types_in table.source + types_in table.stub
 abbrev pub most_types : ℕ
 most_types = 50000
 
--- so many types, unless they are too many
+-- this many types, unless they are too many
 abbrev pub up_to_most : ℕ → Option ℕ
 up_to_most types = if nat_le types most_types then Some types else None
 
@@ -127,6 +127,6 @@ pub record IsTable (table : TypeTable) : Type 0 where
   pub stubs_named : IsNamed table.stub
   pub few : table_types table ≤ most_types
 
--- a table of so many types
+-- a table of this many types
 abbrev pub IsTableOf : ℕ → TypeTable → Type 0
 IsTableOf types table = IsTable table × (types ≡ table_types table)

@@ -3,7 +3,7 @@
 /// Whether a unit may be entered into a table.
 #[derive(Clone, Copy)]
 pub(crate) enum Answer {
-    /// It may, and the table then has so many types.
+    /// It may, and the table then has this many types.
     IsNew(usize),
     /// Its name is in the table already.
     IsDuplicate,

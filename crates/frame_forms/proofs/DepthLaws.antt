@@ -1,4 +1,4 @@
--- A value fits with so much room exactly where it fits with some, and is nested at most so deep: one induction over forms.
+-- A value fits with this much room exactly where it fits with some, and is nested at most so deep: one induction over forms.
 use Rattle.std.proofs.Common.{◌≡◌, ℕ, zero, suc, ◌+◌, ◌≤◌, max, List, [], ◌∷◌, length, map, Option, Some, None, refl, sym, ap, ◌∙◌, arith}
 use Rattle.apt_base.specs.declared.element.ElementRef.{ElementRef}
 use Rattle.type_mirror.specs.declared.mirror.Around.{Around}

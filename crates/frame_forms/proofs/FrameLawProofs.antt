@@ -1,7 +1,7 @@
 -- The laws of frames, from those of the forms.
 use Rattle.std.proofs.Common.{◌≡◌, ◌⊎◌, inl, inr, ℕ, ◌+◌, ◌-◌, ◌≤◌, List, [], ◌∷◌, ◌++◌, length, take, drop, Some, refl, sym, ap, ◌∙◌, append_assoc, append-nil, arith}
 use Rattle.std.proofs.lemmas.List.{take_at, drop_at, take-append-drop, length-append}
-use Rattle.apt_base.proofs.Fields.{some_is}
+use Rattle.apt_base.proofs.FieldsLemmas.{some_is}
 use Rattle.frame_forms.specs.declared.bad_kind.BadKind.{BadKind}
 use Rattle.frame_forms.specs.Scans.{Scan, whole, begun, bad}
 use Rattle.frame_forms.specs.ScanLaws.{Takes, Stops, Steady, Meets}

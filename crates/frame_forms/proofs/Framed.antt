@@ -5,7 +5,7 @@ use Rattle.std.proofs.lemmas.Bool.{cases_lt, ltb-false, le-ltb, eqb-true, eq-eqb
 use Rattle.std.proofs.lemmas.List.{take_at, drop_at, take-append-drop, length-append, length-take}
 use Rattle.std.proofs.lemmas.Nat.{from_be_bytes-to_be_bytes_4}
 use Rattle.apt_base.specs.Fields.{bytes_form}
-use Rattle.apt_base.proofs.Fields.{IsBytes-front, IsBytes-rest}
+use Rattle.apt_base.proofs.FieldsLemmas.{IsBytes-front, IsBytes-rest}
 use Rattle.frame_forms.specs.declared.bad_kind.BadKind.{BadKind}
 use Rattle.frame_forms.specs.declared.bad_kind.BadKind.TheVariants as kinds
 use Rattle.frame_forms.specs.Scans.{Scan, whole, begun, bad, and_then}
@@ -136,7 +136,7 @@ module _ {A : Type 0} (s : List ℕ → Scan A) where
       let some : count ≢ 0 = λ zero_is. absurd (false≢true (sym two.0 ∙ eq-eqb count 0 zero_is)) in
       (omega (arith, some), ltb-false most_fields count two.1)
 
-  -- the first frame takes the length and so many bytes
+  -- the first frame takes the length and that many bytes
   framed_takes : (bytes : List ℕ) (a : A) (rest : List ℕ) → Steady s → framed s bytes ≡ whole a rest → FrameCase bytes → Takes (framed s) bytes a rest
   framed_takes bytes a rest steady e (no_length lt) = absurd (begun_not_whole a rest (sym e ∙ framed-short bytes lt))
   framed_takes bytes a rest steady e (out_of_range head tail count split is out) =

@@ -6,7 +6,7 @@ use Rattle.std.proofs.lemmas.Bool.{cases_lt, le-ltb}
 use Rattle.std.proofs.lemmas.List.{take-append-drop, length-append, length-take, get_or_append_left, get_or-append-add}
 use Rattle.std.proofs.lemmas.Nat.{be_bytes_2}
 use Rattle.apt_base.specs.Fields.{i64_form, bytes_form}
-use Rattle.apt_base.proofs.Fields.{IsBytes-front, IsBytes-rest}
+use Rattle.apt_base.proofs.FieldsLemmas.{IsBytes-front, IsBytes-rest}
 use Rattle.frame_forms.specs.declared.bad_kind.BadKind.{BadKind}
 use Rattle.frame_forms.specs.declared.bad_kind.BadKind.TheVariants as kinds
 use Rattle.frame_forms.specs.Scans.{Scan, whole, begun, bad, and_then, mapped, front_scan, number_scan, named, byte_scan, judged, run_scan, opt_scan, items_scan}
@@ -273,7 +273,7 @@ module _ {A : Type 0} (item : List ℕ → Scan A) (fits : A → Type 0) (f : A 
   Loosely-opt = record { reads = Spells-opt item fits f one.reads; goes = opt_goes; some = (None, tt) }
 
 module _ {A : Type 0} (item : List A → List ℕ → Scan A) (fits : List A → A → Type 0) (f : List A → A → List ℕ) (each : (before : List A) → Loosely (item before) (fits before) (f before)) where
-  -- so many items that fit
+  -- this many items that fit
   record Filled (before : List A) (count : ℕ) : Type 0 where
     items : List A
     fit : EachFits fits before items

@@ -10,4 +10,4 @@ pub mod FormsGo
 pub mod DepthLaws
 pub mod BadByteRules
 pub mod FieldRuleProofs
-pub mod Examples
+pub mod ExamplesLemmas

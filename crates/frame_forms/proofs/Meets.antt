@@ -6,7 +6,7 @@ use Rattle.std.proofs.lemmas.Int.{to_z-of_z, of_z-to_z}
 use Rattle.std.proofs.lemmas.Nat.{be_bytes_2, be_bytes_4, be_bytes_8, from_be_bytes-to_be_bytes_2, from_be_bytes-to_be_bytes_4, from_be_bytes-to_be_bytes_8}
 use Rattle.std.proofs.Math.Facts.{Fits-of_z, sfits_to_z}
 use Rattle.apt_base.specs.Fields.{i64_form, bytes_form}
-use Rattle.apt_base.proofs.Fields.{IsBytes-front, IsBytes-rest}
+use Rattle.apt_base.proofs.FieldsLemmas.{IsBytes-front, IsBytes-rest}
 use Rattle.frame_forms.specs.declared.bad_kind.BadKind.{BadKind}
 use Rattle.frame_forms.specs.declared.bad_kind.BadKind.TheVariants as kinds
 use Rattle.frame_forms.specs.Scans.{Scan, whole, begun, bad, and_then, mapped, number_scan, named, byte_scan, judged, run_scan, opt_scan, items_scan}

@@ -111,7 +111,7 @@ module _ {A B : Type 0} (make : A → B) (s : List ℕ → Scan A) (first : Stea
     stops = λ bytes rest kind h. made-stops bytes (s bytes) refl rest kind h;
   }
 
--- ---- so many bytes, and numbers
+-- ---- this many bytes, and numbers
 
 pub front_scan-again : (count : ℕ) (front rest : List ℕ) → length front ≡ count → front_scan count (front ++ rest) ≡ whole front rest
 front_scan-again count front rest len =

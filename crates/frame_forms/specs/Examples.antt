@@ -40,7 +40,7 @@ rest_of (whole fields rest) = Some rest
 rest_of begun = None
 rest_of (bad rest kind) = None
 
--- the erasure of an array of int of so many dimensions: the question 6a, and 04 for each dimension
+-- the erasure of an array of int of this many dimensions: the question 6a, and 04 for each dimension
 abbrev pub array_of_int : ℕ → List ℕ
 array_of_int dimensions = 0x6a ∷ (replicate dimensions 0x04 ++ 0x00 ∷ 0x03 ∷ [])
 

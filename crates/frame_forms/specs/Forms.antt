@@ -86,7 +86,7 @@ pub data Form : Code → Type 0 where
   byte : (s : Sort) → BadKind → Numbering (One s) → Form (one s)
   u16 u32 : Form number
   i64 : Form integer
-  -- a length of four bytes and so many bytes, of which the last one is bad where they have a fault
+  -- a length of four bytes and that many bytes, of which the last one is bad where they have a fault
   run : (List ℕ → Option BadKind) → Form octets
   -- a value of the first form with one of the second behind it
   both : {c d : Code} → Form c → Form d → Form (pair c d)
@@ -94,7 +94,7 @@ pub data Form : Code → Type 0 where
   choice : (s : Sort) → BadKind → Numbering (One s) → (of : One s → Code) → ((x : One s) → Form (of x)) → Form (chosen s of)
   -- 0, or 1 and a value
   opt : {c : Code} → Form c → Form (maybe c)
-  -- a count of four bytes and so many items; the form of an item may depend on those before it, of which the last one comes first
+  -- a count of four bytes and that many items; the form of an item may depend on those before it, of which the last one comes first
   list : {c : Code} → (List (El c) → Form c) → Form (many c)
   part : {c : Code} → Part c → Form c
   -- the same bytes, for the value that is made of theirs

@@ -1,4 +1,4 @@
--- What a frame is: its one spelling, and what stands at the front of bytes. A frame is a length of four bytes, from 1 to 134,217,724, and so many bytes: a tag of one byte and the tag's fields, which fill the length.
+-- What a frame is: its one spelling, and what stands at the front of bytes. A frame is a length of four bytes, from 1 to 134,217,724, and that many bytes: a tag of one byte and the tag's fields, which fill the length.
 use Rattle.std.specs.Prelude.{ℕ, zero, suc, ◌-◌, ◌≤◌, Bool, ◌||◌, ◌==◌, nat_lt, List, [], ◌∷◌, ◌++◌, length, take, drop, Option, Some, None, if◌then◌else◌}
 use Rattle.std.specs.Int.{w32}
 use Rattle.apt_base.specs.Fields.{bytes_form}
@@ -68,7 +68,7 @@ is_out_of_range count = count == 0 || nat_lt most_fields count
 abbrev pub framed_behind : {A : Type 0} → (List ℕ → Scan A) → List ℕ → ℕ → List ℕ → Scan A
 framed_behind fields bytes count rest = if is_out_of_range count then bad (drop 3 bytes) kinds.Length else closed count (take count rest) (drop count rest) (fields (take count rest))
 
--- a length, and so many bytes with the tag and the fields
+-- a length, and that many bytes with the tag and the fields
 unfoldable pub framed : {A : Type 0} → (List ℕ → Scan A) → List ℕ → Scan A
 framed fields bytes = and_then (number_scan w32 bytes) (framed_behind fields bytes)
 

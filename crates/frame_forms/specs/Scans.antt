@@ -24,7 +24,7 @@ mapped make (bad rest kind) = bad rest kind
 
 -- ---- bytes and numbers
 
--- so many bytes, whatever they are
+-- this many bytes, whatever they are
 abbrev pub front_scan : ℕ → List ℕ → Scan (List ℕ)
 front_scan count bytes = if nat_lt (length bytes) count then begun else whole (take count bytes) (drop count bytes)
 
@@ -47,7 +47,7 @@ abbrev pub judged : Option BadKind → List ℕ → List ℕ → List ℕ → Sc
 judged None run rest last = whole run rest
 judged (Some kind) run rest last = bad last kind
 
--- a length of four bytes, and so many bytes; the last byte of an empty run is that of its length
+-- a length of four bytes, and that many bytes; the last byte of an empty run is that of its length
 unfoldable pub run_scan : (List ℕ → Option BadKind) → List ℕ → Scan (List ℕ)
 run_scan fault bytes = and_then (number_scan w32 bytes) (λ count rest. and_then (front_scan count rest) (λ run behind. judged (fault run) run behind (drop (count + 3) bytes)))
 
@@ -57,7 +57,7 @@ abbrev pub opt_scan : {A : Type 0} → (List ℕ → Scan A) → Bool → List �
 opt_scan item false bytes = whole None bytes
 opt_scan item true bytes = mapped Some (item bytes)
 
--- so many items; the form of an item may depend on those before it, of which the last one comes first
+-- this many items; the form of an item may depend on those before it, of which the last one comes first
 unfoldable pub items_scan : {A : Type 0} → (List A → List ℕ → Scan A) → List A → ℕ → List ℕ → Scan (List A)
 items_scan item before zero bytes = whole [] bytes
 items_scan item before (suc count) bytes = and_then (item before bytes) (λ first rest. mapped (λ others. first ∷ others) (items_scan item (first ∷ before) count rest))

@@ -5,7 +5,7 @@ use Rattle.std.specs.Prelude.{◌≡◌, ◌⊎◌, ℕ, ◌+◌, ◌-◌, ◌*�
 use Rattle.std.specs.Char.{IsScalar}
 use Rattle.java_tokens.specs.Escapes.{IsEscape}
 
--- where so many `\` stand directly before, what follows begins an escape
+-- where this many `\` stand directly before, what follows begins an escape
 pub record BeginsEscape (slashes : ℕ) (rest : List ℕ) : Type 0 where
   pub even : slashes % 2 ≡ 0
   pub after : List ℕ
@@ -21,7 +21,7 @@ IsLow value = (0xDC00 ≤ value) × (value < 0xE000)
 abbrev pub joined : ℕ → ℕ → ℕ
 joined high low = 0x1_0000 + (high - 0xD800) * 0x400 + (low - 0xDC00)
 
--- how a character is spelled, where so many `\` stand directly before and `after` follows
+-- how a character is spelled, where this many `\` stand directly before and `after` follows
 pub data Spells (slashes : ℕ) (spelling after : List ℕ) (code : ℕ) : Type 0 where
   -- in UTF-8, where no escape begins
   raw : IsScalar code → spelling ≡ encode_utf8 code → ¬ BeginsEscape slashes (spelling ++ after) → Spells slashes spelling after code
@@ -50,7 +50,7 @@ slashes_after slashes spelling = if bytes_eq spelling (92 ∷ []) then slashes +
 abbrev pub Placed : Type 0
 Placed = ℕ × ℕ
 
--- a part of a file spells these characters, the first at an offset; so many `\` stand directly before it and before what follows
+-- a part of a file spells these characters, the first at an offset; this many `\` stand directly before it and before what follows
 abbrev pub Spelled : ℕ → ℕ → List ℕ → List Placed → List ℕ → ℕ → Type 0
 Spelled slashes offset text [] rest slashes' = (text ≡ rest) × (slashes ≡ slashes')
 Spelled slashes offset text (c ∷ cs) rest slashes' = (c.1 ≡ offset) × ((spelling : List ℕ) × (after : List ℕ) × (text ≡ spelling ++ after) × Spells slashes spelling after c.0 × Spelled (slashes_after slashes spelling) (offset + length spelling) after cs rest slashes')

@@ -1,5 +1,5 @@
 -- The sorts of characters that the lexical grammar tells apart, and each character's sort.
--- The letters that numerals use have sorts of their own. `word_starts_are` and `word_parts_are` of `proofs/IdentLemmas`
+-- The letters that numerals use have sorts of their own. `word_starts_are` and `word_parts_are` of `proofs/Identifiers`
 -- show that the sorts of words are those of the Unicode classes.
 use Rattle.std.specs.Prelude.{ℕ, List, [], ◌∷◌, codes, if◌then◌else◌}
 use Rattle.unicode_ident.specs.Ident.{is_xid_start, is_xid_continue}

@@ -70,7 +70,7 @@ abbrev pub is_text_block : Option TokenKind → Bool
 is_text_block (Some TextBlock) = true
 is_text_block kind = false
 
--- how many bytes spell so many characters
+-- how many bytes spell this many characters
 abbrev pub bytes_of : List ℕ → ℕ → ℕ
 bytes_of cs n = length (encode_utf8_all (take n cs))
 
@@ -85,7 +85,7 @@ pub record IsLongest (cs : List ℕ) (n m class : ℕ) : Type 0 where
 pub record IsUnknown (cs : List ℕ) (n : ℕ) : Type 0 where
   pub none : (j : ℕ) → j ≤ n → class_of (take j cs) ≡ 7
 
--- the longest front that the table knows is spelled by so many bytes
+-- the longest front that the table knows is spelled by this many bytes
 abbrev pub IsFound : List ℕ → ℕ → ℕ → ℕ → Type 0
 IsFound cs n width class = (m : ℕ) × IsLongest cs n m class × (width ≡ bytes_of cs m)
 
@@ -105,7 +105,7 @@ pub record IsOperatorFront (bytes : List ℕ) (width number : ℕ) : Type 0 wher
 pub record HasNoOperator (bytes : List ℕ) : Type 0 where
   pub none : (j : ℕ) → j ≤ length bytes → number_of operator_rows (take j bytes) ≡ None
 
--- the longest of the fronts of at most so many characters that is a token or separator
+-- the longest of the fronts of at most this many characters that is a token or separator
 pub record IsBest (cs : List ℕ) (n m : ℕ) (k : Option TokenKind) : Type 0 where
   pub within : m ≤ n
   pub found : kind_of (take m cs) ≡ Some k
@@ -115,7 +115,7 @@ pub record IsBest (cs : List ℕ) (n m : ℕ) (k : Option TokenKind) : Type 0 wh
 pub record HasNone (cs : List ℕ) (n : ℕ) : Type 0 where
   pub none : (j : ℕ) → j ≤ n → kind_of (take j cs) ≡ None
 
--- the longest front is spelled by so many bytes
+-- the longest front is spelled by this many bytes
 abbrev pub IsBestFront : List ℕ → ℕ → Option TokenKind → Type 0
 IsBestFront cs width kind = (m : ℕ) × IsBest cs (length cs) m kind × (width ≡ bytes_of cs m)
 
@@ -127,7 +127,7 @@ IsBestIn text width kind = IsBestFront (chars text) width kind
 abbrev pub HasNoFront : List ℕ → Type 0
 HasNoFront text = HasNone (chars text) (length (chars text))
 
--- the token or separator at the front is spelled by so many bytes
+-- the token or separator at the front is spelled by this many bytes
 abbrev pub IsFront : List ℕ → ℕ → Option TokenKind → Type 0
 IsFront cs width kind = (front rest : List ℕ) × IsNext cs front rest kind × (width ≡ length (encode_utf8_all front))
 

@@ -61,7 +61,7 @@ IsEnd rest = (rest ≡ []) ⊎ (rest ≡ 26 ∷ [])
 abbrev pub AreElements : List ℕ → List Element → Type 0
 AreElements text es = (rest : List ℕ) × Reads text es rest × IsEnd rest
 
--- behind so many characters neither the text ends nor a token or separator begins
+-- behind this many characters neither the text ends nor a token or separator begins
 abbrev pub IsStop : List ℕ → ℕ → Type 0
 IsStop text place = (es : List Element) × (rest : List ℕ) × Reads text es rest × ¬ IsEnd rest × HasNoNext rest × (place + length rest ≡ length text)
 
@@ -79,7 +79,7 @@ abbrev pub line_ends : Bool → List ℕ → ℕ
 line_ends after_return [] = 0
 line_ends after_return (c ∷ cs) = (if ends_line after_return c then 1 else 0) + line_ends (c == 13) cs
 
--- the line of the character behind so many, counted from 1
+-- the line of the character behind this many, counted from 1
 abbrev pub line_at : List ℕ → ℕ → ℕ
 line_at text before = 1 + line_ends false (take before text)
 

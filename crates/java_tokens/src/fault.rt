@@ -12,7 +12,7 @@ pub enum TextFault {
         /// The offset in the file, counted from 0.
         place: u32,
     },
-    /// No room was found.
+    /// Memory ran out.
     Memory,
 }
 

@@ -46,7 +46,7 @@ pub fn formed<T: Hold>(alloc: Global, forms: &[&str], inner: T) -> Result<T, Cas
     Ok(value)
 }
 
-/// The value in so many of that form.
+/// The value in this many of that form.
 pub fn nested<T: Hold>(alloc: Global, form: &str, count: u32, inner: T) -> Result<T, CaseFault> {
     let mut value = inner;
     for _ in 0..count {

@@ -8,8 +8,8 @@
 //! | `value VALUE` | the same of a value |
 //! | `annotation MIRROR VALUES` | the same of an annotation of that type with these named values |
 //! | `substitute REPLACEMENTS MIRROR` | the mirror with each of these variables replaced, or `not distinct` |
-//! | `nested FORM NUMBER` | how deep these are nested: the variable `p.C:0` in so many mirrors of that form, each inside the one before; its copy; and the same with an array of `int` in the place of the variable |
-//! | `nested_values FORM NUMBER` | how deep a truth in so many values of that form is nested, and its copy |
+//! | `nested FORM NUMBER` | how deep these are nested: the variable `p.C:0` in this many mirrors of that form, each inside the one before; its copy; and the same with an array of `int` in the place of the variable |
+//! | `nested_values FORM NUMBER` | how deep a truth in this many values of that form is nested, and its copy |
 //!
 //! A mirror of one word is a base, behind the forms that hold it, each of which a `/` follows. The bases are `Boolean`, `Byte`, `Short`,
 //! `Int`, `Long`, `Char`, `Float`, `Double`, `Error=TEXT`, `Variable=ELEMENT`, `Raw=ELEMENT` (a class or interface type without arguments),

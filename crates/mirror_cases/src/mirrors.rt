@@ -258,7 +258,7 @@ pub fn mirror_of(alloc: Global, words: &[&str]) -> Result<Mirror, CaseFault> {
     }
 }
 
-/// A variable in so many mirrors of that form.
+/// A variable in this many mirrors of that form.
 pub fn nested_variable(alloc: Global, form: &str, count: u32) -> Result<Mirror, CaseFault> {
     nested(alloc, form, count, mirror(alloc, "Variable=p.C:0")?)
 }

@@ -165,7 +165,7 @@ pub fn value_of(alloc: Global, words: &[&str]) -> Result<Value, CaseFault> {
     }
 }
 
-/// A truth in so many values of that form.
+/// A truth in this many values of that form.
 pub fn nested_truth(alloc: Global, form: &str, count: u32) -> Result<Value, CaseFault> {
     nested(alloc, form, count, Value::Truth(true))
 }

@@ -9,7 +9,7 @@ use Rattle.std.proofs.lemmas.List.{length-append, take_at, drop_at, take-append-
 use Rattle.std.proofs.lemmas.Slice.Eq.{bytes_eq-Decides, starts_is}
 use Rattle.apt_base.specs.Fields.{◌>>=◌}
 use Rattle.apt_base.specs.declared.memory.NoMemory.{NoMemory}
-use Rattle.apt_base.proofs.Fields.{bind_some, some_is}
+use Rattle.apt_base.proofs.FieldsLemmas.{bind_some, some_is}
 use Rattle.source_form.specs.declared.form.SourceForm.{SourceForm}
 use Rattle.source_form.specs.Form.{is_word_byte, text_of, canonical, IsForm, word_at, word_after, words_of, is_end, are_of_form, form_of}
 use Rattle.source_form.proofs.Chains.{both_from, AreWords, words_from, words_make, chain_has_word_bytes, identifier_has_word_bytes}

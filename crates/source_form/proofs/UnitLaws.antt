@@ -4,7 +4,7 @@ use Rattle.std.specs.List.{AllPass}
 use Rattle.std.proofs.lemmas.Bool.{lt-ltb, le-leb, leb-true, false≢true}
 use Rattle.apt_base.specs.Forms.{is_name, all_fit}
 use Rattle.apt_base.specs.declared.kinds.What.TheVariants.{Name}
-use Rattle.apt_base.proofs.Fields.{is_text-of_utf8}
+use Rattle.apt_base.proofs.FieldsLemmas.{is_text-of_utf8}
 use Rattle.decl_tree.specs.Legal.{pair_fits, is_legal_value, is_canonical, package_start, is_legal_annotation, is_legal_declaration, is_legal_body, depth, is_legal}
 use Rattle.decl_tree.specs.declared.annotation.AnnotationText.{out-roll-AnnotationText}
 use Rattle.source_form.specs.declared.form.SourceForm.{SourceForm}

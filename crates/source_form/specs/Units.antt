@@ -49,7 +49,7 @@ unit_of form = record {
 
 -- ---- the units of a source
 
--- a canonical name has at most so many bytes
+-- a canonical name has at most this many bytes
 abbrev pub most_name : ℕ
 most_name = 1024
 

@@ -6,12 +6,12 @@
 //! |---|---|
 //! | `empty` | `done`: the table is empty from now on |
 //! | `enter PART UNIT` | `done`, or the refusal and the name of the unit that came back |
-//! | `made PART NUMBER` | enters so many classes `m.C0`, `m.C1` and so on: `done`, or the first refusal |
+//! | `made PART NUMBER` | enters this many classes `m.C0`, `m.C1` and so on: `done`, or the first refusal |
 //! | `find NAME` | the unit: its name, and behind `+` the number of its members; or `none` |
 //! | `part NAME` | the part in which it is, or `none` |
 //! | `names PART` | the names of a part |
 //! | `count PART` | how many there are, and whether each is greater than the one before |
-//! | `found PART NUMBER` | how many of the made classes, so many from the first on, are found by their names and are in that part |
+//! | `found PART NUMBER` | how many of the made classes, this many from the first on, are found by their names and are in that part |
 //! | `copied` | `done`: the table is its own copy from now on |
 //! | `name UNIT` | the canonical name |
 //!

@@ -5,7 +5,7 @@ use Rattle.std.specs.Option.{option_map}
 use Rattle.std.specs.Str.{bytes_eq}
 use Rattle.std.proofs.lemmas.Map.Keys.{IsDistinct-head, IsDistinct-tail}
 use Rattle.std.proofs.lemmas.Slice.Eq.{bytes_eq-Decides}
-use Rattle.apt_base.proofs.Fields.{some_is}
+use Rattle.apt_base.proofs.FieldsLemmas.{some_is}
 use Rattle.apt_base.specs.declared.element.ElementRef.{ElementRef}
 use Rattle.type_mirror.specs.declared.mirror.Mirror.{Mirror}
 use Rattle.type_mirror.specs.Substitution.{Replacements, same_element, AreDistinct, is_distinct, replacement}

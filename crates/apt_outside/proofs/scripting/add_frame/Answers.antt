@@ -2,7 +2,7 @@ use Rattle.std.proofs.Common.{◌≡◌, ◌++◌, ◌∷◌, [], length, map, r
 use Rattle.std.proofs.lemmas.List.{map-append, length-map}
 use Rattle.std.specs.declared.alloc.Global.{Global}
 use Rattle.apt_outside.specs.Scripted.{frames_of}
-use Rattle.apt_outside.proofs.JoinedLemmas.{joined_more}
+use Rattle.apt_outside.proofs.Joined.{joined_more}
 use Rattle.apt_outside.proofs.scripting.add_frame.Goals as goal
 
 pub returns-clause-joined : goal.returns-clause-joined

@@ -3,7 +3,7 @@ use Rattle.std.proofs.lemmas.Bool.{false≢true}
 use Rattle.std.proofs.lemmas.Slice.Eq.{bytes_eq-Decides}
 use Rattle.case_table.specs.Rows.{text_at}
 use Rattle.case_table.specs.Index.{next_of}
-use Rattle.case_table.proofs.RowLemmas.{no_row, text_at-read, number_at-read}
+use Rattle.case_table.proofs.RowsLemmas.{no_row, text_at-read, number_at-read}
 use Rattle.case_table.proofs.IndexLemmas.{IsReached, reached_step}
 use Rattle.case_table.proofs.cases.place_of.Goals as goal
 

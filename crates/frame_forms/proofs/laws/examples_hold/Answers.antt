@@ -1,5 +1,5 @@
 use Rattle.frame_forms.proofs.laws.examples_hold.Goals as goal
-use Rattle.frame_forms.proofs.Examples.{examples}
+use Rattle.frame_forms.proofs.ExamplesLemmas.{examples}
 
 -- src/laws.rt:5:1
 pub returns : goal.returns

@@ -1,6 +1,6 @@
 use Rattle.std.proofs.Common.{length}
 use Rattle.std.specs.Str.{chars}
-use Rattle.java_tokens.proofs.ScanLemmas.{IsScanned}
+use Rattle.java_tokens.proofs.Scans.{IsScanned}
 use Rattle.java_tokens.proofs.automaton.longest_front.Given as goal
 
 abbrev pub invariant-loop-c : goal.invariant-loop-c

@@ -1,5 +1,5 @@
 use Rattle.std.proofs.Common.{sym, ◌∙◌}
-use Rattle.java_tokens.proofs.SortLemmas.{ascii_sort, ascii_less, letter_sort, part_sort, no_sort}
+use Rattle.java_tokens.proofs.SortsLemmas.{ascii_sort, ascii_less, letter_sort, part_sort, no_sort}
 use Rattle.java_tokens.proofs.automaton.sort_of.Goals as goal
 
 pub returns-then-c-lt128-clause-value : goal.returns-then-c-lt128-clause-value

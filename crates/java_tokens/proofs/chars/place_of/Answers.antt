@@ -4,7 +4,7 @@ use Rattle.std.proofs.lemmas.Iterator.Consumers.{YieldsList-turn, YieldsList-end
 use Rattle.std.proofs.lemmas.List.{length_push}
 use Rattle.std.proofs.lemmas.Str.{encodes-chars}
 use Rattle.std.specs.Str.{chars}
-use Rattle.java_tokens.proofs.OffsetLemmas.{IsWalked, walked_none, walked_here, walked_bound, walked_more, walked_all}
+use Rattle.java_tokens.proofs.Offsets.{IsWalked, walked_none, walked_here, walked_bound, walked_more, walked_all}
 use Rattle.java_tokens.proofs.chars.place_of.Goals as goal
 
 pub loop-c-init : goal.loop-c-init

@@ -1,6 +1,6 @@
 use Rattle.std.proofs.Common.{length}
 use Rattle.std.specs.Str.{chars}
-use Rattle.java_tokens.proofs.OffsetLemmas.{IsWalked}
+use Rattle.java_tokens.proofs.Offsets.{IsWalked}
 use Rattle.java_tokens.proofs.chars.place_of.Given as goal
 
 abbrev pub invariant-loop-c : goal.invariant-loop-c

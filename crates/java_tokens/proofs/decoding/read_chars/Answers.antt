@@ -5,10 +5,10 @@ use Rattle.std.specs.Prelude.{encode_utf8}
 use Rattle.std.specs.Char.{len_utf8}
 use Rattle.java_tokens.specs.declared.shift.Shift.{Shift}
 use Rattle.java_tokens.specs.Characters.{HasChar, HasNoChar, slashes_after}
-use Rattle.java_tokens.proofs.CharLemmas.{has_long}
-use Rattle.java_tokens.proofs.TotalLemmas.{list_or_place}
-use Rattle.java_tokens.proofs.LawLemmas.{one_list, never_both, one_place}
-use Rattle.java_tokens.proofs.ReadLemmas.{GoesOn, IsReading, reading_none, shift_stays, shift_grows, reading_more, reading_done, reading_stuck}
+use Rattle.java_tokens.proofs.CharactersLemmas.{has_long}
+use Rattle.java_tokens.proofs.Totals.{list_or_place}
+use Rattle.java_tokens.proofs.Laws.{one_list, never_both, one_place}
+use Rattle.java_tokens.proofs.Readings.{GoesOn, IsReading, reading_none, shift_stays, shift_grows, reading_more, reading_done, reading_stuck}
 use Rattle.java_tokens.proofs.decoding.read_chars.Goals as goal
 use Rattle.java_tokens.proofs.decoding.read_chars.Goals.{then-read-len_utf8+in_ok-push-2, else-read-len_utf8}
 

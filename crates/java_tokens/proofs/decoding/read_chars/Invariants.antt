@@ -1,5 +1,5 @@
 use Rattle.std.proofs.Common.{◌-◌, length, string_bytes}
-use Rattle.java_tokens.proofs.ReadLemmas.{IsReading}
+use Rattle.java_tokens.proofs.Readings.{IsReading}
 use Rattle.java_tokens.proofs.decoding.read_chars.Given as goal
 
 abbrev pub invariant-loop-at : goal.invariant-loop-at

@@ -1,5 +1,5 @@
 use Rattle.std.proofs.Common.{rules}
-use Rattle.java_tokens.proofs.EscapeLemmas.{four_of}
+use Rattle.java_tokens.proofs.EscapesLemmas.{four_of}
 use Rattle.java_tokens.proofs.escapes.hex_value.Goals as goal
 
 pub returns-clause-digits : goal.returns-clause-digits

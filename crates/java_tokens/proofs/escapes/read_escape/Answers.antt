@@ -1,7 +1,7 @@
 use Rattle.std.proofs.Common.{◌≡◌, ◌+◌, ◌-◌, ◌==◌, ◌≤◌, length, take, drop, take_while, MatchOption, ap, sym, subst, ◌∙◌, arith, length-append}
 use Rattle.std.proofs.lemmas.List.{take_rest}
 use Rattle.java_tokens.specs.Escapes.{IsHex, NotHex, HasEscape, NoEscape}
-use Rattle.java_tokens.proofs.EscapeLemmas.{us_before, us_taken, digits_of, escape_read, taken_front}
+use Rattle.java_tokens.proofs.EscapesLemmas.{us_before, us_taken, digits_of, escape_read, taken_front}
 use Rattle.java_tokens.proofs.escapes.read_escape.Goals as goal
 
 pub returns-then-digits-lt4-clause-escape : goal.returns-then-digits-lt4-clause-escape

@@ -1,6 +1,6 @@
 use Rattle.std.proofs.Common.{◌∙◌, take, codes, bytes_eq, sym, ap, subst}
 use Rattle.java_tokens.specs.Table.{separates, is_text_block, Passes}
-use Rattle.java_tokens.proofs.FrontLemmas.{no_comment, no_block, front_chosen}
+use Rattle.java_tokens.proofs.LongestFronts.{no_comment, no_block, front_chosen}
 use Rattle.java_tokens.proofs.fronts.allowed.Goals as goal
 
 pub returns-then-clashes : goal.returns-then-clashes

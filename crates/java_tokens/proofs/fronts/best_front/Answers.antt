@@ -1,7 +1,7 @@
 use Rattle.std.proofs.Common.{◌≡◌, ◌∙◌, take, Some, ap, sym}
 use Rattle.std.specs.Str.{chars}
 use Rattle.java_tokens.specs.Table as table
-use Rattle.java_tokens.proofs.FrontLemmas.{front_boundary, front_chars, found_best}
+use Rattle.java_tokens.proofs.LongestFronts.{front_boundary, front_chars, found_best}
 use Rattle.java_tokens.proofs.fronts.best_front.Goals as goal
 
 pub split_at-requires : goal.split_at-requires

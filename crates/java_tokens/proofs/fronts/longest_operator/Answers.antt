@@ -1,6 +1,6 @@
 use Rattle.std.proofs.Common.{◌∙◌, take, ap, sym, rules}
 use Rattle.case_table.specs.Rows.{number_of}
-use Rattle.java_tokens.proofs.FrontLemmas.{tried_none, tried_more, tried_all, tried_found}
+use Rattle.java_tokens.proofs.LongestFronts.{tried_none, tried_more, tried_all, tried_found}
 use Rattle.java_tokens.proofs.fronts.longest_operator.Goals as goal
 
 pub loop-width-init : goal.loop-width-init

@@ -1,4 +1,4 @@
-use Rattle.java_tokens.proofs.FrontLemmas.{IsTried}
+use Rattle.java_tokens.proofs.LongestFronts.{IsTried}
 use Rattle.java_tokens.proofs.fronts.longest_operator.Given as goal
 
 abbrev pub invariant-loop-width : goal.invariant-loop-width

@@ -1,5 +1,5 @@
 use Rattle.std.specs.Str.{chars}
-use Rattle.java_tokens.proofs.NextLemmas.{no_next_none}
+use Rattle.java_tokens.proofs.NextFronts.{no_next_none}
 use Rattle.java_tokens.proofs.fronts.next_front.Goals as goal
 
 pub returns-in-None : goal.returns-in-None

@@ -1,6 +1,6 @@
 use Rattle.std.proofs.Common.{subst}
 use Rattle.java_tokens.specs.Table.{IsOperatorFront, HasNoOperator}
-use Rattle.java_tokens.proofs.FrontLemmas.{operator_best, no_operator_none}
+use Rattle.java_tokens.proofs.LongestFronts.{operator_best, no_operator_none}
 use Rattle.java_tokens.proofs.fronts.operator_front.Goals as goal
 
 pub returns-in-Some : goal.returns-in-Some

@@ -1,7 +1,7 @@
 use Rattle.std.proofs.Common.{◌∙◌, None, Some, ap, sym}
 use Rattle.case_table.specs.Rows.{number_of}
 use Rattle.java_tokens.specs.Words.{word_rows}
-use Rattle.java_tokens.proofs.FrontLemmas.{word_number}
+use Rattle.java_tokens.proofs.LongestFronts.{word_number}
 use Rattle.java_tokens.proofs.fronts.word_kind.Goals as goal
 
 pub returns-in-Some : goal.returns-in-Some

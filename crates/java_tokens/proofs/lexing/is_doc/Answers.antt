@@ -1,5 +1,5 @@
 use Rattle.std.proofs.Common.{◌∙◌, take, codes, bytes_eq, ap, sym}
-use Rattle.java_tokens.proofs.LexLemmas.{doc_short, doc_tested}
+use Rattle.java_tokens.proofs.TokensGathered.{doc_short, doc_tested}
 use Rattle.java_tokens.proofs.lexing.is_doc.Goals as goal
 
 pub returns-then-eq : goal.returns-then-eq

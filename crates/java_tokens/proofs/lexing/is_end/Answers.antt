@@ -4,7 +4,7 @@ use Rattle.std.proofs.lemmas.Bool.{false≢true}
 use Rattle.std.specs.Bool.{MatchBool}
 use Rattle.std.specs.Str.{chars}
 use Rattle.java_tokens.specs.Tokens.{IsEnd}
-use Rattle.java_tokens.proofs.LexLemmas.{end_empty, end_tested}
+use Rattle.java_tokens.proofs.TokensGathered.{end_empty, end_tested}
 use Rattle.java_tokens.proofs.lexing.is_end.Goals as goal
 
 pub returns-then-is_empty : goal.returns-then-is_empty

@@ -6,8 +6,8 @@ use Rattle.java_tokens.specs.CharsShown.{offsets_of}
 use Rattle.java_tokens.specs.Tokens.{Lexeme, IsTokenFault}
 use Rattle.java_tokens.specs.TokensShown.{shown_tokens}
 use Rattle.java_tokens.specs.Table.{IsFront}
-use Rattle.java_tokens.proofs.ListLemmas.{one_list, never_both, one_place, list_or_place}
-use Rattle.java_tokens.proofs.LexLemmas.{IsLexing, IsMoved, lexing_none, lexing_done, lexing_stuck, lexing_some, lexing_far, front_cut, front_some, moved_token, moved_separator}
+use Rattle.java_tokens.proofs.Lists.{one_list, never_both, one_place, list_or_place}
+use Rattle.java_tokens.proofs.TokensGathered.{IsLexing, IsMoved, lexing_none, lexing_done, lexing_stuck, lexing_some, lexing_far, front_cut, front_some, moved_token, moved_separator}
 use Rattle.java_tokens.proofs.lexing.tokens.Goals as goal
 use Rattle.java_tokens.proofs.lexing.tokens.Goals.{in-Some-kind+in_ok-push-in-Some-kind, in-None}
 

@@ -4,7 +4,7 @@ use denote.Shadow.{shadow}
 use Rattle.std.specs.Str.{chars}
 use Rattle.java_tokens.specs.CharsShown.{offsets_of}
 use Rattle.java_tokens.specs.TokensShown.{shown_tokens}
-use Rattle.java_tokens.proofs.LexLemmas.{IsLexing}
+use Rattle.java_tokens.proofs.TokensGathered.{IsLexing}
 use Rattle.java_tokens.proofs.lexing.tokens.Given as goal
 
 abbrev pub invariant-elements : goal.invariant-elements

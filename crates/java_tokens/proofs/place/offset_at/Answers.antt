@@ -1,8 +1,8 @@
 use Rattle.std.proofs.Common.{◌∙◌, string_bytes, ap, arith}
 use Rattle.std.specs.Str.{chars}
 use Rattle.java_tokens.specs.CharsShown.{shift_at}
-use Rattle.java_tokens.proofs.ShiftLemmas.{shift_within}
-use Rattle.java_tokens.proofs.PlaceLemmas.{offset_of_place}
+use Rattle.java_tokens.proofs.Shifts.{shift_within}
+use Rattle.java_tokens.proofs.Places.{offset_of_place}
 use Rattle.java_tokens.proofs.place.offset_at.Goals as goal
 
 pub overflow_add-result : goal.overflow_add-result

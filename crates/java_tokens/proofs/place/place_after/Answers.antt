@@ -4,7 +4,7 @@ use Rattle.std.proofs.lemmas.Iterator.Consumers.{YieldsList-turn, YieldsList-end
 use Rattle.std.proofs.lemmas.List.{length_push}
 use Rattle.std.proofs.lemmas.Str.{encodes-chars, length-le-encodes}
 use Rattle.std.specs.Str.{chars}
-use Rattle.java_tokens.proofs.PlaceLemmas.{IsPassed, passed_none, passed_few, passed_more, passed_all}
+use Rattle.java_tokens.proofs.Places.{IsPassed, passed_none, passed_few, passed_more, passed_all}
 use Rattle.java_tokens.proofs.place.place_after.Goals as goal
 
 pub loop-c-init : goal.loop-c-init

@@ -1,6 +1,6 @@
 use Rattle.std.proofs.Common.{length}
 use Rattle.std.specs.Str.{chars}
-use Rattle.java_tokens.proofs.PlaceLemmas.{IsPassed}
+use Rattle.java_tokens.proofs.Places.{IsPassed}
 use Rattle.java_tokens.proofs.place.place_after.Given as goal
 
 abbrev pub invariant-loop-c : goal.invariant-loop-c

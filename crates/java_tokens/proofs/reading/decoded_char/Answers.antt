@@ -1,5 +1,5 @@
 use Rattle.std.proofs.Common.{◌≡◌, length, min, rules}
-use Rattle.java_tokens.proofs.CharLemmas.{first_found}
+use Rattle.java_tokens.proofs.CharactersLemmas.{first_found}
 use Rattle.java_tokens.proofs.reading.decoded_char.Goals as goal
 
 pub returns : goal.returns

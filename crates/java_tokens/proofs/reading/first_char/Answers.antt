@@ -1,4 +1,4 @@
-use Rattle.java_tokens.proofs.CharLemmas.{ascii_begins}
+use Rattle.java_tokens.proofs.CharactersLemmas.{ascii_begins}
 use Rattle.java_tokens.proofs.reading.first_char.Goals as goal
 
 pub returns-then-bytes-lt128 : goal.returns-then-bytes-lt128

@@ -1,6 +1,6 @@
 use Rattle.std.proofs.Common.{get_or, MatchOption, ap, sym, subst}
 use Rattle.java_tokens.specs.Characters.{HasChar, HasNoChar, BeginsEscape}
-use Rattle.java_tokens.proofs.CharLemmas.{raw_char, no_raw, turned_even, long_escape}
+use Rattle.java_tokens.proofs.CharactersLemmas.{raw_char, no_raw, turned_even, long_escape}
 use Rattle.java_tokens.proofs.reading.read_char.Goals as goal
 use Rattle.java_tokens.proofs.reading.read_char.Goals.{else-slashes-eq0-via-then-slashes-eq0+then-bytes-gt1+then-bytes-eq92+else-bytes-eq117, else-slashes-eq0-via-then-slashes-eq0+then-bytes-gt1+else-bytes-eq92, else-slashes-eq0-via-then-slashes-eq0+else-bytes-gt1, else-slashes-eq0-via-else-slashes-eq0}
 

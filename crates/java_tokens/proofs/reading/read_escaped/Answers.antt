@@ -1,6 +1,6 @@
 use Rattle.std.proofs.Common.{MatchOption, sym, subst}
 use Rattle.java_tokens.specs.Characters.{HasChar, HasNoChar}
-use Rattle.java_tokens.proofs.CharLemmas.{no_escape, escape_char}
+use Rattle.java_tokens.proofs.CharactersLemmas.{no_escape, escape_char}
 use Rattle.java_tokens.proofs.reading.read_escaped.Goals as goal
 
 pub returns-in_err-first-clause-char : goal.returns-in_err-first-clause-char

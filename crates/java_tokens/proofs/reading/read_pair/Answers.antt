@@ -2,8 +2,8 @@ use Rattle.std.proofs.Common.{◌≡◌, ◌+◌, drop, MatchOption, sym, subst,
 use Rattle.std.proofs.lemmas.List.{take_rest}
 use Rattle.java_tokens.specs.Escapes.{HasEscape, NoEscape}
 use Rattle.java_tokens.specs.Characters.{HasChar, HasNoChar, IsHigh, IsLow, joined}
-use Rattle.java_tokens.proofs.CharLemmas.{no_pair, pair_char, surrogate}
-use Rattle.java_tokens.proofs.EscapeLemmas.{one_escape}
+use Rattle.java_tokens.proofs.CharactersLemmas.{no_pair, pair_char, surrogate}
+use Rattle.java_tokens.proofs.EscapesLemmas.{one_escape}
 use Rattle.java_tokens.proofs.reading.read_pair.Goals as goal
 use Rattle.java_tokens.proofs.reading.read_pair.Goals.{then-second-lt56320-via-then-second-lt56320, then-second-lt56320-via-else-second-lt56320+then-second-ge57344}
 

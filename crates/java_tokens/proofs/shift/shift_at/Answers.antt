@@ -1,6 +1,6 @@
 use Rattle.std.proofs.Common.{leb, rules}
 use Rattle.std.proofs.lemmas.List.Sorted.{IsPartitionedBy-leb, IsPartitionPoint-from_clause}
-use Rattle.java_tokens.proofs.ShiftLemmas.{shift_none, shift_some}
+use Rattle.java_tokens.proofs.Shifts.{shift_none, shift_some}
 use Rattle.java_tokens.proofs.shift.shift_at.Goals as goal
 
 pub returns-then-begun-eq0 : goal.returns-then-begun-eq0

@@ -1,7 +1,7 @@
 use Rattle.std.proofs.Common.{◌≡◌, ◌<◌, ◌≤◌, ◌++◌, [], length, drop, take, ap, sym, subst, rules}
 use Rattle.apt_outside.specs.Scripted.{IsJoined, said_of}
 use Rattle.apt_outside.proofs.ChildLemmas.{attends, takes_set, lives_set, fits_given, receives, found_at}
-use Rattle.apt_outside.proofs.JoinedLemmas.{joined_same, each_set}
+use Rattle.apt_outside.proofs.Joined.{joined_same, each_set}
 use Rattle.apt_outside.proofs.script_children.ScriptChildrenChildren.receive.Goals as goal
 
 pub index_mut-requires : goal.index_mut-requires

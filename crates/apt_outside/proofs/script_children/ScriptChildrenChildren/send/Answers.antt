@@ -1,7 +1,7 @@
 use Rattle.std.proofs.Common.{◌≡◌, ◌<◌, ◌++◌, ◌∷◌, [], length, rules}
 use Rattle.apt_outside.specs.Scripted.{IsJoined, frames_of}
 use Rattle.apt_outside.proofs.ChildLemmas.{attends, takes_set, lives_set, fits_either, sends, found_at}
-use Rattle.apt_outside.proofs.JoinedLemmas.{each_set, kept}
+use Rattle.apt_outside.proofs.Joined.{each_set, kept}
 use Rattle.apt_outside.proofs.script_children.ScriptChildrenChildren.send.Goals as goal
 
 pub index_mut-requires : goal.index_mut-requires

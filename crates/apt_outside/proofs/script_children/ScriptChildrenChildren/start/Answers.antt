@@ -3,7 +3,7 @@ use Rattle.std.specs.List.{Contains}
 use Rattle.apt_outside.specs.Child.{Try}
 use Rattle.apt_outside.specs.Scripted.{IsJoined, known_of, child_of, shown_call}
 use Rattle.apt_outside.proofs.ChildLemmas.{takes_along, lives_along, known_push_same, known_push_other, takes_push, lives_push, fresh_push, fresh_child}
-use Rattle.apt_outside.proofs.JoinedLemmas.{each_along, each_push, get_past}
+use Rattle.apt_outside.proofs.Joined.{each_along, each_push, get_past}
 use Rattle.apt_outside.proofs.script_children.ScriptChildrenChildren.start.Goals as goal
 
 pub invariant_of-self-in-Break-branch-4 : goal.invariant_of-self-in-Break-branch-4

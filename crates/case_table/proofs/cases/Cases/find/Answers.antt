@@ -1,5 +1,5 @@
 use Rattle.std.proofs.Common.{Some, ap, sym, ◌∙◌}
-use Rattle.case_table.proofs.RowLemmas.{no_row, number_at-read, number_of-none, number_of-some}
+use Rattle.case_table.proofs.RowsLemmas.{no_row, number_at-read, number_of-none, number_of-some}
 use Rattle.case_table.proofs.cases.Cases.find.Goals as goal
 
 pub returns-in_err-place : goal.returns-in_err-place

@@ -1,7 +1,7 @@
 use Rattle.std.proofs.Common.{◌≡◌, ◌≢◌, ℕ, ◌<◌, ◌≤◌, ◌-◌, length, slice_index_or, ap, sym, subst, ◌∙◌, inr, arith, rules}
 use Rattle.case_table.specs.Rows.{text_at, number_at, key_of, LacksText, Clash}
 use Rattle.case_table.specs.Index.{key_at}
-use Rattle.case_table.proofs.RowLemmas.{no_row, text_at-read, number_at-read, clash_found, lacks_found, is_table-clash, is_table-true}
+use Rattle.case_table.proofs.RowsLemmas.{no_row, text_at-read, number_at-read, clash_found, lacks_found, is_table-clash, is_table-true}
 use Rattle.case_table.proofs.IndexLemmas.{begun_none, begun_step}
 use Rattle.case_table.proofs.cases.Cases.new.Goals as goal
 

@@ -1,5 +1,5 @@
 use Rattle.std.proofs.Common.{◌≡◌, ◌<◌, ◌≤◌, ◌-◌, length, slice_index_or, Some, ap, sym, ◌∙◌, arith, rules}
-use Rattle.case_table.proofs.RowLemmas.{no_row, text_at-read, text_of-none, text_of-some}
+use Rattle.case_table.proofs.RowsLemmas.{no_row, text_at-read, text_of-none, text_of-some}
 use Rattle.case_table.proofs.cases.Cases.text.Goals as goal
 
 pub returns-then-end-gt0 : goal.returns-then-end-gt0

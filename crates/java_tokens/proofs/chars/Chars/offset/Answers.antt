@@ -1,8 +1,8 @@
 use Rattle.std.proofs.Common.{◌≡◌, ◌∙◌, length, string_bytes, slice_get, Some, ap, subst, arith}
 use Rattle.std.specs.Str.{chars}
 use Rattle.java_tokens.specs.CharsShown.{places_from, shift_at}
-use Rattle.java_tokens.proofs.ShiftLemmas.{shift_within}
-use Rattle.java_tokens.proofs.OffsetLemmas.{offset_found}
+use Rattle.java_tokens.proofs.Shifts.{shift_within}
+use Rattle.java_tokens.proofs.Offsets.{offset_found}
 use Rattle.java_tokens.proofs.chars.Chars.offset.Goals as goal
 
 pub overflow_add-result : goal.overflow_add-result

@@ -7,7 +7,7 @@ use Rattle.java_tokens.specs.declared.token.TokenKind.{TokenKind}
 use Rattle.java_tokens.specs.declared.token.TokenKind.TheVariants.{Identifier, Reserved, Integer, Floating, Character, Text, TextBlock, Operator, Truth, Null}
 use Rattle.java_tokens.specs.Tokens.{IsElement, Begins, IsNext, HasNoNext}
 use Rattle.java_tokens.specs.Table.{is_text_block, kind_of, IsBest, HasNone}
-use Rattle.java_tokens.proofs.KindLemmas.{kind_of_element, element_of_kind, nothing_empty, nothing_sub}
+use Rattle.java_tokens.proofs.TextKinds.{kind_of_element, element_of_kind, nothing_empty, nothing_sub}
 
 abbrev Searched : List ℕ → ℕ → Type 0
 Searched cs n = HasNone cs n ⊎ ((m : ℕ) × (k : Option TokenKind) × IsBest cs n m k)

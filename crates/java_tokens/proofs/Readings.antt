@@ -12,8 +12,8 @@ use Rattle.std.specs.Str.{chars, IsUtf8, encode_utf8_all}
 use Rattle.java_tokens.specs.declared.shift.Shift.{Shift}
 use Rattle.java_tokens.specs.Characters.{Placed, Spells, Spelled, HasChar, HasNoChar, slashes_after, AreChars, IsCharFault}
 use Rattle.java_tokens.specs.CharsShown.{places_from, shift_at, offsets_of, placed_chars, Ascend, AreWithin}
-use Rattle.java_tokens.proofs.CharLemmas.{has_long}
-use Rattle.java_tokens.proofs.ShiftLemmas.{shift_settled, shift_before, shift_behind, places_from-length, map_places}
+use Rattle.java_tokens.proofs.CharactersLemmas.{has_long}
+use Rattle.java_tokens.proofs.Shifts.{shift_settled, shift_before, shift_behind, places_from-length, map_places}
 
 -- one character more at the end
 pub Spelled-snoc : (s o : ℕ) (text : List ℕ) (cs : List Placed) (rest : List ℕ) (s' at code : ℕ) (spelling after : List ℕ) → Spelled s o text cs rest s' → at + length rest ≡ o + length text → rest ≡ spelling ++ after → Spells s' spelling after code → Spelled s o text (cs ++ (code, at) ∷ []) after (slashes_after s' spelling)

@@ -10,7 +10,7 @@ use Rattle.std.specs.Char.{IsScalar, len_utf8}
 use Rattle.std.specs.Str.{StartsWithNoChar, IsUtf8}
 use Rattle.java_tokens.specs.Escapes.{IsEscape, HasEscape, NoEscape}
 use Rattle.java_tokens.specs.Characters.{BeginsEscape, IsHigh, IsLow, joined, BeginsWith, Spells, raw, escape, pair, HasChar, HasNoChar}
-use Rattle.java_tokens.proofs.EscapeLemmas.{one_escape}
+use Rattle.java_tokens.proofs.EscapesLemmas.{one_escape}
 
 -- whether an escape begins is a matter of the parity
 pub begins_even : (s t : ℕ) (rest : List ℕ) → s % 2 ≡ t % 2 → BeginsEscape s rest → BeginsEscape t rest

@@ -10,7 +10,7 @@ use Rattle.java_tokens.specs.Forms.{among}
 use Rattle.java_tokens.specs.Sorts.{sort_of, sort_in, sort_rows}
 use Rattle.java_tokens.specs.Literals.{word_starts, word_parts}
 use Rattle.java_tokens.proofs.TableLemmas.{both_true, alike, alike_is}
-use Rattle.java_tokens.proofs.SortLemmas.{letter_sort, part_sort, no_sort}
+use Rattle.java_tokens.proofs.SortsLemmas.{letter_sort, part_sort, no_sort}
 
 abbrev starts_fit : ℕ → Bool
 starts_fit zero = true

@@ -10,8 +10,8 @@ use Rattle.std.specs.Char.{IsScalar, len_utf8, digit_value}
 use Rattle.std.specs.Str.{is_utf8, StartsWithNoChar, encode_utf8_all}
 use Rattle.java_tokens.specs.Escapes.{IsHex, HasEscape, NoEscape}
 use Rattle.java_tokens.specs.Characters.{BeginsEscape, joined, Placed, Spelled, HasChar, HasNoChar, slashes_after, AreChars, IsCharFault, IsDecided}
-use Rattle.java_tokens.proofs.EscapeLemmas.{us_before, four_of, digits_of, escape_read, one_escape, taken_front}
-use Rattle.java_tokens.proofs.CharLemmas.{has_even, none_even, no_escape, escape_char, no_pair, pair_char, raw_char, no_raw, has_long}
+use Rattle.java_tokens.proofs.EscapesLemmas.{us_before, four_of, digits_of, escape_read, one_escape, taken_front}
+use Rattle.java_tokens.proofs.CharactersLemmas.{has_even, none_even, no_escape, escape_char, no_pair, pair_char, raw_char, no_raw, has_long}
 
 -- a text begins with a character, or with none
 abbrev Either : ℕ → List ℕ → Type 0
@@ -34,7 +34,7 @@ from_front text w (c ∷ cs) scalar is some =
 tried : (text : List ℕ) (w : ℕ) → 0 < length (take w text) → is_utf8 (take w text) ≡ true → Raw text
 tried text w some e = let u = IsUtf8-from_is_utf8 (take w text) e in from_front text w u.0 u.1.0 u.1.1 some
 
--- a text with a character has one that is spelled in so many bytes
+-- a text with a character has one that is spelled in this many bytes
 wide_one : (text rest : List ℕ) (c : ℕ) → IsScalar c → text ≡ encode_utf8 c ++ rest → (w : ℕ) → len_utf8 c ≡ w → is_utf8 (take w text) ≡ true
 wide_one text rest c scalar is w wide =
     let front : take w text ≡ encode_utf8 c = ap (take w) is ∙ take_at (encode_utf8 c) rest w (length-encode c ∙ wide) in

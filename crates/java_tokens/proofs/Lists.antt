@@ -2,7 +2,7 @@
 use Rattle.std.proofs.Common.{◌≡◌, ◌≢◌, ◌⊎◌, inl, inr, ℕ, zero, suc, ◌+◌, ◌-◌, ◌<◌, ◌≤◌, List, [], ◌∷◌, length, None, slice_index, true, false, refl, sym, ap, ◌∙◌, subst, arith, eqb, length-append}
 use Rattle.std.proofs.lemmas.Bool.Decides.{eqb_tells}
 use Rattle.java_tokens.specs.Tokens.{IsNext, HasNoNext, Element, Reads, IsEnd, Lexeme, tokens_from, AreTokens, IsTokenFault, HasTokens}
-use Rattle.java_tokens.proofs.NextLemmas.{Either, next_either, one_next, next_some, no_next_empty, no_next_sub}
+use Rattle.java_tokens.proofs.NextFronts.{Either, next_either, one_next, next_some, no_next_empty, no_next_sub}
 
 -- where a text ends nothing begins
 pub no_next_end : (rest : List ℕ) → IsEnd rest → HasNoNext rest

@@ -10,12 +10,12 @@ use Rattle.java_tokens.specs.declared.automaton.Found.{Found}
 use Rattle.java_tokens.specs.Sorts.{sort_of}
 use Rattle.java_tokens.specs.Table.{after, class_at, run, state_of, class_of, bytes_of, IsUnknown, IsFound}
 use Rattle.java_tokens.proofs.TableLemmas.{after_less, class_less, run-append, run_stuck}
-use Rattle.java_tokens.proofs.KindLemmas.{are_sorts}
+use Rattle.java_tokens.proofs.TextKinds.{are_sorts}
 
 abbrev pub Known : List ℕ → ℕ → Option Found → Type 0
 Known cs n found = MatchOption found (IsUnknown cs n) (λ f. IsFound cs n f.width f.class)
 
--- so many characters were read
+-- this many characters were read
 pub record IsScanned (cs : List ℕ) (n state width : ℕ) (found : Option Found) : Type 0 where
   pub within : n ≤ length cs
   pub low : state < 69

@@ -10,7 +10,7 @@ use Rattle.std.specs.Prelude.{encode_utf8}
 use Rattle.java_tokens.specs.declared.shift.Shift.{Shift}
 use Rattle.java_tokens.specs.CharsShown.{places_from, shift_at, offsets_of}
 
--- so many characters are behind, and the one that is wanted is so many further on
+-- this many characters are behind, and the one that is wanted is this many further on
 pub record IsWalked (cs : List ℕ) (k place left at : ℕ) : Type 0 where
   pub found : slice_get (places_from place (drop k cs)) left ≡ slice_get (places_from 0 cs) at
   pub bound : place + length (encode_utf8_all (drop k cs)) ≡ length (encode_utf8_all cs)

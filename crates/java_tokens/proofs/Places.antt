@@ -9,7 +9,7 @@ use Rattle.java_tokens.specs.declared.shift.Shift.{Shift}
 use Rattle.java_tokens.specs.CharsShown.{places_from, shift_at, offsets_of}
 use Rattle.java_tokens.specs.Tokens.{ends_line, line_ends, returns}
 use Rattle.java_tokens.specs.Table.{bytes_of}
-use Rattle.java_tokens.proofs.ShiftLemmas.{places_from-length}
+use Rattle.java_tokens.proofs.Shifts.{places_from-length}
 
 pub line_ends-append : (r : Bool) (xs ys : List ℕ) → line_ends r (xs ++ ys) ≡ line_ends r xs + line_ends (returns r xs) ys
 line_ends-append r [] ys = omega arith
@@ -31,7 +31,7 @@ pub line_ends_few : (r : Bool) (xs : List ℕ) → line_ends r xs ≤ length xs
 line_ends_few r [] = omega arith
 line_ends_few r (x ∷ xs) = omega (arith, line_ends_few (eqb x 13) xs, one_or_none (ends_line r x))
 
--- so many characters were passed
+-- this many characters were passed
 pub record IsPassed (cs : List ℕ) (n before before' line line' : ℕ) (r r' : Bool) : Type 0 where
   pub within : n ≤ length cs
   pub before_is : before' ≡ before + n

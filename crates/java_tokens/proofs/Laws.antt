@@ -3,7 +3,7 @@ use Rattle.std.proofs.Common.{◌≡◌, ℕ, ◌+◌, List, [], ◌∷◌, ◌+
 use Rattle.std.proofs.lemmas.List.{drop_at, take_at}
 use Rattle.std.proofs.lemmas.Str.{len_utf8_bounds}
 use Rattle.java_tokens.specs.Characters.{Placed, Spells, Spelled, HasNoChar, slashes_after, AreChars, IsCharFault}
-use Rattle.java_tokens.proofs.CharLemmas.{one_char, has_long}
+use Rattle.java_tokens.proofs.CharactersLemmas.{one_char, has_long}
 
 -- an empty text has no character
 pub no_char : (s : ℕ) → HasNoChar s []

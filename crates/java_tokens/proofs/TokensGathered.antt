@@ -13,10 +13,10 @@ use Rattle.java_tokens.specs.declared.token.Token.{Token}
 use Rattle.java_tokens.specs.TokensShown.{shown_token, shown_tokens}
 use Rattle.java_tokens.specs.Table.{bytes_of, IsFront}
 use Rattle.java_tokens.proofs.TableLemmas.{both_true}
-use Rattle.java_tokens.proofs.NextLemmas.{front_taken, next_some}
-use Rattle.java_tokens.proofs.PlaceLemmas.{line_ends-append, returns-append, line_ends_few}
-use Rattle.java_tokens.proofs.AsciiLemmas.{same_front, same_text}
-use Rattle.java_tokens.proofs.FrontLemmas.{front_bytes, front_within, front_boundary, front_chars}
+use Rattle.java_tokens.proofs.NextFronts.{front_taken, next_some}
+use Rattle.java_tokens.proofs.Places.{line_ends-append, returns-append, line_ends_few}
+use Rattle.java_tokens.proofs.Ascii.{same_front, same_text}
+use Rattle.java_tokens.proofs.LongestFronts.{front_bytes, front_within, front_boundary, front_chars}
 
 Reads-snoc : (text : List ℕ) (es : List Element) (rest front after : List ℕ) (k : Option TokenKind) → Reads text es rest → IsNext rest front after k → Reads text (es ++ (k, front) ∷ []) after
 Reads-snoc text [] rest front after k is next = (after, subst (λ t. IsNext t front after k) (sym is) next, refl)

@@ -44,7 +44,7 @@ kept_some false x y e = absurd cc
 pub some_is : {A : Type 0} (x y : A) → Some x ≡ Some y → x ≡ y
 some_is x y e = cc
 
--- ---- so many bytes
+-- ---- this many bytes
 
 pub front_next-again : (count : ℕ) (front rest : List ℕ) → length front ≡ count → front_next count (front ++ rest) ≡ Some (front, rest)
 front_next-again count front rest len =
@@ -91,11 +91,6 @@ unfolding u8_next
 u8_next-spelled [] n rest e = absurd cc
 u8_next-spelled (byte ∷ bytes) n rest e = ap (λ (p : ℕ × List ℕ). p.0 ∷ p.1) (some_is (byte, bytes) (n, rest) e)
 
-pub u8_next-grows : (bytes more : List ℕ) (n : ℕ) (rest : List ℕ) → u8_next bytes ≡ Some (n, rest) → u8_next (bytes ++ more) ≡ Some (n, rest ++ more)
-unfolding u8_next
-u8_next-grows [] more n rest e = absurd cc
-u8_next-grows (byte ∷ bytes) more n rest e = ap (λ (p : ℕ × List ℕ). Some (p.0, p.1 ++ more)) (some_is (byte, bytes) (n, rest) e)
-
 pub u16_next-again : (n : ℕ) (rest : List ℕ) → n < 2 ^ 16 → u16_next (to_be_bytes w16 n ++ rest) ≡ Some (n, rest)
 unfolding u16_next
 u16_next-again n rest lt = number_again w16 (to_be_bytes w16 n) rest n refl (from_be_bytes-to_be_bytes_2 n lt)
@@ -106,10 +101,6 @@ u16_next-spelled bytes n rest fits e =
     let t = number_takes w16 bytes n rest e in
     let front_fits = IsBytes-front bytes t.0 rest t.1 fits in
     (t.1 ∙ ap (λ (front : List ℕ). front ++ rest) (sym (be_bytes_2 t.0 n t.2 front_fits t.3)), omega (arith, t.3, front_fits 0, front_fits 1))
-
-pub u16_next-grows : (bytes more : List ℕ) (n : ℕ) (rest : List ℕ) → u16_next bytes ≡ Some (n, rest) → u16_next (bytes ++ more) ≡ Some (n, rest ++ more)
-unfolding u16_next
-u16_next-grows bytes more n rest e = number_grows w16 bytes more n rest e
 
 pub u32_next-again : (n : ℕ) (rest : List ℕ) → n < 2 ^ 32 → u32_next (to_be_bytes w32 n ++ rest) ≡ Some (n, rest)
 unfolding u32_next
@@ -136,28 +127,6 @@ i64_spelled front n fits len worth =
     let same : cast_unsigned w64 (cast_signed w64 n) ≡ n = of_z-to_z w64 n small in
     (sym (be_bytes_8 front (cast_unsigned w64 (cast_signed w64 n)) len fits (same ∙ worth)), sfits_to_z (record { fits = small }))
 
-pub i64_next-again : (z : ℤ) (rest : List ℕ) → FitsSigned w64 z → i64_next (i64_form z ++ rest) ≡ Some (z, rest)
-unfolding i64_next
-i64_next-again z rest fits =
-    let n = cast_unsigned w64 z in
-    rw (number_again w64 (to_be_bytes w64 n) rest n refl (from_be_bytes-to_be_bytes_8 n (unsigned_fits z fits)), to_z-of_z w64 z fits) refl
-
-pub i64_next-spelled : (bytes : List ℕ) (z : ℤ) (rest : List ℕ) → IsBytes bytes → i64_next bytes ≡ Some (z, rest) → (bytes ≡ i64_form z ++ rest) × FitsSigned w64 z
-unfolding i64_next
-i64_next-spelled bytes z rest fits e =
-    let b = bind_some (number_next w64 bytes) (λ n. Some (cast_signed w64 n.0, n.1)) (z, rest) e in
-    let t = number_takes w64 bytes b.0.0 b.0.1 b.1 in
-    let k = i64_spelled t.0 b.0.0 (IsBytes-front bytes t.0 b.0.1 t.1 fits) t.2 t.3 in
-    let same = some_is (cast_signed w64 b.0.0, b.0.1) (z, rest) b.2 in
-    subst (λ (p : ℤ × List ℕ). (bytes ≡ i64_form p.0 ++ p.1) × FitsSigned w64 p.0) same (t.1 ∙ ap (λ (front : List ℕ). front ++ b.0.1) k.0, k.1)
-
-pub i64_next-grows : (bytes more : List ℕ) (z : ℤ) (rest : List ℕ) → i64_next bytes ≡ Some (z, rest) → i64_next (bytes ++ more) ≡ Some (z, rest ++ more)
-unfolding i64_next
-i64_next-grows bytes more z rest e =
-    let b = bind_some (number_next w64 bytes) (λ n. Some (cast_signed w64 n.0, n.1)) (z, rest) e in
-    let same = some_is (cast_signed w64 b.0.0, b.0.1) (z, rest) b.2 in
-    rw (number_grows w64 bytes more b.0.0 b.0.1 b.1) (ap (λ (p : ℤ × List ℕ). Some (p.0, p.1 ++ more)) same)
-
 -- ---- truth
 
 pub bool_next-again : (b : Bool) (rest : List ℕ) → bool_next (bool_form b ++ rest) ≡ Some (b, rest)
@@ -171,10 +140,6 @@ bool_next-spelled [] b rest e = absurd cc
 bool_next-spelled (zero ∷ bytes) b rest e = ap (λ (p : Bool × List ℕ). bool_form p.0 ++ p.1) (some_is (false, bytes) (b, rest) e)
 bool_next-spelled (suc zero ∷ bytes) b rest e = ap (λ (p : Bool × List ℕ). bool_form p.0 ++ p.1) (some_is (true, bytes) (b, rest) e)
 bool_next-spelled (suc (suc byte) ∷ bytes) b rest e = absurd cc
-
-pub bool_next-grows : (bytes more : List ℕ) (b : Bool) (rest : List ℕ) → bool_next bytes ≡ Some (b, rest) → bool_next (bytes ++ more) ≡ Some (b, rest ++ more)
-bool_next-grows bytes more b rest e =
-    rw (bool_next-spelled bytes b rest e, append_assoc (bool_form b) rest more) (bool_next-again b (rest ++ more))
 
 -- ---- bytes and texts
 
@@ -217,10 +182,3 @@ text_next-spelled all text rest fits e =
     let k = kept_some (is_text b.0.0) b.0 (text, rest) b.2 in
     let whole = bytes_next-spelled all b.0.0 b.0.1 fits b.1 in
     subst (λ (p : List ℕ × List ℕ). (all ≡ text_form p.0 ++ p.1) × (length p.0 < 2 ^ 32) × (is_text p.0 ≡ true)) k.1 (whole.0, whole.1, k.0)
-
-pub text_next-grows : (all more text rest : List ℕ) → text_next all ≡ Some (text, rest) → text_next (all ++ more) ≡ Some (text, rest ++ more)
-unfolding text_next
-text_next-grows all more text rest e =
-    let b = bind_some (bytes_next all) (λ t. cond (is_text t.0) (Some t) None) (text, rest) e in
-    let k = kept_some (is_text b.0.0) b.0 (text, rest) b.2 in
-    rw (bytes_next-grows all more b.0.0 b.0.1 b.1, k.0) (ap (λ (p : List ℕ × List ℕ). Some (p.0, p.1 ++ more)) k.1)

@@ -15,10 +15,10 @@ use Rattle.java_tokens.specs.Words.{word_rows, operator_rows}
 use Rattle.java_tokens.specs.Tokens.{Begins, HasNoNext}
 use Rattle.java_tokens.specs.Table.{class_of, kind_by, kind_of, operator_by, bytes_of, IsLongest, IsUnknown, IsBest, HasNone, IsBestFront, IsFront, IsOperatorFront, HasNoOperator, word_by, word_kind, separates, is_text_block, Passes}
 use Rattle.java_tokens.proofs.TableLemmas.{both_true, all_below}
-use Rattle.java_tokens.proofs.KindLemmas.{operator_class}
-use Rattle.java_tokens.proofs.ScanLemmas.{bytes_within}
-use Rattle.java_tokens.proofs.NextLemmas.{next_of_best, no_next_other, begins_taken, begins_of, text_block_is, not_text_block}
-use Rattle.java_tokens.proofs.AsciiLemmas.{encodes_ascii, chars_taken, same_front, texts_low, same_number, same_number_all}
+use Rattle.java_tokens.proofs.TextKinds.{operator_class}
+use Rattle.java_tokens.proofs.Scans.{bytes_within}
+use Rattle.java_tokens.proofs.NextFronts.{next_of_best, no_next_other, begins_taken, begins_of, text_block_is, not_text_block}
+use Rattle.java_tokens.proofs.Ascii.{encodes_ascii, chars_taken, same_front, texts_low, same_number, same_number_all}
 
 abbrev all_rows : (List ℕ → Bool) → List (List ℕ × ℕ) → Bool
 all_rows p [] = true
