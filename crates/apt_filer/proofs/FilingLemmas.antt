@@ -142,10 +142,3 @@ is_new initial made creation accepted =
       absent = (or_parts _ _ tests.0).0;
       room = ltb-false _ _ (or_parts _ _ tests.1).1;
     }
-
-pub filed-refused : (filings : Filings) (creation : Creation) (answer : Created) → (answer ≡ Accepted → ⊥) → filed filings creation answer ≡ filings
-filed-refused filings creation Accepted refused = absurd (refused refl)
-filed-refused filings creation Exists refused = refl
-filed-refused filings creation Unsupported refused = refl
-filed-refused filings creation BadName refused = refl
-filed-refused filings creation TooLarge refused = refl

@@ -1,4 +1,4 @@
 pub mod Folders
-pub mod NameLemmas
+pub mod NamesLemmas
 pub mod TextSets
 pub mod FilingLemmas

@@ -25,10 +25,18 @@ abbrev pub location_folder : ℕ → List ℕ
 location_folder location =
     if location == 0 then codes "CLASS_OUTPUT/" else if location == 1 then codes "SOURCE_OUTPUT/" else codes "NATIVE_HEADER_OUTPUT/"
 
+-- the path of a source with this name
+abbrev pub source_path : List ℕ → List ℕ
+source_path name = codes "SOURCE_OUTPUT/" ++ folders_of name ++ codes ".java"
+
+-- the path of a resource
+abbrev pub resource_path : ℕ → List ℕ → List ℕ → List ℕ
+resource_path location «package» relative = location_folder location ++ package_folders «package» ++ relative
+
 -- the path of a creation; a class file has none
 unfoldable pub path_of : Creation → List ℕ
-path_of (Source name content origins) = codes "SOURCE_OUTPUT/" ++ folders_of name ++ codes ".java"
-path_of (Resource location «package» relative content origins) = location_folder location ++ package_folders «package» ++ relative
+path_of (Source name content origins) = source_path name
+path_of (Resource location «package» relative content origins) = resource_path location «package» relative
 path_of (Class name content origins) = []
 
 -- ---- sizes

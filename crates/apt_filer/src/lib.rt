@@ -16,4 +16,4 @@ mod texts;
 
 pub use filer::{Filer, MAX_CONTENT, MAX_TOTAL};
 pub use names::{is_package_name, is_relative_name, is_type_name};
-pub use paths::path_of;
+pub use paths::{path_of, path_text};

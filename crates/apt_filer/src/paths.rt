@@ -1,7 +1,7 @@
 // The paths of creations.
-ghost use Rattle.std.specs.Prelude.{◌≡◌, ◌∷◌, ◌++◌, codes, string_bytes, IfOk, OnOk, MatchOption};
-ghost use Rattle.apt_base.specs.Identifiers.{HasNoDot};
-ghost use Rattle.apt_filer.specs.Filing.{folders_of, package_folders, location_folder, path_of};
+ghost use Rattle.std.specs.Prelude.{◌≡◌, ◌++◌, string_bytes, IfOk, OnOk, MatchOption};
+ghost use Rattle.apt_base.specs.Identifiers.{HasNoDot, IsSplit};
+ghost use Rattle.apt_filer.specs.Filing.{folders_of, package_folders, location_folder, source_path, resource_path, path_of};
 
 use apt_base::{Name, NoMemory};
 use std::alloc::Global;
@@ -9,8 +9,7 @@ use wire_frames::Creation;
 
 // What stands before the first dot and behind it.
 fn split_dot(text: &str) -> Option<(&str, &str)>
-    ensures { MatchOption result
-        (HasNoDot text.now) (λ x. (text.now ≡ x.0.now ++ (46 ∷ x.1.now)) × HasNoDot x.0.now) }
+    ensures { MatchOption result (HasNoDot text.now) (λ parts. IsSplit text.now parts.0.now parts.1.now) }
 {
     text.split_once('.')
 }
@@ -50,14 +49,13 @@ fn location_folder(location: u8) -> &'static str
     }
 }
 
-fn source_path(alloc: Global, name: &str) -> Result<Name, NoMemory>
-    ensures { IfOk result
-        (λ path. path ≡ codes "SOURCE_OUTPUT/" ++ folders_of name.now ++ codes ".java") }
+fn source_path(alloc: Global, name: &str) -> Result<String, NoMemory>
+    ensures { IfOk result (λ path. string_bytes path ≡ source_path name.now) }
 {
     let mut path = String::from_str(alloc, "SOURCE_OUTPUT/")?;
     push_folders(&mut path, name)?;
     path.push_str(".java")?;
-    Ok(Name::from_string(alloc, path))
+    Ok(path)
 }
 
 fn resource_path(
@@ -65,22 +63,21 @@ fn resource_path(
     location: u8,
     package: &str,
     relative: &str,
-) -> Result<Name, NoMemory>
-    ensures { IfOk result
-        (λ path. path ≡ location_folder location ++ package_folders «package».now ++ relative.now) }
+) -> Result<String, NoMemory>
+    ensures { IfOk result (λ path. string_bytes path ≡ resource_path location «package».now relative.now) }
 {
     let mut path = String::from_str(alloc, location_folder(location))?;
     push_package(&mut path, package)?;
     path.push_str(relative)?;
-    Ok(Name::from_string(alloc, path))
+    Ok(path)
 }
 
 /// The path of a creation below the output: `SOURCE_OUTPUT/a/b/C.java` of the source `a.b.C`; the
 /// location, the package as folders and the relative name of a resource, joined by `/`. A class file
 /// has none: its path is empty. It fails only for want of memory.
 #[tactic(auto, unfolding(crate::specs::Filing::path_of))]
-pub fn path_of(alloc: Global, creation: &Creation) -> Result<Name, NoMemory>
-    ensures { IfOk result (λ path. path ≡ path_of creation.now) }
+pub fn path_text(alloc: Global, creation: &Creation) -> Result<String, NoMemory>
+    ensures { IfOk result (λ path. string_bytes path ≡ path_of creation.now) }
 {
     match creation {
         Creation::Source { name, .. } => source_path(alloc, name.as_str()),
@@ -90,6 +87,13 @@ pub fn path_of(alloc: Global, creation: &Creation) -> Result<Name, NoMemory>
             relative,
             ..
         } => resource_path(alloc, *location, package.as_str(), relative.as_str()),
-        Creation::Class { .. } => Name::new(alloc, ""),
+        Creation::Class { .. } => Ok(String::new(alloc)),
     }
+}
+
+/// The same path as a name. It fails only for want of memory.
+pub fn path_of(alloc: Global, creation: &Creation) -> Result<Name, NoMemory>
+    ensures { IfOk result (λ path. path ≡ path_of creation.now) }
+{
+    Ok(Name::from_string(alloc, path_text(alloc, creation)?))
 }

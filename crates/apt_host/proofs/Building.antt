@@ -21,7 +21,7 @@ use Rattle.round_engine.specs.Refusals.{Refusal, Tree}
 use Rattle.element_table.specs.TypeTable.{TypeTable}
 use Rattle.round_engine.specs.Run.{files_among}
 use Rattle.round_engine.specs.Clean.{AreNumbered, is_error, is_warning, count_of}
-use Rattle.round_engine.proofs.NumberLemmas.{All-from_AreLeast, AllPairs-from_AreLeast}
+use Rattle.round_engine.proofs.NumberingLemmas.{All-from_AreLeast, AllPairs-from_AreLeast}
 use Rattle.apt_host.specs.declared.status.Status.{Status}
 use Rattle.apt_host.specs.Words.{Build}
 use Rattle.apt_host.specs.Project.{units_of}
@@ -33,7 +33,7 @@ use Rattle.apt_host.specs.Listed.{listed, entry_of, numbered_of, file_of, Gains,
 use Rattle.apt_host.specs.Entering.{RefusesAs}
 use Rattle.apt_host.specs.Making.{ShowsRunOver, count_of_processors, name_of, finished_summary, concluded, concluding_report, outcome_with, Makes, TalkedBy}
 use Rattle.apt_host.specs.Promises.{Talked, ToldOf, Answers, Stores, Publishes, PublishesOutcome, PublishesClean, Leaves, LeavesUndone, StoresOutcome, StoresFirst, IsFront, Reports, Adds, TellsMore, ShowsOver}
-use Rattle.apt_host.proofs.Making.{outcome_is}
+use Rattle.apt_host.proofs.MakingLemmas.{outcome_is}
 use Rattle.apt_host.proofs.Writing.{talked, front_more}
 use Rattle.apt_host.proofs.Leaving.{stands_by}
 
@@ -184,20 +184,10 @@ unread_over (Some processor) (Ok table) state (Refused refusal) refuses = absurd
 unread_over (Some processor) (Ok table) state (Failed object) refuses = λ free. absurd cc
 unread_over (Some processor) (Ok table) state Memory refuses = λ free. absurd cc
 
-pub shown_unread : (processor : Option Try) (project : Files) (state : State) (v : Verdict) → RefusesAs (units_of project) v → ShowsOver processor (units_of project) state state v
-shown_unread processor project state v refuses = unread_over processor (units_of project) state v refuses
-
 free_over : (processor : Option Try) (entered : Result TypeTable Refusal) (state : State) (v : Verdict) → is_free v ≡ true → ShowsOver processor entered state state v
 free_over None entered state v free = tt
 free_over (Some processor) (Err refusal) state v free = λ k. refl
 free_over (Some processor) (Ok table) state v free = λ unfree. absurd (let e : true ≡ false = sym free ∙ unfree in cc)
-
-pub shown_free : (processor : Option Try) (project : Files) (state : State) (v : Verdict) → is_free v ≡ true → ShowsOver processor (units_of project) state state v
-shown_free processor project state v free = free_over processor (units_of project) state v free
-
-pub tells_none : (processor : Option Try) (state : State) → TellsMore (Build processor) state state
-tells_none None state = λ k. refl
-tells_none (Some processor) state = inl (λ k. refl)
 
 -- ---- a build whose run is known
 

@@ -30,16 +30,6 @@ module _ (is : Object → Bool) where
   no_sink_early (Failed (Children processor)) other early = refl
   no_sink_early Memory other early = refl
 
--- what may come of a publishing
-pub concluded_early : (v : Verdict) → OrFree Done v → EndsEarly is_output v → IsConcluded v
-concluded_early Done free early = tt
-concluded_early (Errors count) free early = tt
-concluded_early (Refused refusal) free early = absurd (let e : Refused refusal ≡ Done = free refl in cc)
-concluded_early (Failed Tree) free early = refl
-concluded_early (Failed Sink) free early = refl
-concluded_early (Failed (Children processor)) free early = absurd cc
-concluded_early Memory free early = tt
-
 -- a fault of the store
 pub store_early : (fault : StoreFault) → EndsEarly is_tree (verdict (of_store fault))
 store_early store.Failed = refl

@@ -2,5 +2,5 @@ pub mod Units
 pub mod Early
 pub mod Writing
 pub mod Leaving
-pub mod Making
+pub mod MakingLemmas
 pub mod Building

@@ -50,24 +50,12 @@ module _ (table : TypeTable) (count : ℕ) (source : RawSource) where
 
 -- ---- more sources
 
--- one source more
-pub enters_next : (table new : TypeTable) (count i : ℕ) (sources : List RawSource) (source : RawSource) → i < length sources → source ≡ get_or sources i source → enter_next table count source ≡ Ok new → enter_all table count (drop i sources) ≡ enter_all new (count + 1) (drop (i + 1) sources)
-enters_next table new count i sources source below is enters =
-    ap (enter_all table count) (drop-cons sources i source below ∙ ap (λ s. s ∷ drop (suc i) sources) (sym is))
-    ∙ ap (λ o. and_then o (λ e. enter_all e (count + 1) (drop (suc i) sources))) enters ∙ ap (λ n. enter_all new (count + 1) (drop n sources)) (sym (add-one i))
-
 refuses_then : (outcome : Result TypeTable Refusal) (v : Verdict) (next : TypeTable → Result TypeTable Refusal) → RefusesAs outcome v → RefusesAs (and_then outcome next) v
 refuses_then outcome (Refused refusal) next is = ap (λ o. and_then o next) is
 refuses_then outcome (Failed object) next is = is
 refuses_then outcome Memory next is = tt
 refuses_then outcome Done next is = absurd is
 refuses_then outcome (Errors count) next is = absurd is
-
--- the first source that can't be entered is refused
-pub enters_not : (table : TypeTable) (count i : ℕ) (sources : List RawSource) (source : RawSource) (v : Verdict) → i < length sources → source ≡ get_or sources i source → RefusesAs (enter_next table count source) v → RefusesAs (enter_all table count (drop i sources)) v
-enters_not table count i sources source v below is refuses =
-    subst (λ ss. RefusesAs (enter_all table count ss) v) (sym (drop-cons sources i source below ∙ ap (λ s. s ∷ drop (suc i) sources) (sym is)))
-    (refuses_then (enter_next table count source) v (λ e. enter_all e (count + 1) (drop (suc i) sources)) refuses)
 
 -- ---- the source at which entering stops
 

@@ -44,10 +44,6 @@ nothing_yet rose report (Failed Sink) unfinished other = absurd cc
 nothing_yet rose report (Failed (Children processor)) unfinished other = refl
 nothing_yet rose report Memory unfinished other = inl refl
 
--- a report says how many children were started, at least
-pub report_some : (text : List ℕ) (summary : Summary) (files : List (List ℕ × ℕ)) → text ≡ report_of summary files → text ≢ []
-report_some text summary files is none = let e : report_of summary files ≡ [] = sym is ∙ none in cc
-
 -- the sink failed or memory was wanted for the report, of which a part was written
 pub some_written : (report old new : List ℕ) (fault : Fault) → report ≢ [] → Appends old new report (Err fault) → Adds (IsFront ⊥ report (sink_verdict fault)) old new
 some_written report old new outside.Failed some appends = (take appends.some.0 report, (some, (appends.some.0, refl)), appends.some.1)
@@ -57,11 +53,6 @@ some_written report old new outside.Memory some appends = ([], inl refl, appends
 pub sink_alone : (fault : Fault) → sink_verdict fault ≢ Failed Tree
 sink_alone outside.Failed e = cc
 sink_alone outside.Memory e = cc
-
--- after the report the store may fail
-pub whole_stands : (rose : Type 0) (report : List ℕ) (fault : StoreFault) → IsFront rose report (verdict (of_store fault)) report
-whole_stands rose report store.Failed = inr refl
-whole_stands rose report store.Memory = inr (inl refl)
 
 front_memory : (rose : Type 0) (report : List ℕ) (v : Verdict) (text : List ℕ) → (fails is_sink v ≡ true → rose) → IsFront rose report v text → IsFront rose report Memory text
 front_memory rose report Done text why f = inr (inl f)

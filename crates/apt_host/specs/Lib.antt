@@ -9,3 +9,5 @@ pub mod Entering
 pub mod Listed
 pub mod Promises
 pub mod Making
+pub mod Calls
+pub mod Builds

@@ -49,6 +49,10 @@ summary_of processor summary = record {
   warnings = summary.warnings;
 }
 
+-- the report of a build that publishes these files
+abbrev pub report_for : Summary → List StoredFile → List ℕ
+report_for summary files = report_of summary (map listed files)
+
 -- what is to be written for these files: the store's new files, the record's bytes and the report
 pub record Spells (summary : Summary) (made : List Made) (stored : Numbered) (bytes text : List ℕ) : Type 0 where
   pub stored_is : stored ≡ map numbered_of made

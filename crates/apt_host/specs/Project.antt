@@ -7,7 +7,7 @@ use Rattle.tree_store.specs.Sources.{sources_of}
 use Rattle.round_engine.specs.Refusals.{Refusal, UnbuiltForm, past}
 use Rattle.round_engine.specs.Units.{Obstacle, Unbuilt, Duplicate, TooLarge, Entered, enter_source, and_then}
 
--- a source has at most so many bytes, and a project so many sources
+-- a source has at most this many bytes, and a project this many sources
 abbrev pub max_source : ℕ
 max_source = 4096
 
@@ -24,11 +24,11 @@ abbrev pub table_after : List ℕ → Result Entered Obstacle → Result TypeTab
 table_after path (Ok entered) = Ok entered.table
 table_after path (Err obstacle) = Err (refusal_at path obstacle)
 
--- a source after so many others, which is refused where these are a thousand
+-- a source after this many others, which is refused where these are a thousand
 abbrev pub enter_next : TypeTable → ℕ → RawSource → Result TypeTable Refusal
 enter_next table count source = if nat_lt count max_sources then table_after source.path (enter_source table source.bytes) else Err (UnbuiltForm source.path)
 
--- all sources after so many others, or the refusal of the first that can't be entered
+-- all sources after this many others, or the refusal of the first that can't be entered
 abbrev pub enter_all : TypeTable → ℕ → List RawSource → Result TypeTable Refusal
 enter_all table count [] = Ok table
 enter_all table count (source ∷ sources) = and_then (enter_next table count source) (λ next. enter_all next (count + 1) sources)

@@ -27,6 +27,9 @@ escaped text = flat_map escaped_byte text
 abbrev pub message_line : List ℕ → Placed → List ℕ
 message_line processor placed = kind_text placed.message.kind ++ (codes ": [" ++ (processor ++ (codes "] " ++ (escaped placed.message.text ++ codes "\n"))))
 
+abbrev pub message_lines : List ℕ → List Placed → List ℕ
+message_lines processor messages = flat_map (message_line processor) messages
+
 -- ---- closing lines, files and the end
 
 unfoldable pub unread_line : List ℕ → List ℕ
@@ -35,6 +38,9 @@ unread_line name = codes "warning: [host] type " ++ (name ++ codes " was created
 -- a file by its path, with its length in bytes
 abbrev pub file_line : List ℕ × ℕ → List ℕ
 file_line file = codes "file " ++ (file.0 ++ (codes " " ++ (decimal file.1 ++ codes "\n")))
+
+abbrev pub file_lines : List (List ℕ × ℕ) → List ℕ
+file_lines files = flat_map file_line files
 
 abbrev pub counts : Summary → List ℕ
 counts summary = decimal summary.errors ++ (codes " errors, " ++ (decimal summary.warnings ++ codes " warnings\n"))
@@ -47,11 +53,15 @@ errors_line summary = codes "errors: " ++ (decimal summary.rounds ++ (codes " ro
 
 -- what stands in each report after the first line, before the files
 abbrev pub told_lines : Summary → List ℕ
-told_lines summary = flat_map (message_line summary.processor) summary.messages ++ flat_map unread_line summary.unread
+told_lines summary = message_lines summary.processor summary.messages ++ flat_map unread_line summary.unread
+
+-- what stands in each report before the files
+abbrev pub first_lines : Summary → List ℕ
+first_lines summary = mode_line summary.started ++ told_lines summary
 
 -- the report of a build that is published, for the paths and lengths of its files, ascending by path
 abbrev pub report_of : Summary → List (List ℕ × ℕ) → List ℕ
-report_of summary files = mode_line summary.started ++ (told_lines summary ++ (flat_map file_line files ++ done_line summary (length files)))
+report_of summary files = mode_line summary.started ++ (told_lines summary ++ (file_lines files ++ done_line summary (length files)))
 
 -- the report of a build in which an ERROR was printed
 abbrev pub errors_report : Summary → List ℕ

@@ -12,7 +12,7 @@ use Rattle.apt_host.specs.CleanBuild.{Outcome}
 
 pub data Verdict : Type 0 where
   Done : Verdict
-  -- so many errors were printed
+  -- this many errors were printed
   Errors : (count : ℕ) → Verdict
   Refused : (refusal : Refusal) → Verdict
   -- the object failed

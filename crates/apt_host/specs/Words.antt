@@ -22,7 +22,7 @@ abbrev pub request_of : List (List ℕ) → Request
 request_of [] = Bad 0
 request_of (word ∷ words) = if bytes_eq word (codes "build") then build_of words else Bad 0
 
--- the place of a refusal, where the word after so many is no text
+-- the place of a refusal, where the word after this many is no text
 abbrev pub cut_place : Request → ℕ → ℕ
 cut_place (Build processor) count = count
 cut_place (Bad at) count = min at count

@@ -1,18 +1,18 @@
 // One build.
 ghost use Rattle.std.specs.Prelude.{◌≡◌, ◌<◌, ◌^◌, All, IfOk, IfErr, length, map, option_map, true};
 ghost use Rattle.std.specs.List.Sorted.{IsStrictlyIncreasing};
-ghost use Rattle.apt_outside.specs.Count.{Rose, Told};
+ghost use Rattle.apt_outside.specs.Count.{Told};
 ghost use Rattle.round_engine.specs.Clean.{IsPlain, try_of, AreNumbered};
 ghost use Rattle.tree_store.specs.Output.{StoresStand, SameOutside};
 ghost use Rattle.apt_base.specs.Fields.{is_text};
-ghost use Rattle.tree_store.specs.RecordFormat.{record_form};
 ghost use Rattle.tree_store.specs.Storing.{AreDistinct, AreAbsent};
 ghost use Rattle.apt_host.specs.Shown.{shown_processor, build_by};
-ghost use Rattle.apt_host.specs.Verdicts.{verdict, Done, OrFree, is_tree, is_sink, is_children, fails, HasCause};
+ghost use Rattle.apt_host.specs.Verdicts.{verdict, OrFree, is_tree, is_sink, is_children, fails, HasCause};
 ghost use Rattle.apt_host.specs.Endings.{ended, closed, EndsEarly, IsConcluded};
-ghost use Rattle.apt_host.specs.Making.{Makes, TalkedBy, tries_of, name_of, concluded, concluding_report};
-ghost use Rattle.apt_host.specs.Listed.{entry_of, numbered_of, FitsEntry, Places};
-ghost use Rattle.apt_host.specs.Promises.{Answers, OffTable, PublishesClean, Leaves, LeavesUndone, KeepsOutput, Adds, StandsFirst, Reports, Starts, Tries, StartsUnread, TriesUnread, NamesChild, TellsMore, ShowsRun};
+ghost use Rattle.apt_host.specs.Making.{name_of, concluded};
+ghost use Rattle.apt_host.specs.Listed.{numbered_of, FitsEntry};
+ghost use Rattle.apt_host.specs.Promises.{Leaves, LeavesUndone, KeepsOutput, NamesChild};
+ghost use Rattle.apt_host.specs.Builds.{Tries, Starts, StartsFor, TriesOne, NotStarted, NotTried, TellsMore, Shows, Makes, OnTable, Answers, Publishes, PlacesMade, Tells, Reports};
 
 use crate::Status;
 use crate::project::read_units;
@@ -31,7 +31,7 @@ use tree_store::taken_numbers;
 pub enum Ending {
     /// It is published.
     Published,
-    /// So many errors were printed, and nothing is published.
+    /// This many errors were printed, and nothing is published.
     Errors {
         /// How many.
         count: u64,
@@ -56,8 +56,7 @@ fn key_processor(alloc: Global, processor: &Processor<'_>) -> Result<KeyProcesso
 
 fn key_of(alloc: Global, processor: &Option<Processor<'_>>) -> Result<Key, NoMemory>
     ensures plain { IfOk result IsPlain }
-    ensures tries { IfOk result (λ key. map try_of key.processors ≡ tries_of
-        (option_map shown_processor processor.now)) }
+    ensures tries { IfOk result (Tries processor.now) }
 {
     let mut processors = List::new(alloc);
     if let Some(processor) = processor {
@@ -92,16 +91,12 @@ fn make<C: Children>(
     ensures cause { HasCause is_children (ended result) (C.faults children.old) (C.faults children.new) }
     ensures early { IfErr result (λ status. EndsEarly is_children (verdict status)) }
     ensures live { (C.state children.new).live ≡ (C.state children.old).live }
-    ensures starts { Starts (build_by processor.now) (ended result)
-        (C.state children.old) (C.state children.new) }
+    ensures starts { StartsFor C.Children processor.now children.old children.new result }
     ensures says { Told C.tells ((C.state children.new).says ≡ (C.state children.old).says) }
-    ensures tried { Told C.tells (Tries (build_by processor.now)
-        (C.state children.old) (C.state children.new)) }
+    ensures tried { TriesOne C.Children processor.now children.old children.new }
     ensures named { NamesChild (build_by processor.now) (ended result) }
     ensures numbered { IfOk result (λ finished. AreNumbered taken.now finished.files) }
-    ensures made { TalkedBy C.tells (option_map shown_processor processor.now)
-        (Makes (option_map shown_processor processor.now) table
-        (C.state children.old) (C.state children.new) result) }
+    ensures made { Makes C.Children processor.now table children.old children.new result }
 {
     let project = Project {
         key: key_of(alloc, processor)?,
@@ -116,7 +111,7 @@ fn make<C: Children>(
 /// Publishes what a run came to, or tells its errors.
 fn conclude<T: Tree, W: Sink>(
     alloc: Global,
-    processor: &str,
+    name: &str,
     finished: Finished,
     tree: &mut T,
     output: &mut W,
@@ -131,13 +126,10 @@ fn conclude<T: Tree, W: Sink>(
     ensures concluded { IsConcluded (closed result) }
     ensures answer { OrFree (concluded finished) (closed result) }
     ensures tree_fails { fails is_tree (closed result) ≡ true → finished.errors ≡ 0 }
-    ensures placed { Told T.tells (closed result ≡ Done → Places (map numbered_of finished.files)
-        (record_form (map entry_of finished.files)) (T.files tree.old) (T.files tree.new)) }
+    ensures placed { PlacesMade T.Tree finished tree.old tree.new result }
     ensures leaves { Told T.tells (LeavesUndone (closed result) (T.files tree.old) (T.files tree.new)) }
     ensures outside { Told T.tells (SameOutside (T.files tree.old) (T.files tree.new)) }
-    ensures written { Told W.tells (Adds (StandsFirst T.tells (concluding_report processor.now finished)
-        (map numbered_of finished.files) (closed result) (T.files tree.old) (T.files tree.new))
-        (W.written output.old) (W.written output.new)) }
+    ensures written { Tells T.Tree W.Sink name.now finished tree.old tree.new output.old output.new result }
 {
     let Finished {
         errors,
@@ -157,10 +149,10 @@ fn conclude<T: Tree, W: Sink>(
         unread,
     };
     if errors > 0 {
-        tell_errors(alloc, processor, &summary, output)?;
+        tell_errors(alloc, name, &summary, output)?;
         return Ok(Ending::Errors { count: errors });
     }
-    let written = spell(alloc, processor, &summary, files)?;
+    let written = spell(alloc, name, &summary, files)?;
     publish(alloc, tree, &written, output)?;
     Ok(Ending::Published)
 }
@@ -177,35 +169,23 @@ pub fn build<T: Tree, C: Children, W: Sink>(
     ensures children { HasCause is_children (closed result) (C.faults children.old) (C.faults children.new) }
     ensures sink_cause { HasCause is_sink (closed result) (W.faults output.old) (W.faults output.new) }
     ensures live { (C.state children.new).live ≡ (C.state children.old).live }
-    ensures starts { Starts (build_by processor.entry) (closed result)
-        (C.state children.old) (C.state children.new) }
+    ensures starts { Starts C.Children processor.entry children.old children.new result }
     ensures says { Told C.tells ((C.state children.new).says ≡ (C.state children.old).says) }
-    ensures tried { Told C.tells (Tries (build_by processor.entry)
-        (C.state children.old) (C.state children.new)) }
-    ensures starts_unread { Told T.tells (StartsUnread (build_by processor.entry)
-        (T.files tree.old) (C.state children.old) (C.state children.new)) }
-    ensures tries_unread { Told T.tells (Told C.tells (TriesUnread (build_by processor.entry)
-        (T.files tree.old) (C.state children.old) (C.state children.new))) }
+    ensures tried { TriesOne C.Children processor.entry children.old children.new }
+    ensures starts_unread { NotStarted T.Tree C.Children processor.entry tree.old children.old children.new }
+    ensures tries_unread { NotTried T.Tree C.Children processor.entry tree.old children.old children.new }
     ensures named { NamesChild (build_by processor.entry) (closed result) }
-    ensures on_table { OffTable (build_by processor.entry) (closed result)
-        tree.old tree.new children.old children.new }
-    ensures answer { Answers T.tells C.tells (build_by processor.entry) (C.state children.old).says
-        (T.files tree.old) (closed result) }
-    ensures published { PublishesClean T.tells C.tells (build_by processor.entry) (C.state children.old).says
-        (T.files tree.old) (T.files tree.new) (closed result) }
+    ensures on_table { OnTable processor.entry tree.old tree.new children.old children.new result }
+    ensures answer { Answers T.Tree C.Children processor.entry tree.old children.old result }
+    ensures published { Publishes T.Tree C.Children processor.entry tree.old tree.new children.old result }
     ensures leaves { Told T.tells (Leaves (closed result) (T.files tree.old) (T.files tree.new)) }
     ensures kept { Told T.tells (KeepsOutput (T.files tree.old) (T.files tree.new) (closed result)) }
     ensures stand { Told T.tells (StoresStand (T.files tree.old) → StoresStand (T.files tree.new)) }
     ensures outside { Told T.tells (SameOutside (T.files tree.old) (T.files tree.new)) }
-    ensures more { Told C.tells (TellsMore (build_by processor.entry)
-        (C.state children.old) (C.state children.new)) }
-    ensures shown { Told T.tells (Told C.tells (ShowsRun (build_by processor.entry) (T.files tree.old)
-        (C.state children.old) (C.state children.new) (closed result))) }
-    ensures written { Told W.tells (Adds (Reports T.tells C.tells (build_by processor.entry)
-        (C.state children.old).says
-        (T.files tree.old) (T.files tree.new) (closed result)
-        (Rose (W.faults output.old) (W.faults output.new)))
-        (W.written output.old) (W.written output.new)) }
+    ensures more { TellsMore C.Children processor.entry children.old children.new }
+    ensures shown { Shows T.Tree C.Children processor.entry tree.old children.old children.new result }
+    ensures written { Reports T.Tree C.Children W.Sink processor.entry
+        tree.old tree.new children.old output.old output.new result }
 {
     let table = read_units(alloc, tree)?;
     let taken = taken_numbers(alloc, tree)?;

@@ -1,13 +1,14 @@
 // The top call.
 ghost use Rattle.std.specs.Prelude.{◌≡◌, ◌≤◌, map, string_bytes};
-ghost use Rattle.apt_outside.specs.Count.{Rose, Told};
+ghost use Rattle.apt_outside.specs.Count.{Told};
 ghost use Rattle.tree_store.specs.Output.{StoresStand, SameOutside};
 ghost use Rattle.round_engine.specs.Refusals.{BadWords};
 ghost use Rattle.apt_host.specs.Words.{cut_at};
 ghost use Rattle.apt_host.specs.Shown.{asked};
 ghost use Rattle.apt_host.specs.Verdicts.{verdict, Refused, OrMemory, is_tree, is_sink, is_children, HasCause, is_finished};
 ghost use Rattle.apt_host.specs.Endings.{closed};
-ghost use Rattle.apt_host.specs.Promises.{Answers, OffTable, PublishesClean, Leaves, KeepsOutput, Adds, Reports, IsLine, Writes, Finishes, Starts, Tries, StartsUnread, TriesUnread, NamesChild, TellsMore, ShowsRun};
+ghost use Rattle.apt_host.specs.Promises.{Leaves, KeepsOutput, Finishes, Starts, Tries, NamesChild, TellsMore};
+ghost use Rattle.apt_host.specs.Calls.{NotStarted, NotTried, Shows, OffTable, Answers, Publishes, AddsLine, Reports, Writes};
 
 use crate::Status;
 use crate::build::{Ending, build};
@@ -41,28 +42,20 @@ fn work<T: Tree, C: Children, W: Sink>(
     ensures starts { Starts (asked words.now) (verdict result) (C.state children.old) (C.state children.new) }
     ensures says { Told C.tells ((C.state children.new).says ≡ (C.state children.old).says) }
     ensures tried { Told C.tells (Tries (asked words.now) (C.state children.old) (C.state children.new)) }
-    ensures starts_unread { Told T.tells (StartsUnread (asked words.now)
-        (T.files tree.old) (C.state children.old) (C.state children.new)) }
-    ensures tries_unread { Told T.tells (Told C.tells (TriesUnread (asked words.now)
-        (T.files tree.old) (C.state children.old) (C.state children.new))) }
+    ensures starts_unread { NotStarted T.Tree C.Children words.now tree.old children.old children.new }
+    ensures tries_unread { NotTried T.Tree C.Children words.now tree.old children.old children.new }
     ensures named { NamesChild (asked words.now) (verdict result) }
-    ensures off_table { OffTable (asked words.now) (verdict result)
-        tree.old tree.new children.old children.new }
-    ensures answer { Answers T.tells C.tells (asked words.now) (C.state children.old).says (T.files tree.old)
-        (verdict result) }
-    ensures published { PublishesClean T.tells C.tells (asked words.now) (C.state children.old).says
-        (T.files tree.old) (T.files tree.new) (verdict result) }
+    ensures off_table { OffTable words.now tree.old tree.new children.old children.new result }
+    ensures answer { Answers T.Tree C.Children words.now tree.old children.old result }
+    ensures published { Publishes T.Tree C.Children words.now tree.old tree.new children.old result }
     ensures leaves { Told T.tells (Leaves (verdict result) (T.files tree.old) (T.files tree.new)) }
     ensures kept { Told T.tells (KeepsOutput (T.files tree.old) (T.files tree.new) (verdict result)) }
     ensures stand { Told T.tells (StoresStand (T.files tree.old) → StoresStand (T.files tree.new)) }
     ensures outside { Told T.tells (SameOutside (T.files tree.old) (T.files tree.new)) }
     ensures more { Told C.tells (TellsMore (asked words.now) (C.state children.old) (C.state children.new)) }
-    ensures shown { Told T.tells (Told C.tells (ShowsRun (asked words.now) (T.files tree.old)
-        (C.state children.old) (C.state children.new) (verdict result))) }
-    ensures written { Told W.tells (Adds (Reports T.tells C.tells (asked words.now)
-        (C.state children.old).says (T.files tree.old) (T.files tree.new) (verdict result)
-        (Rose (W.faults output.old) (W.faults output.new)))
-        (W.written output.old) (W.written output.new)) }
+    ensures shown { Shows T.Tree C.Children words.now tree.old children.old children.new result }
+    ensures written { Reports T.Tree C.Children W.Sink words.now
+        tree.old tree.new children.old output.old output.new result }
 {
     match read_words(words) {
         Request::Build { processor } => status_of(build(alloc, processor, tree, children, output)),
@@ -84,9 +77,7 @@ fn is_reported(status: &Status) -> bool
 fn finish<W: Sink>(alloc: Global, status: Status, output: &mut W) -> Status
     ensures status { Finishes (verdict status) (verdict result) }
     ensures later { W.faults output.old ≤ W.faults output.new }
-    ensures line { Told W.tells (Adds (IsLine (verdict result)
-        (Rose (W.faults output.old) (W.faults output.new)))
-        (W.written output.old) (W.written output.new)) }
+    ensures line { AddsLine W.Sink output.old output.new result }
 {
     if is_reported(&status) {
         return status;
@@ -128,21 +119,16 @@ pub fn run<T: Tree, C: Children, R: Source, W: Sink>(
     ensures starts { Starts (asked words.now) (verdict result) (C.state children.old) (C.state children.new) }
     ensures says { Told C.tells ((C.state children.new).says ≡ (C.state children.old).says) }
     ensures tried { Told C.tells (Tries (asked words.now) (C.state children.old) (C.state children.new)) }
-    ensures starts_unread { Told T.tells (StartsUnread (asked words.now)
-        (T.files tree.old) (C.state children.old) (C.state children.new)) }
-    ensures tries_unread { Told T.tells (Told C.tells (TriesUnread (asked words.now)
-        (T.files tree.old) (C.state children.old) (C.state children.new))) }
+    ensures starts_unread { NotStarted T.Tree C.Children words.now tree.old children.old children.new }
+    ensures tries_unread { NotTried T.Tree C.Children words.now tree.old children.old children.new }
     ensures named { NamesChild (asked words.now) (verdict result) }
 
     // The answer is the clean build's, unless it is a fault or want of memory; words that no command has change nothing.
-    ensures off_table { OffTable (asked words.now) (verdict result)
-        tree.old tree.new children.old children.new }
-    ensures answer { Answers T.tells C.tells (asked words.now) (C.state children.old).says (T.files tree.old)
-        (verdict result) }
+    ensures off_table { OffTable words.now tree.old tree.new children.old children.new result }
+    ensures answer { Answers T.Tree C.Children words.now tree.old children.old result }
 
     // What is published is the clean build's; after any other answer the former output stands. Of the tree nothing else changes.
-    ensures published { PublishesClean T.tells C.tells (asked words.now) (C.state children.old).says
-        (T.files tree.old) (T.files tree.new) (verdict result) }
+    ensures published { Publishes T.Tree C.Children words.now tree.old tree.new children.old result }
     ensures leaves { Told T.tells (Leaves (verdict result) (T.files tree.old) (T.files tree.new)) }
     ensures kept { Told T.tells (KeepsOutput (T.files tree.old) (T.files tree.new) (verdict result)) }
     ensures stand { Told T.tells (StoresStand (T.files tree.old) → StoresStand (T.files tree.new)) }
@@ -150,15 +136,11 @@ pub fn run<T: Tree, C: Children, R: Source, W: Sink>(
 
     // A new child is shown exactly the run.
     ensures more { Told C.tells (TellsMore (asked words.now) (C.state children.old) (C.state children.new)) }
-    ensures shown { Told T.tells (Told C.tells (ShowsRun (asked words.now) (T.files tree.old)
-        (C.state children.old) (C.state children.new) (verdict result))) }
+    ensures shown { Shows T.Tree C.Children words.now tree.old children.old children.new result }
 
     // What is written is the clean build's report, or ends in the refusal's line.
-    ensures written { Told W.tells (Writes (Reports T.tells C.tells (asked words.now)
-        (C.state children.old).says (T.files tree.old) (T.files tree.new) (verdict result)
-        (Rose (W.faults output.old) (W.faults output.new)))
-        (IsLine (verdict result) (Rose (W.faults output.old) (W.faults output.new)))
-        (W.written output.old) (W.written output.new)) }
+    ensures written { Writes T.Tree C.Children W.Sink words.now
+        tree.old tree.new children.old output.old output.new result }
 {
     let status = work(alloc, words, tree, children, output);
     finish(alloc, status, output)
@@ -169,9 +151,7 @@ pub fn run<T: Tree, C: Children, R: Source, W: Sink>(
 pub fn refuse_cut_words<W: Sink>(alloc: Global, words: &[String], output: &mut W) -> Status
     ensures answer { OrMemory (Refused (BadWords (cut_at (map string_bytes words.now)))) (verdict result) }
     ensures later { W.faults output.old ≤ W.faults output.new }
-    ensures line { Told W.tells (Adds (IsLine (verdict result)
-        (Rose (W.faults output.old) (W.faults output.new)))
-        (W.written output.old) (W.written output.new)) }
+    ensures line { AddsLine W.Sink output.old output.new result }
 {
     let count = words.len() as u64;
     let at = match read_words(words) {

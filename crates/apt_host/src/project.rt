@@ -44,7 +44,7 @@ fn refused(path: &Name, fault: SourceFault) -> Status
     }
 }
 
-/// Enters a source after so many others.
+/// Enters a source after this many others.
 fn enter_next(
     alloc: Global,
     table: &mut Table,

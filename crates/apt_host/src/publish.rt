@@ -1,5 +1,5 @@
 // Publishes what a run made.
-ghost use Rattle.std.specs.Prelude.{◌≡◌, ◌≢◌, [], ◌<◌, ◌^◌, All, IfOk, IfErr, OnOk, OnErr, length, map, true};
+ghost use Rattle.std.specs.Prelude.{◌≡◌, ◌≢◌, [], ◌<◌, ◌^◌, All, IfOk, IfErr, OnErr, length, map, true};
 ghost use Rattle.apt_base.specs.Fields.{is_text};
 ghost use Rattle.apt_outside.specs.Count.{Told};
 ghost use Rattle.tree_store.specs.RecordFormat.{IsEntry};
@@ -7,9 +7,8 @@ ghost use Rattle.tree_store.specs.Output.{SameOutside};
 ghost use Rattle.tree_store.specs.Storing.{AreDistinct, AreAbsent, AddsToStore};
 ghost use Rattle.apt_host.specs.Verdicts.{verdict, Done, OrFree, is_tree, is_sink, is_output, HasCause};
 ghost use Rattle.apt_host.specs.Endings.{ended, sink_verdict, EndsEarly};
-ghost use Rattle.apt_host.specs.Report.{errors_report};
-ghost use Rattle.apt_host.specs.Listed.{entry_of, entry_with, numbered_of, FitsEntry, summary_of, Spells, Places};
-ghost use Rattle.apt_host.specs.Promises.{Adds, IsFront, StandsFirst};
+ghost use Rattle.apt_host.specs.Listed.{entry_of, entry_with, numbered_of, FitsEntry, summary_of};
+ghost use Rattle.apt_host.specs.Builds.{Spells, Places, AddsErrors, AddsFirst};
 
 use crate::Status;
 use crate::report::{Summary, errors_report, report};
@@ -81,8 +80,7 @@ pub fn spell(
     requires count { length made < 2 ^ 32 }
     requires sizes { All FitsEntry made }
     requires texts { All (λ file. is_text file.path ≡ true) made }
-    ensures { IfOk result (λ written. Spells (summary_of processor.now summary.now)
-        made written.stored written.record_bytes written.report.items) }
+    ensures { IfOk result (Spells (summary_of processor.now summary.now) made) }
 {
     let prepared = prepare(alloc, made)?;
     let report = report(alloc, processor, summary, prepared.entries.as_slice())?;
@@ -113,9 +111,7 @@ pub fn tell_errors<W: Sink>(
     ensures cause { HasCause is_sink (ended result) (W.faults output.old) (W.faults output.new) }
     ensures early { IfErr result (λ status. EndsEarly is_sink (verdict status)) }
     ensures free { OrFree Done (ended result) }
-    ensures written { Told W.tells (Adds
-        (IsFront ⊥ (errors_report (summary_of processor.now summary.now)) (ended result))
-        (W.written output.old) (W.written output.new)) }
+    ensures written { AddsErrors W.Sink processor.now summary.now output.old output.new result }
 {
     let report = errors_report(alloc, processor, summary)?;
     match output.write_all(&report) {
@@ -138,12 +134,10 @@ pub fn publish<T: Tree, W: Sink>(
     ensures sink_cause { HasCause is_sink (ended result) (W.faults output.old) (W.faults output.new) }
     ensures early { IfErr result (λ status. EndsEarly is_output (verdict status)) }
     ensures free { OrFree Done (ended result) }
-    ensures placed { Told T.tells (OnOk result
-        (Places written.now.stored written.now.record_bytes (T.files tree.old) (T.files tree.new))) }
+    ensures placed { Places T.Tree written.now tree.old tree.new result }
     ensures adds { Told T.tells (OnErr result (AddsToStore (T.files tree.old) (T.files tree.new))) }
     ensures outside { Told T.tells (SameOutside (T.files tree.old) (T.files tree.new)) }
-    ensures written { Told W.tells (Adds (StandsFirst T.tells written.now.report.items written.now.stored
-        (ended result) (T.files tree.old) (T.files tree.new)) (W.written output.old) (W.written output.new)) }
+    ensures written { AddsFirst T.Tree W.Sink written.now tree.old tree.new output.old output.new result }
 {
     put_files(alloc, tree, &written.stored)?;
     if let Err(fault) = output.write_all(&written.report) {

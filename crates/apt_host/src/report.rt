@@ -1,9 +1,9 @@
 // The texts of a call.
 ghost use Rattle.std.specs.Prelude.{◌≡◌, ◌++◌, IfOk, OnOk, codes, string_bytes, map};
 ghost use Rattle.std.specs.List.{flat_map};
-ghost use Rattle.apt_host.specs.Report.{mode_line, kind_text, escaped, message_line, unread_line, told_lines, file_line, report_of, errors_report};
+ghost use Rattle.apt_host.specs.Report.{kind_text, escaped, message_line, message_lines, unread_line, first_lines, file_line, file_lines, errors_report};
 ghost use Rattle.apt_host.specs.Verdicts.{verdict, what_text, refusal_of};
-ghost use Rattle.apt_host.specs.Listed.{listed, summary_of};
+ghost use Rattle.apt_host.specs.Listed.{listed, summary_of, report_for};
 
 use crate::Status;
 use apt_base::{List, Name, What};
@@ -90,8 +90,7 @@ fn add_messages(
     processor: &str,
     messages: &[Placed],
 ) -> Result<(), AllocError>
-    ensures { OnOk result (report.new.items ≡ report.old.items ++ flat_map (message_line processor.now)
-        messages.now) }
+    ensures { OnOk result (report.new.items ≡ report.old.items ++ message_lines processor.now messages.now) }
 {
     for placed in messages {
         add_message(alloc, report, processor, placed)?;
@@ -110,8 +109,7 @@ fn add_closing_lines(alloc: Global, report: &mut Vec<u8>, unread: &[Name]) -> Re
 
 /// The mode line, the messages and the closing lines.
 fn told_lines(alloc: Global, processor: &str, summary: &Summary) -> Result<Vec<u8>, AllocError>
-    ensures { IfOk result (λ text. text.items ≡ mode_line summary.now.started ++ told_lines
-        (summary_of processor.now summary.now)) }
+    ensures { IfOk result (λ text. text.items ≡ first_lines (summary_of processor.now summary.now)) }
 {
     let started = summary.started;
     let mode = format!(in alloc; "mode: clean (Full), started {started}\n")?;
@@ -135,7 +133,7 @@ fn add_file(alloc: Global, report: &mut Vec<u8>, file: &StoredFile) -> Result<()
 
 /// The lines of the files, in order.
 fn add_files(alloc: Global, report: &mut Vec<u8>, files: &[StoredFile]) -> Result<(), AllocError>
-    ensures { OnOk result (report.new.items ≡ report.old.items ++ flat_map file_line (map listed files.now)) }
+    ensures { OnOk result (report.new.items ≡ report.old.items ++ file_lines (map listed files.now)) }
 {
     for file in files {
         add_file(alloc, report, file)?;
@@ -150,8 +148,7 @@ pub fn report(
     summary: &Summary,
     files: &[StoredFile],
 ) -> Result<Vec<u8>, AllocError>
-    ensures { IfOk result (λ text. text.items ≡ report_of (summary_of processor.now summary.now)
-        (map listed files.now)) }
+    ensures { IfOk result (λ text. text.items ≡ report_for (summary_of processor.now summary.now) files.now) }
 {
     let mut report = told_lines(alloc, processor, summary)?;
     add_files(alloc, &mut report, files)?;

@@ -5,7 +5,7 @@
 //! | Call | What it does | Its result |
 //! |---|---|---|
 //! | `let NAME PIECE..` | gives these bytes a name, in the place of what had it | `ok` |
-//! | `classes NAME COUNT` | gives this name to the frames that create so many sources, of `p.T0`, `p.T1` and so on | `ok` |
+//! | `classes NAME COUNT` | gives this name to the frames that create this many sources, of `p.T0`, `p.T1` and so on | `ok` |
 //! | `tree NUMBER..` | begins an empty tree, whose calls of these numbers fail | `ok` |
 //! | `put PATH PIECE..` | puts a file into the tree | `ok` |
 //! | `sink NUMBER..` | has the calls of these numbers of the next build's output fail | `ok` |

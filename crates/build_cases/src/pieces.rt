@@ -76,7 +76,7 @@ fn created_class(alloc: Global, number: u32) -> Result<Vec<u8>, CaseFault> {
     Ok(fields)
 }
 
-/// The frames that create the sources of so many classes.
+/// The frames that create the sources of this many classes.
 pub fn created_classes(alloc: Global, count: u32) -> Result<Vec<u8>, CaseFault> {
     let mut bytes = Vec::new(alloc);
     for number in 0..count {

@@ -5,7 +5,7 @@ use Rattle.apt_outside.specs.Child.{Says, Child, State, Changes, Sends, written_
 use Rattle.wire_frames.specs.declared.frame.Frame.{Frame}
 use Rattle.wire_frames.specs.Readings.{frame_at}
 use Rattle.child_session.specs.Talk.{Stream, rest_after, frame_behind, answer_to, HasAnswered, Exchanged, Exchanges, FindsFrame, TakesFrame}
-use Rattle.child_session.proofs.FrameLemmas.{rest_after-append, rest_after-next}
+use Rattle.child_session.proofs.FramesInFront.{rest_after-append, rest_after-next}
 
 -- where the frame before it is answered, what waits begins with the answer
 next_answer : (stream : Stream) (sent : List (List ℕ)) (frame : List ℕ) (waiting : List ℕ) → rest_after (length sent) (stream (sent ++ frame ∷ [])) ≡ Some waiting → answer_to stream (sent ++ frame ∷ []) ≡ option_map (λ x. x.0) (frame_at waiting)

@@ -1,4 +1,4 @@
-pub mod FrameLemmas
+pub mod FramesInFront
 pub mod Taking
 pub mod Answering
 pub mod Rounds

@@ -4,7 +4,7 @@ use Rattle.apt_outside.specs.Child.{Child, Known, State, Changes, Attends}
 use Rattle.wire_frames.specs.declared.frame.Frame.{Frame}
 use Rattle.wire_frames.specs.Readings.{frame_at, length_of, child_frame}
 use Rattle.child_session.specs.Talk.{TakesBytes, TakesMore, WantsMore, FindsFrame, TakesFrame}
-use Rattle.child_session.proofs.FrameLemmas.{frame_at-short, frame_at-none, frame_at-cut, frame_at-whole}
+use Rattle.child_session.proofs.FramesInFront.{frame_at-short, frame_at-none, frame_at-cut, frame_at-whole}
 
 pub changes_self : (child : ℕ) (known : Known) → Changes child known known
 changes_self child known = record { others = λ k ne. refl; same_child = λ before is. (before, is, refl, refl) }
@@ -17,9 +17,6 @@ changes_then child a b c first second = record {
       let last = second.same_child mid.0 mid.1 in
       (last.0, last.1, last.2 ∙ mid.2, last.3 ∙ mid.3);
 }
-
-pub attends_self : (child : ℕ) (state : State) → Attends child state state
-attends_self child state = record { same_says = refl; same_tried = refl; change = changes_self child state.known }
 
 pub attends_then : (child : ℕ) (a b c : State) → Attends child a b → Attends child b c → Attends child a c
 attends_then child a b c first second = record {
@@ -44,9 +41,6 @@ takes_then child a b c xs ys first second = record {
 takes_none : (o : Option Child) → IfSome o (λ before. IsSomeAnd o (λ after. (after.sent ≡ before.sent) × (before.waiting ≡ [] ++ after.waiting)))
 takes_none None = tt
 takes_none (Some c) = (refl, refl)
-
-pub takes_nothing : (child : ℕ) (state : State) → TakesBytes child state state []
-takes_nothing child state = record { split = takes_none (state.known child) }
 
 pub more_then : (child : ℕ) (a b c : State) (old new : List ℕ) → TakesBytes child a b old → TakesMore child b c old new → TakesBytes child a c new
 more_then child a b c old new first second = subst (TakesBytes child a c) (sym second.added) (takes_then child a b c old second.more first second.taken)

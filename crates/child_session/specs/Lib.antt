@@ -1,3 +1,4 @@
 pub mod Faults
 pub mod Talk
 pub mod Round
+pub mod Moments

@@ -16,7 +16,7 @@ use Rattle.child_session.specs.declared.round.Request.{Request}
 use Rattle.child_session.specs.declared.round.Request.TheVariants.{Create, Print}
 use Rattle.child_session.specs.declared.round.Turn.{Turn}
 use Rattle.child_session.specs.declared.round.Turn.TheVariants.{Ends, Asks, Leaves}
-use Rattle.child_session.specs.Talk.{Stream, answer_to, HasAnswered, WasAnswered}
+use Rattle.child_session.specs.Talk.{Stream, answer_to, HasAnswered, WasAnswered, Exchanges}
 
 -- ---- what a frame means in a round
 
@@ -55,6 +55,10 @@ printed_after printed (Print message) = printed ++ message ∷ []
 abbrev pub reply_frame : Filings → Request → List ℕ
 reply_frame filings request = spelling (frame.Reply (reply_to filings request))
 
+-- the reply to a request was sent, and this is the answer to it
+abbrev pub Replies : ℕ → Filings → Request → State → State → Option Frame → Type 0
+Replies child filings request old new answer = Exchanges child (reply_frame filings request) old new answer
+
 -- ---- what a round comes to
 
 -- the frames that the child was sent in the end, what the filer has by then, and what the child printed in this round
@@ -71,12 +75,12 @@ after_turn Ends sent filings printed go = Answered sent filings printed
 after_turn (Asks request) sent filings printed go = go (sent ++ reply_frame filings request ∷ []) (filed_after filings request) (printed_after printed request)
 after_turn Leaves sent filings printed go = Broken sent filings
 
--- the answer to the frames that were sent, where the child may ask so many times more
+-- the answer to the frames that were sent, where the child may ask this many times more
 unfoldable pub round_from : Stream → ℕ → List (List ℕ) → Filings → List Message → Act
 round_from stream zero sent filings printed = after_turn (turn_at (answer_to stream sent)) sent filings printed (λ s f m. Overasked sent filings)
 round_from stream (suc left) sent filings printed = after_turn (turn_at (answer_to stream sent)) sent filings printed (round_from stream left)
 
--- the answer to a round, sent after these frames, in which the child may ask so many times
+-- the answer to a round, sent after these frames, in which the child may ask this many times
 abbrev pub answer_of_round : Stream → ℕ → List (List ℕ) → List ℕ → Filings → Act
 answer_of_round stream limit sent round filings = round_from stream limit (sent ++ round ∷ []) filings []
 
@@ -100,7 +104,7 @@ pub record Showing : Type 0 where
   pub limit : ℕ
   pub round : List ℕ
 
--- a round with this frame, in which the child may ask so many times
+-- a round with this frame, in which the child may ask this many times
 abbrev pub showing_of : ℕ → List ℕ → Showing
 showing_of limit round = record { limit = limit; round = round }
 

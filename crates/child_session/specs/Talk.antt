@@ -9,12 +9,12 @@ use Rattle.wire_frames.specs.Readings.{frame_at}
 abbrev pub Stream : Type 0
 Stream = List (List ℕ) → List ℕ
 
--- what follows so many whole frames
+-- what follows this many whole frames
 unfoldable pub rest_after : ℕ → List ℕ → Option (List ℕ)
 rest_after zero bytes = Some bytes
 rest_after (suc n) bytes = option_and_then (λ x. rest_after n x.1) (frame_at bytes)
 
--- the whole frame that stands behind so many others, and what follows it
+-- the whole frame that stands behind this many others, and what follows it
 abbrev pub frame_behind : ℕ → List ℕ → Option (Frame × List ℕ)
 frame_behind n bytes = option_and_then frame_at (rest_after n bytes)
 
@@ -60,7 +60,7 @@ EndsAtNone child old n = n ≡ 0 → IfSome (old.known child) (λ before. before
 pub record WantsMore (child : ℕ) (old new : State) (count : ℕ) : Type 0 where
   pub few : OfChild child old new (λ before after. (after.sent ≡ before.sent) × (length before.waiting < count))
 
--- so many bytes were taken, or there are fewer
+-- this many bytes were taken, or there are fewer
 abbrev pub TakesCount : ℕ → ℕ → State → State → Option (Vec ℕ Global) → Type 0
 TakesCount child count old new None = WantsMore child old new count
 TakesCount child count old new (Some bytes) = (length bytes.items ≡ count) × TakesBytes child old new bytes.items

@@ -1,8 +1,9 @@
 // Takes bytes and frames from a child.
-ghost use Rattle.std.specs.Prelude.{◌≡◌, ◌<◌, ◌≤◌, ◌+◌, length, Contains, IfOk, OnOk, IfSome};
+ghost use Rattle.std.specs.Prelude.{◌≡◌, ◌<◌, ◌≤◌, ◌+◌, length, Contains, IfOk, IfSome};
 ghost use Rattle.apt_outside.specs.Count.{HasCause, Told};
 ghost use Rattle.apt_outside.specs.Child.{Attends};
-ghost use Rattle.child_session.specs.Talk.{TakesMore, EndsAtNone, TakesCount, TakesFrame, Exchanges};
+ghost use Rattle.child_session.specs.Talk.{EndsAtNone, TakesCount, TakesFrame, Exchanges};
+ghost use Rattle.child_session.specs.Moments.{Gives, AddsTaken};
 
 use apt_outside::{Children, Fault};
 use std::alloc::Global;
@@ -25,8 +26,7 @@ fn receive_more<C: Children>(
     ensures attends { Told C.tells (Attends child (C.state children.old) (C.state children.new)) }
     ensures fits { IfOk result (λ n. n ≤ length room.old) }
     ensures counted { IfOk result (λ n. length bytes.new.items ≡ length bytes.old.items + n) }
-    ensures taken { Told C.tells (OnOk result
-        (TakesMore child (C.state children.old) (C.state children.new) bytes.old.items bytes.new.items)) }
+    ensures taken { AddsTaken C.Children child children.old children.new bytes.old bytes.new result }
     ensures ended { Told C.tells (IfOk result (EndsAtNone child (C.state children.old))) }
 {
     let got = children.receive(child, room)?;
@@ -47,8 +47,7 @@ fn receive_bytes<C: Children>(
     ensures live { (C.state children.new).live ≡ (C.state children.old).live }
     ensures attends { Told C.tells (Attends child (C.state children.old) (C.state children.new)) }
     ensures counted { IfOk result (λ found. IfSome found (λ bytes. length bytes.items ≡ count)) }
-    ensures taken { Told C.tells (IfOk result
-        (TakesCount child count (C.state children.old) (C.state children.new))) }
+    ensures taken { Gives C.Children children.old children.new result (TakesCount child count) }
 {
     let mut room = [0u8; ROOM];
     let mut bytes = Vec::new(alloc);
@@ -73,8 +72,7 @@ fn read_frame<C: Children>(
     ensures starts { (C.state children.new).starts ≡ (C.state children.old).starts }
     ensures live { (C.state children.new).live ≡ (C.state children.old).live }
     ensures attends { Told C.tells (Attends child (C.state children.old) (C.state children.new)) }
-    ensures taken { Told C.tells (IfOk result
-        (TakesFrame child (C.state children.old) (C.state children.new))) }
+    ensures taken { Gives C.Children children.old children.new result (TakesFrame child) }
 {
     let Some(head) = receive_bytes(alloc, children, child, 4)? else {
         return Ok(None);
@@ -103,8 +101,7 @@ pub fn exchange<C: Children>(
     ensures starts { (C.state children.new).starts ≡ (C.state children.old).starts }
     ensures live { (C.state children.new).live ≡ (C.state children.old).live }
     ensures attends { Told C.tells (Attends child (C.state children.old) (C.state children.new)) }
-    ensures answer { Told C.tells (IfOk result
-        (Exchanges child frame.now (C.state children.old) (C.state children.new))) }
+    ensures answer { Gives C.Children children.old children.new result (Exchanges child frame.now) }
 {
     children.send(child, frame)?;
     read_frame(alloc, children, child)

@@ -5,8 +5,8 @@ ghost use Rattle.wire_frames.specs.Frames.{spelling};
 ghost use Rattle.wire_frames.specs.declared.frame.Frame.TheVariants as frames;
 ghost use Rattle.child_session.specs.Faults.{HasReason, IsFree};
 ghost use Rattle.apt_outside.specs.Child.{Attends};
-ghost use Rattle.child_session.specs.Talk.{Exchanges};
-ghost use Rattle.child_session.specs.Round.{showing_of, turn_at, reply_to, reply_frame, filed_after, printed_after, Shows};
+ghost use Rattle.child_session.specs.Round.{turn_at, reply_to, filed_after, printed_after, Replies};
+ghost use Rattle.child_session.specs.Moments.{Gives, Shows};
 
 use crate::SessionFault;
 use crate::receiving::exchange;
@@ -97,8 +97,7 @@ fn take_turn<C: Children>(
     ensures filed { OnOk result (filer.new ≡ filed_after filer.old request) }
     ensures printed { OnOk result (printed.new ≡ printed_after printed.old request) }
     ensures free { IsFree result }
-    ensures answer { Told C.tells (IfOk result
-        (Exchanges child (reply_frame filer.old request) (C.state children.old) (C.state children.new))) }
+    ensures answer { Gives C.Children children.old children.new result (Replies child filer.old request) }
 {
     let reply = serve(filer, printed, request)?;
     let frame = reply_bytes(alloc, reply)?;
@@ -123,8 +122,7 @@ pub fn show_round<C: Children>(
     ensures starts { (C.state children.new).starts ≡ (C.state children.old).starts }
     ensures live { (C.state children.new).live ≡ (C.state children.old).live }
     ensures attends { Told C.tells (Attends child (C.state children.old) (C.state children.new)) }
-    ensures shown { Told C.tells (Shows child (showing_of limit round.now)
-        (C.state children.old) (C.state children.new) filer.old filer.new result) }
+    ensures shown { Shows C.Children child limit round.now children.old children.new filer.old filer.new result }
 {
     let mut printed = List::new(alloc);
     let mut answer = exchange(alloc, children, child, round)?;

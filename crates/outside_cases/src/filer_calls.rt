@@ -19,7 +19,7 @@ pub fn name_test(alloc: Global, call: &str, name: &str) -> Result<String, CaseFa
     Ok(String::from_str(alloc, yes_or_no(holds))?)
 }
 
-// So many bytes, each 0.
+// This many bytes, each 0.
 fn content(alloc: Global, length: &str) -> Result<List<u8>, CaseFault> {
     let length = length.parse::<u32>()?;
     Ok(List::from_vec(vec![in alloc; 0; length as usize]?))

@@ -20,8 +20,8 @@ use apt_filer::Filer;
 use apt_outside::{MemorySink, MemorySource, MemoryTree, ScriptChildren};
 use base::List;
 use case_lines::{Calls, CaseFault, run};
+use round_engine::Files;
 use std::alloc::Global;
-use std::collections::BTreeMap;
 use std::process::ExitCode;
 
 /// The objects on which the lines act.
@@ -35,7 +35,7 @@ struct Outside {
     room: Vec<u8>,
     filer: Filer,
     // the files that are to be numbered
-    made: BTreeMap<String, Vec<u8>>,
+    made: Files,
 }
 
 impl Outside {
@@ -49,7 +49,7 @@ impl Outside {
             children: ScriptChildren::new(alloc, Vec::new(alloc)),
             room: Vec::new(alloc),
             filer: Filer::new(alloc, &List::new(alloc))?,
-            made: BTreeMap::new(alloc),
+            made: Files::new(alloc),
         })
     }
 

@@ -3,9 +3,8 @@ use crate::Outside;
 use crate::answers::{fault_of, ok, refused};
 use crate::base::List;
 use case_lines::{CaseFault, escaped, joined, text, text_bytes};
-use round_engine::{Made, number_files};
+use round_engine::{Files, Made, number_files};
 use std::alloc::Global;
-use std::collections::BTreeMap;
 use std::mem;
 use tree_store::taken_numbers;
 
@@ -37,7 +36,7 @@ impl Outside {
 
     // Numbers the files that were put, which then are no more.
     fn give_numbers(&mut self, alloc: Global) -> Result<String, CaseFault> {
-        let made = mem::replace(&mut self.made, BTreeMap::new(alloc));
+        let made = mem::replace(&mut self.made, Files::new(alloc));
         match taken_numbers(alloc, &mut self.tree) {
             Ok(taken) => made_word(alloc, &number_files(alloc, taken.as_slice(), made)?),
             Err(fault) => refused(alloc, fault_of(fault)),

@@ -4,7 +4,7 @@ use Rattle.std.specs.List.{position_or_len, onto_first}
 use Rattle.std.specs.Str.{IsUtf8}
 use Rattle.std.proofs.lemmas.Bool.{eqb-true, false_from_ne_true}
 use Rattle.apt_base.specs.Identifiers.{is_dotted}
-use Rattle.apt_base.proofs.Fields.{is_text-of_utf8, is_text-fails}
+use Rattle.apt_base.proofs.FieldsLemmas.{is_text-of_utf8, is_text-fails}
 use Rattle.processor_claims.specs.Lines.{is_line_end, lines_behind, lines, lines_after, is_blank, trimmed_front, trimmed_end, onto_trimmed, content, onto_said, said, name_in, first_bad, readings}
 
 -- a text that is not empty begins with its first line

@@ -60,7 +60,7 @@ asked_from number claimers offer (processor ∷ later) (contributed ∷ rest) cl
 unfoldable pub asked : List Supported → List Bool → List (List ℕ) → Bool → List Bool → List (ℕ × List ℕ)
 asked processors contributed present last claims = asked_from 0 [] (offer_of present last) processors contributed claims
 
--- each number is one of so many processors, and each position one of so many names
+-- each number is one of this many processors, and each position one of this many names
 abbrev pub AreWithin : ℕ → ℕ → List (ℕ × List ℕ) → Type 0
 AreWithin processors names [] = Unit {0}
 AreWithin processors names (one ∷ later) = ((one.0 < processors) × AllByRecursion (λ at. at < names) one.1) × AreWithin processors names later

@@ -49,7 +49,11 @@ waiting_count turn = length turn.waiting.items
 abbrev pub StandsFor : Turn → (List Bool → List (ℕ × List ℕ)) → Type 0
 StandsFor turn asked = (claimed : Bool) (claims : List Bool) → coming turn claimed claims ≡ asked claims
 
--- whatever is answered, those that are asked are among so many processors, and offered some of so many names
+-- the same, of a turn
+abbrev pub IsComing : (List Bool → List (ℕ × List ℕ)) → Turn → Type 0
+IsComing asked turn = StandsFor turn asked
+
+-- whatever is answered, those that are asked are among this many processors, and offered some of this many names
 abbrev pub IsWithin : ℕ → ℕ → Turn → Type 0
 IsWithin processors names turn = (claimed : Bool) (claims : List Bool) → AreWithin processors names (coming turn claimed claims)
 

@@ -2,7 +2,7 @@
 ghost use Rattle.std.specs.Prelude.{◌≡◌, ◌==◌, ◌&&◌, ◌<◌, ◌≤◌, ◌^◌, ℕ, Bool, List, true, false, [], not, length, filter, slice_set, if◌then◌else◌, IfOk, IfNone, IfSome, OnSome};
 ghost use Rattle.processor_claims.specs.Patterns.{supports, supports_all};
 ghost use Rattle.processor_claims.specs.Asked.{asked, offer_of, positions};
-ghost use Rattle.processor_claims.specs.Turns.{offered, is_open, claimed_at, asks, waiting_count, with_asked, StandsFor, IsWithin, IsOver, Asks, AsksNobody, TakesAnswer};
+ghost use Rattle.processor_claims.specs.Turns.{offered, is_open, claimed_at, asks, waiting_count, with_asked, IsComing, IsWithin, IsOver, Asks, AsksNobody, TakesAnswer};
 ghost use Rattle.processor_claims.specs.Candidates.{candidate_of, candidates_of};
 
 use crate::supported::{supports, supports_all};
@@ -149,8 +149,7 @@ impl Turn {
         requires same { length processors.now ≡ length contributed.now }
         requires few { length processors.now ≤ 64 }
         requires names { length present.now < 2 ^ 32 }
-        ensures coming { IfOk result (λ turn.
-            StandsFor turn (asked processors.now contributed.now present.now last)) }
+        ensures coming { IfOk result (IsComing (asked processors.now contributed.now present.now last)) }
         ensures within { IfOk result (λ turn. IsWithin (length processors.now) (length present.now) turn) }
         ensures nothing { IfOk result (λ turn. offered turn ≡ []) }
         ensures waiting { IfOk result (λ turn. waiting_count turn ≡ length processors.now) }

@@ -1,8 +1,9 @@
 pub mod NameSets
-pub mod NumberLemmas
-pub mod RoundLemmas
-pub mod EnterLemmas
-pub mod MessageLemmas
+pub mod NumberingLemmas
+pub mod RunsOfRounds
+pub mod EnteringLemmas
+pub mod PlacedMessages
 pub mod Sessions
 pub mod Creations
 pub mod CleanLemmas
+mod LentFiles

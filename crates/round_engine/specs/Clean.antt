@@ -1,8 +1,8 @@
 -- The clean run over a project, from nothing.
 use Rattle.std.specs.Prelude.{◌≡◌, ℕ, ◌==◌, ◌+◌, ◌≤◌, ◌<◌, ◌^◌, ◌||◌, Bool, true, List, [], ◌∷◌, length, take, map, filter, All, Result, Ok, Err, IfErr, IfSome}
 use Rattle.std.specs.FinMap as fin
-use Rattle.apt_base.specs.Fields.{is_text}
 use Rattle.apt_outside.specs.Count.{Told}
+use Rattle.apt_outside.specs.declared.children.Children as children
 use Rattle.apt_outside.specs.Files.{Files}
 use Rattle.apt_outside.specs.Child.{Says, Try, State, AllKept}
 use Rattle.wire_frames.specs.declared.frame.Creation.{Creation}
@@ -10,6 +10,8 @@ use Rattle.wire_frames.specs.declared.frame.Message.{Message}
 use Rattle.round_engine.specs.declared.messages.Placed.{Placed}
 use Rattle.round_engine.specs.declared.project.Key.{Key}
 use Rattle.round_engine.specs.declared.project.KeyProcessor.{KeyProcessor}
+use Rattle.round_engine.specs.declared.project.Project.{Project}
+use Rattle.round_engine.specs.declared.rounds.Rounds.{Rounds}
 use Rattle.round_engine.specs.declared.numbering.Made.{Made}
 use Rattle.round_engine.specs.declared.running.Finished as declared
 use Rattle.round_engine.specs.declared.refusal.Refusal as code
@@ -17,6 +19,7 @@ use Rattle.round_engine.specs.Refusals.{named_by}
 use Rattle.round_engine.specs.Faults.{stop_of, is_due}
 use Rattle.element_table.specs.TypeTable.{TypeTable}
 use Rattle.round_engine.specs.Numbering.{AreLeast}
+use Rattle.round_engine.specs.Numbered.{shown_made, number_of, HasText, IsWritten, Fits}
 use Rattle.round_engine.specs.Shown.{ShowsNew, TellsOneMore, TriedOnce, StopsAs}
 use Rattle.round_engine.specs.Run.{Run, Finished, Refused, level, files_among, run_of}
 
@@ -52,19 +55,24 @@ count_of p messages = length (filter (λ placed. p placed.message) messages)
 -- files that are ready for the store: they ascend by path, and each has the least number that is left, and room in its fields
 pub record AreNumbered (taken : List ℕ) (files : List Made) : Type 0 where
   pub published : Files
-  pub entries : map (λ (file : Made). (file.path, file.bytes)) files ≡ fin.entries published
-  pub numbers : AreLeast taken [] (map (λ (file : Made). file.store) files)
-  pub texts : All (λ (file : Made). is_text file.path ≡ true) files
+  pub entries : map shown_made files ≡ fin.entries published
+  pub numbers : AreLeast taken [] (map number_of files)
+  pub texts : All HasText files
   -- each is to be written: none is left of an earlier build
-  pub written : All (λ (file : Made). file.written ≡ true) files
+  pub written : All IsWritten files
   pub count : length files < 2 ^ 32
-  pub sizes : All (λ (file : Made). (file.store < 2 ^ 32) × (length file.path < 2 ^ 32) × (length file.bytes < 2 ^ 32)) files
+  pub sizes : All Fits files
 
 -- what a finished run has of what was made: its files, ascending by path, and how many errors and warnings there were
 pub record Has (made : List Creation) (finished : declared.Finished) : Type 0 where
-  pub files : map (λ (file : Made). (file.path, file.bytes)) finished.files ≡ fin.entries (files_among made)
+  pub files : map shown_made finished.files ≡ fin.entries (files_among made)
   pub errors : finished.errors ≡ count_of is_error finished.messages
   pub warnings : finished.warnings ≡ count_of is_warning finished.messages + length finished.unread
+
+-- it has of the rounds what they came to
+abbrev pub Closes : Rounds → ℕ → declared.Finished → Type 0
+Closes rounds started finished =
+    (finished.rounds ≡ rounds.count) × (finished.messages ≡ rounds.messages) × (finished.unread ≡ rounds.unread) × (finished.started ≡ started)
 
 -- the frames that a run sent
 abbrev pub frames_of : Run → List (List ℕ)
@@ -111,6 +119,11 @@ pub record Cleans (processors : List KeyProcessor) (table : TypeTable) (old new 
 abbrev pub Talked : Bool → List KeyProcessor → Type 0 → Type 0
 Talked talks [] P = P
 Talked talks (processor ∷ others) P = Told talks P
+
+-- the same of a project, over children before and after a call
+abbrev pub CleansOver : {C : Type 0} → children.Ghosts C → Project → C → C → Result declared.Finished code.Refusal → Type 0
+CleansOver c project old new result =
+    Talked c.tells project.key.processors (Cleans project.key.processors project.initial (c.state old) (c.state new) result)
 
 -- ---- starts and counts
 

@@ -13,7 +13,7 @@ use Rattle.round_engine.specs.declared.refusal.Refusal as declared
 use Rattle.round_engine.specs.Refusals.{Refusal, Stop, Refused, Failed, Memory}
 use Rattle.round_engine.specs.Faults.{stop_of}
 use Rattle.round_engine.specs.Names.{NameSet}
-use Rattle.round_engine.specs.Units.{Obstacle, Unbuilt, Duplicate, TooLarge, Entered, Gathered, refusal_at}
+use Rattle.round_engine.specs.Units.{Obstacle, Unbuilt, Duplicate, TooLarge, Entered, Gathered, refusal_at, enter_created}
 
 -- the table did not take a unit, which comes back
 abbrev pub Reports : EnterFault → SourceFault → Type 0
@@ -66,6 +66,10 @@ of_source path code.Memory = Memory
 abbrev pub Gathers : Result Gathered Refusal → TypeTable → NameSet → Result Unit declared.Refusal → Type 0
 Gathers outcome table roots (Ok done) = outcome ≡ Ok (record { table = table; roots = roots })
 Gathers outcome table roots (Err refusal) = RefusesAs outcome (stop_of refusal)
+
+-- the source at this path was entered
+abbrev pub GathersSource : List ℕ → List ℕ → TypeTable → NameSet → TypeTable → NameSet → Result Unit declared.Refusal → Type 0
+GathersSource path content table roots table' roots' result = Gathers (enter_created (gathered table roots) (path, content)) table' roots' result
 
 -- all were entered, and these are the names of the new units, or the first that can't be is refused
 abbrev pub EntersAll : Result Entered Refusal → TypeTable → Result (List (List ℕ)) declared.Refusal → Type 0

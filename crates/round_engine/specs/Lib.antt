@@ -1,3 +1,4 @@
+pub mod Held
 pub mod Limits
 pub mod Names
 pub mod Refusals
@@ -6,5 +7,7 @@ pub mod Run
 pub mod Faults
 pub mod Entering
 pub mod Shown
+pub mod Moments
 pub mod Numbering
+pub mod Numbered
 pub mod Clean

@@ -9,6 +9,7 @@ use Rattle.source_form.specs.Form.{is_chain}
 use Rattle.apt_base.specs.declared.kinds.Claim.{Claim}
 use Rattle.apt_base.specs.declared.kinds.Claim.TheVariants.{Always}
 use Rattle.wire_frames.specs.declared.frame.Frame.{Frame}
+use Rattle.wire_frames.specs.declared.frame.Hello.{Hello}
 use Rattle.wire_frames.specs.declared.frame.Frame.TheVariants as frame
 use Rattle.wire_frames.specs.declared.frame.Creation.{Creation}
 use Rattle.wire_frames.specs.declared.frame.Creation.TheVariants as creation
@@ -37,8 +38,11 @@ abbrev pub one_pattern : List (List ℕ) → List (List ℕ) → Claim → Optio
 one_pattern (pattern ∷ []) [] Always = if is_chain pattern then Some pattern else None
 one_pattern patterns options claim = None
 
+abbrev pub pattern_in : Hello → Option (List ℕ)
+pattern_in hello = one_pattern hello.patterns hello.options hello.claim
+
 abbrev pub pattern_of : Option Frame → Option (List ℕ)
-pattern_of (Some (frame.Hello hello)) = one_pattern hello.patterns hello.options hello.claim
+pattern_of (Some (frame.Hello hello)) = pattern_in hello
 pattern_of other = None
 
 -- ---- rounds
@@ -59,9 +63,13 @@ pub record Progress : Type 0 where
 
 -- ---- one round
 
+-- the pattern, where its name is present
+abbrev pub offered_if : Bool → List ℕ → List (List ℕ)
+offered_if present pattern = if present then pattern ∷ [] else []
+
 -- The present names that the processor supports are offered to it. The last round has no roots, and so no names.
 abbrev pub offered : List ℕ → Round → List (List ℕ)
-offered pattern r = if is_present r.table r.roots pattern then pattern ∷ [] else []
+offered pattern r = offered_if (is_present r.table r.roots pattern) pattern
 
 -- it is asked where its annotation is present, and where it was asked before
 abbrev pub is_asked : List ℕ → Round → Bool → Bool
@@ -142,7 +150,7 @@ unread_among made = names_in (gathered with_unread fin.empty made)
 
 -- a run, with the frames that its child was sent
 pub data Run : Type 0 where
-  -- so many rounds, the files, the messages, and the sources of the last round by their names
+  -- this many rounds, the files, the messages, and the sources of the last round by their names
   Finished : (sent : List (List ℕ)) (rounds : ℕ) (made : List Creation) (messages : List Placed) (unread : List (List ℕ)) → Run
   Refused : (sent : List (List ℕ)) (refusal : Refusal) → Run
 
@@ -182,7 +190,7 @@ round_then processor stream pattern r sent p go = after_act processor r.roots (a
     after_round processor stream pattern r sent' (progress pattern r p filings printed) (new_since p.filings filings) printed (λ entered.
     go (next_of (suc r.number) entered) sent' (progress pattern r p filings printed)))
 
--- the rounds from one on that is not the last, where so many rounds may come that are not the last
+-- the rounds from one on that is not the last, where this many rounds may come that are not the last
 unfoldable pub rounds_from : List ℕ → Stream → List ℕ → ℕ → Round → List (List ℕ) → Progress → Run
 rounds_from processor stream pattern zero r sent p = Refused sent TooManyRounds
 rounds_from processor stream pattern (suc left) r sent p = round_then processor stream pattern r sent p (rounds_from processor stream pattern left)

@@ -2,7 +2,9 @@
 use Rattle.std.specs.Prelude.{◌≡◌, ◌⊎◌, ◌+◌, ◌≤◌, ℕ, Bool, true, List, [], ◌∷◌, ◌++◌, None, Some, Result, Ok, Err, IsSomeAnd}
 use Rattle.apt_outside.specs.Child.{Says, Try, Child, State, begun, OthersKept, AllKept}
 use Rattle.apt_filer.specs.Filing.{Filings}
+use Rattle.wire_frames.specs.declared.frame.Frame.TheVariants as frame
 use Rattle.wire_frames.specs.declared.frame.Message.{Message}
+use Rattle.wire_frames.specs.Frames.{spelling}
 use Rattle.child_session.specs.declared.fault.SessionFault.{SessionFault}
 use Rattle.child_session.specs.Talk.{HasAnswered, WasAnswered}
 use Rattle.child_session.specs.Round.{Comes, OnAnswered}
@@ -15,12 +17,20 @@ use Rattle.round_engine.specs.Refusals.{Stop}
 use Rattle.round_engine.specs.Faults.{stop_of, is_due}
 use Rattle.element_table.specs.TypeTable.{TypeTable}
 use Rattle.round_engine.specs.Units.{all_of}
-use Rattle.round_engine.specs.Run.{Round, Progress, limit, act, Run, Finished, Refused, last_round, rounds_before_last, next_of, start, rounds_from, run_of}
+use Rattle.round_engine.specs.Run.{Round, Progress, limit, is_asked, act, Run, Finished, Refused, last_round, rounds_before_last, next_of, start, rounds_from, run_of}
 
 -- ---- what the code has of these
 
 abbrev pub shown_round : code_round.Round → TypeTable → List (List ℕ) → Round
 shown_round round table roots = record { number = round.number; over = round.over; error = round.error; table = table; roots = roots }
+
+-- whether the processor was asked up to this round
+abbrev pub asked_after : List ℕ → code_round.Round → TypeTable → List (List ℕ) → Bool → Bool
+asked_after pattern round table roots before = is_asked pattern (shown_round round table roots) before
+
+-- the frame of a round in which these names are offered
+abbrev pub frame_of : code_round.Round → List (List ℕ) → List (List ℕ) → List ℕ
+frame_of round names roots = spelling (frame.Round round.number round.over round.error names roots)
 
 abbrev pub standing : Bool → Filings → List Placed → Progress
 standing asked filings messages = record { asked = asked; filings = filings; messages = messages }

@@ -5,7 +5,8 @@ ghost use Rattle.apt_outside.specs.Child.{call, Attends};
 ghost use Rattle.round_engine.specs.Refusals.{Names};
 ghost use Rattle.round_engine.specs.Faults.{stop_of, HasReason};
 ghost use Rattle.round_engine.specs.Run.{new_filings};
-ghost use Rattle.round_engine.specs.Shown.{Came, Runs, TriedOnce, StartedOnce};
+ghost use Rattle.round_engine.specs.Shown.{TriedOnce, StartedOnce};
+ghost use Rattle.round_engine.specs.Moments.{Over, CameOf, Ran};
 
 use crate::frames::{init_frame, pattern_of};
 use crate::refusal::{Refusal, refusal_of};
@@ -33,8 +34,7 @@ fn show_all<C: Children>(
     ensures starts { (C.state children.new).starts ≡ (C.state children.old).starts }
     ensures live { (C.state children.new).live ≡ (C.state children.old).live }
     ensures attends { Told C.tells (Attends child (C.state children.old) (C.state children.new)) }
-    ensures came { Told C.tells (Came child name.now table.now
-        (C.state children.old) (C.state children.new) filer.new result) }
+    ensures came { CameOf C.Children child name.now table.now children.old children.new filer.new result }
 {
     let init = init_frame(alloc, name)?;
     let answer = match exchange(alloc, children, child, init.as_slice()) {
@@ -62,10 +62,8 @@ pub fn run_processor<C: Children>(
     ensures starts { StartedOnce result (C.state children.old) (C.state children.new) }
     ensures live { (C.state children.new).live ≡ (C.state children.old).live }
     ensures says { Told C.tells ((C.state children.new).says ≡ (C.state children.old).says) }
-    ensures tried { Told C.tells
-        (TriedOnce (call name.now command.now) (C.state children.old) (C.state children.new)) }
-    ensures runs { Told C.tells (Runs (call name.now command.now) table.now
-        (C.state children.old) (C.state children.new) filer.new result) }
+    ensures tried { Over C.Children children.old children.new (TriedOnce (call name.now command.now)) }
+    ensures runs { Ran C.Children name.now command.now table.now children.old children.new filer.new result }
 {
     let child = match children.start(name.as_str(), command) {
         Ok(child) => child,

@@ -1,24 +1,25 @@
 // How sources enter the type table.
 ghost use Rattle.std.specs.Prelude.{◌≡◌, map, IfOk, IfErr, OnOk, None};
 ghost use Rattle.std.specs.FinMap as fin;
-ghost use Rattle.apt_outside.specs.Held.{files_of};
 ghost use Rattle.element_table.specs.UnitNames.{unit_name};
 ghost use Rattle.round_engine.specs.Names.{with_names};
-ghost use Rattle.round_engine.specs.Units.{enter_unit, enter_units, enter_source, enter_created, enter_all};
+ghost use Rattle.round_engine.specs.Units.{enter_unit, enter_units, enter_source, enter_all};
+ghost use Rattle.round_engine.specs.Run.{sources_among};
 ghost use Rattle.round_engine.specs.Refusals.{named_by, OrMemory};
 ghost use Rattle.round_engine.specs.Faults.{stop_of};
-ghost use Rattle.round_engine.specs.Entering.{Reports, EntersUnits, EntersSource, of_source, gathered, Gathers, EntersAll};
+ghost use Rattle.round_engine.specs.Entering.{Reports, EntersUnits, EntersSource, of_source, GathersSource, EntersAll};
 
 use crate::limits::limit_of;
 use crate::names::Names;
 use crate::refusal::Refusal;
 use crate::source_fault::SourceFault;
+use crate::sources::sources_among;
 use apt_base::{List, Name, NoMemory, What};
 use decl_tree::Unit;
 use element_table::{EnterFault, Part, Table, unit_name};
 use source_form::parse;
 use std::alloc::Global;
-use std::collections::BTreeMap;
+use wire_frames::Creation;
 
 fn reported(alloc: Global, fault: &EnterFault) -> SourceFault
     ensures { Reports fault.now result }
@@ -128,8 +129,7 @@ fn enter_created(
     content: &[u8],
 ) -> Result<(), Refusal>
     ensures unnamed { IfErr result (λ refusal. named_by (stop_of refusal) ≡ None) }
-    ensures gathers { Gathers (enter_created (gathered table.old roots.old) (path.now, content.now))
-        table.new roots.new result }
+    ensures gathers { GathersSource path.now content.now table.old roots.old table.new roots.new result }
 {
     match enter_source(alloc, table, content) {
         Ok(names) => {
@@ -140,18 +140,16 @@ fn enter_created(
     }
 }
 
-/// Reads created sources in order of their paths, enters their units, and gives the names of these, ascending.
-pub fn enter_all(
-    alloc: Global,
-    table: &mut Table,
-    sources: BTreeMap<String, Vec<u8>>,
-) -> Result<List<Name>, Refusal>
+/// Reads the sources among files that were made in order of their paths, enters their units, and gives the names of these,
+/// ascending. A source is read where it lies.
+pub fn enter_all(alloc: Global, table: &mut Table, made: &[Creation]) -> Result<List<Name>, Refusal>
     ensures unnamed { IfErr result (λ refusal. named_by (stop_of refusal) ≡ None) }
-    ensures enters { EntersAll (enter_all table.old (fin.entries (files_of sources))) table.new result }
+    ensures enters { EntersAll (enter_all table.old (fin.entries (sources_among made.now))) table.new result }
 {
+    let sources = sources_among(alloc, made)?;
     let mut roots = Names::new(alloc);
-    for (path, content) in sources {
-        enter_created(alloc, table, &mut roots, path.as_str(), &content)?;
+    for (path, content) in sources.into_map() {
+        enter_created(alloc, table, &mut roots, path.as_str(), content)?;
     }
     Ok(roots.list()?)
 }

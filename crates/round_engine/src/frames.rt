@@ -1,9 +1,8 @@
 // The frames that a child is shown.
-ghost use Rattle.std.specs.Prelude.{◌≡◌, ◌∷◌, [], IfOk};
-ghost use Rattle.std.specs.Bool.{if◌then◌else◌};
+ghost use Rattle.std.specs.Prelude.{◌≡◌, IfOk};
 ghost use Rattle.wire_frames.specs.Frames.{spelling};
-ghost use Rattle.wire_frames.specs.declared.frame.Frame.TheVariants as frames;
-ghost use Rattle.round_engine.specs.Run.{init_frame, one_pattern, pattern_of};
+ghost use Rattle.round_engine.specs.Run.{init_frame, offered_if, pattern_in, pattern_of};
+ghost use Rattle.round_engine.specs.Shown.{frame_of};
 
 use crate::rounds::Round;
 use apt_base::{Claim, List, Name, NoMemory};
@@ -37,7 +36,7 @@ pub fn init_frame(alloc: Global, name: &Name) -> Result<List<u8>, NoMemory>
 }
 
 fn offered(alloc: Global, pattern: &Name, present: bool) -> Result<List<Name>, NoMemory>
-    ensures { IfOk result (λ names. names ≡ (if present then pattern.now ∷ [] else [])) }
+    ensures { IfOk result (λ names. names ≡ offered_if present pattern.now) }
 {
     let mut names = List::new(alloc);
     if present {
@@ -54,8 +53,7 @@ pub fn round_bytes(
     round: Round,
     roots: List<Name>,
 ) -> Result<List<u8>, NoMemory>
-    ensures { IfOk result (λ bytes. bytes ≡ spelling
-        (frames.Round round.number round.over round.error (if present then pattern.now ∷ [] else []) roots)) }
+    ensures { IfOk result (λ bytes. bytes ≡ frame_of round (offered_if present pattern.now) roots) }
 {
     let frame = Frame::Round {
         number: round.number,
@@ -69,8 +67,7 @@ pub fn round_bytes(
 
 // The one pattern that is a name, of a processor that has no options and always claims.
 fn one_pattern(hello: &Hello) -> Result<Option<Name>, NoMemory>
-    ensures { IfOk result (λ pattern. pattern ≡ one_pattern hello.now.patterns hello.now.options
-        hello.now.claim) }
+    ensures { IfOk result (λ pattern. pattern ≡ pattern_in hello.now) }
 {
     let [pattern] = hello.patterns.as_slice() else {
         return Ok(None);

@@ -7,6 +7,7 @@
 
 mod child;
 mod entering;
+mod files;
 mod frames;
 mod limits;
 mod messages;
@@ -21,6 +22,7 @@ mod sources;
 mod units;
 
 pub use entering::enter_source;
+pub use files::Files;
 pub use frames::LEVEL;
 pub use limits::limit_of;
 pub use messages::Placed;

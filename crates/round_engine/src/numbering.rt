@@ -1,15 +1,14 @@
 // The numbers of the files that a run made.
-ghost use Rattle.std.specs.Prelude.{◌≡◌, ℕ, ◌+◌, ◌<◌, ◌≤◌, ◌^◌, ◌↔◌, [], map, length, true, All, Contains, IsTrue, IsOk, IfOk, IfSome, IfNone, string_bytes};
+ghost use Rattle.std.specs.Prelude.{◌≡◌, ℕ, ◌+◌, ◌<◌, ◌≤◌, ◌^◌, ◌↔◌, [], map, All, Contains, IsTrue, IsOk, IfOk, IfSome, IfNone, string_bytes};
 ghost use Rattle.std.specs.Bool.{OnTrue};
 ghost use Rattle.std.specs.FinMap as fin;
 ghost use Rattle.std.specs.List.Sorted.{IsStrictlyIncreasing};
-ghost use Rattle.apt_outside.specs.Held.{files_of};
-ghost use Rattle.apt_base.specs.Fields.{is_text};
 ghost use Rattle.round_engine.specs.Numbering.{AreLeast, AreAhead, IsNextFree, SameFrom};
+ghost use Rattle.round_engine.specs.Numbered.{shown_made, number_of, made_with, HasText, IsWritten, BothFit, AllFit};
 
+use crate::files::Files;
 use apt_base::{List, Name, NoMemory};
 use std::alloc::Global;
-use std::collections::BTreeMap;
 
 /// A file that a run made: where it is published, and the number of its file in the store.
 #[derive(Drop)]
@@ -96,16 +95,10 @@ fn fits(count: usize) -> bool
 
 // The file under its number, which takes no memory. It fails where the path or the file has 2^32 bytes or more.
 fn made_file(alloc: Global, path: String, store: u32, bytes: Vec<u8>) -> Result<Made, NoMemory>
-    ensures file { IfOk result (λ file. file ≡ record {
-      path = string_bytes path;
-      store = store;
-      written =
-          true;
-      bytes = bytes.items;
-    }) }
-    ensures text { IfOk result (λ file. is_text file.path ≡ true) }
+    ensures file { IfOk result (λ file. file ≡ made_with (string_bytes path) store bytes.items) }
+    ensures text { IfOk result HasText }
     ensures store { store < 2 ^ 32 }
-    ensures fits { IsOk result ↔ ((length (string_bytes path) < 2 ^ 32) × (length bytes.items < 2 ^ 32)) }
+    ensures fits { IsOk result ↔ BothFit (string_bytes path) bytes.items }
 {
     if !fits(path.len()) || !fits(bytes.len()) {
         return Err(NoMemory);
@@ -123,23 +116,17 @@ fn made_file(alloc: Global, path: String, store: u32, bytes: Vec<u8>) -> Result<
 ///
 /// It fails only for want of memory. No memory holds 2^32 files, or a path or a file of 2^32 bytes, or as many files
 /// as it takes until no number of 32 bits is left; so these too are answered with `NoMemory`.
-pub fn number_files(
-    alloc: Global,
-    taken: &[u32],
-    made: BTreeMap<String, Vec<u8>>,
-) -> Result<List<Made>, NoMemory>
+pub fn number_files(alloc: Global, taken: &[u32], made: Files) -> Result<List<Made>, NoMemory>
     requires { IsStrictlyIncreasing taken.now }
-    ensures files { IfOk result (λ files. map (λ file. (file.path, file.bytes)) files ≡ fin.entries
-        (files_of made)) }
-    ensures numbers { IfOk result (λ files. AreLeast taken.now [] (map (λ file. file.store) files)) }
-    ensures texts { IfOk result (All (λ file. is_text file.path ≡ true)) }
-    ensures written { IfOk result (All (λ file. file.written ≡ true)) }
-    ensures sizes { IfOk result (λ files. (length files < 2 ^ 32) × All
-        (λ file. (file.store < 2 ^ 32) × (length file.path < 2 ^ 32) × (length file.bytes < 2 ^ 32)) files) }
+    ensures files { IfOk result (λ files. map shown_made files ≡ fin.entries made) }
+    ensures numbers { IfOk result (λ files. AreLeast taken.now [] (map number_of files)) }
+    ensures texts { IfOk result (All HasText) }
+    ensures written { IfOk result (All IsWritten) }
+    ensures sizes { IfOk result AllFit }
 {
     let mut numbers = Numbers { taken, next: 0 };
     let mut files = List::new(alloc);
-    for (path, bytes) in made {
+    for (path, bytes) in made.into_map() {
         let store = numbers.give().ok_or(NoMemory)?;
         files.push(made_file(alloc, path, store, bytes)?)?;
     }

@@ -1,18 +1,18 @@
 // The rounds of a run.
-ghost use Rattle.std.specs.Prelude.{◌≡◌, ◌+◌, ◌*◌, ◌||◌, not, Contains, IfOk, IfErr, [], drop, length, true};
+ghost use Rattle.std.specs.Prelude.{◌≡◌, ◌+◌, ◌*◌, ◌||◌, not, Contains, IfOk, IfErr, OnOk, drop, length, true};
 ghost use Rattle.apt_outside.specs.Count.{Told};
 ghost use Rattle.child_session.specs.Faults as session;
 ghost use Rattle.apt_outside.specs.Child.{Attends};
 ghost use Rattle.round_engine.specs.Refusals.{Names};
 ghost use Rattle.round_engine.specs.Faults.{stop_of, HasReason};
-ghost use Rattle.round_engine.specs.Run.{is_asked, creates_source, new_filings};
-ghost use Rattle.round_engine.specs.Shown.{shown_round, ActsIn, EndsLast, EndsAll};
+ghost use Rattle.round_engine.specs.Run.{creates_source, new_filings};
+ghost use Rattle.round_engine.specs.Shown.{shown_round, asked_after, ActsIn, EndsLast, EndsAll};
 
 use crate::entering::enter_all;
 use crate::frames::round_bytes;
 use crate::messages::{Placed, has_error, place};
 use crate::refusal::{Refusal, refusal_of};
-use crate::sources::{creates_source, sources_among, unread_among};
+use crate::sources::{creates_source, unread_among};
 use crate::units::is_present;
 use apt_base::{List, Name, NoMemory, copy_names};
 use apt_filer::Filer;
@@ -73,8 +73,7 @@ fn act<C: Children>(
     ensures starts { (C.state children.new).starts ≡ (C.state children.old).starts }
     ensures live { (C.state children.new).live ≡ (C.state children.old).live }
     ensures attends { Told C.tells (Attends child (C.state children.old) (C.state children.new)) }
-    ensures asked { IfOk result (λ _. asked.new ≡ is_asked pattern.now (shown_round round table.now roots.now)
-        asked.old) }
+    ensures asked { OnOk result (asked.new ≡ asked_after pattern.now round table.now roots.now asked.old) }
     ensures acts { Told C.tells (ActsIn child pattern.now (shown_round round table.now roots.now) asked.old
         (C.state children.old) (C.state children.new) filer.old filer.new result) }
 {
@@ -199,8 +198,7 @@ pub fn show_rounds<C: Children>(
                 alloc, children, child, processor, pattern, last, &table, asked, filer, messages,
             );
         }
-        let sources = sources_among(alloc, made_since(filer, count))?;
-        let entered = enter_all(alloc, &mut table, sources)?;
+        let entered = enter_all(alloc, &mut table, made_since(filer, count))?;
         roots = entered;
     }
     Err(Refusal::TooManyRounds)

@@ -3,7 +3,8 @@ ghost use Rattle.std.specs.Prelude.{◌≡◌, map, IfOk, string_bytes};
 ghost use Rattle.std.specs.List.Sorted.{IsStrictlyIncreasing};
 ghost use Rattle.apt_outside.specs.Count.{Told};
 ghost use Rattle.round_engine.specs.Faults.{HasReason};
-ghost use Rattle.round_engine.specs.Clean.{IsPlain, AreNumbered, Has, Cleans, NamesProcessor, Talked, Starts, Tries};
+ghost use Rattle.round_engine.specs.Clean.{IsPlain, AreNumbered, Closes, Has, NamesProcessor, Starts, Tries, CleansOver};
+ghost use Rattle.round_engine.specs.Moments.{Over};
 
 use crate::child::run_processor;
 use crate::messages::{Placed, copy_messages, count_errors, count_warnings};
@@ -75,9 +76,7 @@ fn finish_run(
     made: List<Creation>,
 ) -> Result<Finished, NoMemory>
     requires { IsStrictlyIncreasing taken.now }
-    ensures is { IfOk result (λ finished. (finished.rounds ≡ rounds.count) ×
-        (finished.messages ≡ rounds.messages) × (finished.unread ≡ rounds.unread) ×
-        (finished.started ≡ started)) }
+    ensures is { IfOk result (Closes rounds started) }
     ensures numbered { IfOk result (λ finished. AreNumbered taken.now finished.files) }
     ensures has { IfOk result (Has made) }
 {
@@ -115,13 +114,10 @@ pub fn clean<C: Children>(
     ensures starts { Starts project.now.key.processors result (C.state children.old) (C.state children.new) }
     ensures live { (C.state children.new).live ≡ (C.state children.old).live }
     ensures says { Told C.tells ((C.state children.new).says ≡ (C.state children.old).says) }
-    ensures tried { Told C.tells
-        (Tries project.now.key.processors (C.state children.old) (C.state children.new)) }
+    ensures tried { Over C.Children children.old children.new (Tries project.now.key.processors) }
     ensures numbered { IfOk result (λ finished. AreNumbered taken.now finished.files) }
     ensures named { NamesProcessor project.now.key.processors result }
-    ensures cleans { Talked C.tells project.now.key.processors
-        (Cleans project.now.key.processors project.now.initial
-        (C.state children.old) (C.state children.new) result) }
+    ensures cleans { CleansOver C.Children project.now children.old children.new result }
 {
     let mut filer = Filer::new(alloc, &unit_names(alloc, &project.initial)?)?;
     let Some((processor, _)) = project.key.processors.as_slice().split_first() else {

@@ -1,6 +1,6 @@
 pub mod StorePaths
 pub mod Numbers
-pub mod RecordLemmas
+pub mod RecordFormatLemmas
 pub mod OutputLemmas
 pub mod StoringLemmas
 pub mod Reading

@@ -17,7 +17,7 @@ use Rattle.tree_store.specs.declared.record.StoredFile.{StoredFile}
 use Rattle.tree_store.specs.RecordFormat.{ascends, record_form, read_record, IsEntry}
 use Rattle.tree_store.specs.Output.{store_path, record_path, entries_of, stored, output_of, named_paths, StoresStand, SameOutside}
 use Rattle.tree_store.specs.Storing.{Numbered, paths_of, AreAbsent, ChangesAmong, AddsToStore, IsEntryOf, Holds}
-use Rattle.tree_store.proofs.RecordLemmas.{read_record-record_form}
+use Rattle.tree_store.proofs.RecordFormatLemmas.{read_record-record_form}
 use Rattle.tree_store.proofs.StorePaths.{store_path-ne-record_path, store_path-below-store}
 
 -- ---- what does not change
@@ -82,9 +82,6 @@ pub record_inside : (tree : Files) (bytes : List ℕ) → SameOutside tree (fin.
 record_inside tree bytes = record {
   others = λ q outside. file_at-beside_record tree bytes q (λ e. true≢false (sym (ap (is_below (codes "out")) e) ∙ outside));
 }
-
-pub changes_nothing : (tree : Files) → SameOutside tree tree
-changes_nothing tree = record { others = λ q outside. refl }
 
 pub entries_of-committed : (tree : Files) (bytes : List ℕ) (entries : List StoredFile) → read_record bytes ≡ Some entries → entries_of (fin.insert tree record_path bytes) ≡ entries
 unfolding entries_of
@@ -162,30 +159,6 @@ pub output_of-record_form : (tree : Files) (entries : List StoredFile) (files : 
 output_of-record_form tree entries files count are held =
     output_of-committed tree (record_form entries) entries files (read_record-record_form entries (record { count = count; entries = are; ascending = ascends-held tree entries files held })) held
 
--- no entries hold no files
-pub Holds-none : (tree : Files) → Holds tree [] fin.empty
-Holds-none tree = subst (λ (files : List (List ℕ × List ℕ)). AllZip (IsEntryOf tree) [] files) (sym (nil_from_length (fin.entries fin.empty) (sym (len-entries {R = slice_cmp nat_cmp} fin.empty) ∙ len-empty (slice_cmp nat_cmp) (List ℕ)))) tt
-
--- ---- no record
-
-entries_of-no_record : (files : Files) → file_at files record_path ≡ None → entries_of files ≡ []
-unfolding entries_of
-entries_of-no_record files none = rw none refl
-
--- without a record nothing is published
-pub output_of-no_record : (files : Files) → file_at files record_path ≡ None → output_of files ≡ fin.empty
-unfolding output_of
-output_of-no_record files none = rw (entries_of-no_record files none) refl
-
-pub StoresStand-no_record : (files : Files) → file_at files record_path ≡ None → StoresStand files
-StoresStand-no_record files none = λ k d lt. absurd (omega (arith, ap (λ (es : List StoredFile). length (map (λ entry. store_path entry.store) es)) (entries_of-no_record files none)))
-
 -- an empty tree has no files and names none
 pub absent_of_empty : (tree : Files) (files : Numbered) → tree ≡ fin.empty → AreAbsent tree files
 absent_of_empty tree files is = λ k d lt. rw is (get-empty (slice_cmp nat_cmp) _)
-
-pub StoresStand-empty : StoresStand fin.empty
-StoresStand-empty = StoresStand-no_record fin.empty (get-empty (slice_cmp nat_cmp) record_path)
-
-pub output_of-empty : output_of fin.empty ≡ fin.empty
-output_of-empty = output_of-no_record fin.empty (get-empty (slice_cmp nat_cmp) record_path)

@@ -13,12 +13,6 @@ use Rattle.tree_store.specs.declared.record.StoredFile.{StoredFile}
 use Rattle.tree_store.specs.Output.{store_path}
 use Rattle.tree_store.specs.Storing.{AreTaken, AreWritten, IsEntryOf, Holds}
 
--- the entries of a map that was made of an ascending list
-pub entries-from_entries : (pairs : List (List ℕ × List ℕ)) → T (is_sorted (slice_cmp nat_cmp) pairs) → fin.entries (fin.from_entries {R = slice_cmp nat_cmp} pairs) ≡ pairs
-entries-from_entries pairs ascending =
-    let files : Files = fin.from_entries pairs in
-    same_entries (slice_cmp nat_cmp) nat_list_cmp_total exact_paths (fin.entries files) pairs (entries_sorted files) ascending (λ q. sym (get-entries files q) ∙ get-from_entries nat_list_cmp_total pairs q)
-
 absent : (found : Option (List ℕ)) → ¬ IsSome found → found ≡ None
 absent None none = refl
 absent (Some bytes) none = absurd (none refl)

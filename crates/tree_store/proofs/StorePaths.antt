@@ -21,13 +21,6 @@ pub store_path-below-store : (n : ℕ) → is_below (codes "out/store") (store_p
 unfolding store_path
 store_path-below-store n = refl
 
-pub store_path-below-out : (n : ℕ) → is_below (codes "out") (store_path n) ≡ true
-unfolding store_path
-store_path-below-out n = refl
-
-pub record_path-below-out : is_below (codes "out") record_path ≡ true
-record_path-below-out = refl
-
 -- without a sign and without a zero before other digits
 abbrev pub IsPlain : List ℕ → Type 0
 IsPlain digits = (get_or digits 0 0 ≢ 43) × (get_or digits 0 0 ≡ 48 → length digits ≤ 1)

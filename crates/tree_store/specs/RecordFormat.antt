@@ -35,7 +35,7 @@ entry_next bytes = do
   size ← u32_next store.1
   Some (record { path = path.0; store = store.0; length = size.0 }, size.1)
 
--- so many entries
+-- this many entries
 unfoldable pub entries_next : ℕ → List ℕ → Option (List StoredFile × List ℕ)
 entries_next zero bytes = Some ([], bytes)
 entries_next (suc count) bytes = do

@@ -2,7 +2,7 @@
 ghost use Rattle.std.specs.Prelude.{◌≡◌, IfOk};
 ghost use Rattle.apt_outside.specs.Count.{Told};
 ghost use Rattle.tree_store.specs.Cause.{HasStoreCause};
-ghost use Rattle.tree_store.specs.Sources.{source_at, sources_of};
+ghost use Rattle.tree_store.specs.Sources.{IsSourceAt, sources_of};
 
 use crate::StoreFault;
 use apt_base::{List, Name, NoMemory};
@@ -39,8 +39,7 @@ fn read_source<T: Tree>(
 ) -> Result<Option<RawSource>, StoreFault>
     ensures cause { HasStoreCause (T.faults tree.old) (T.faults tree.new) result }
     ensures same { Told T.tells (T.files tree.new ≡ T.files tree.old) }
-    ensures source { Told T.tells (IfOk result
-        (λ source. source ≡ source_at limit (T.files tree.old) path.now)) }
+    ensures source { Told T.tells (IfOk result (IsSourceAt limit (T.files tree.old) path.now)) }
 {
     if !path.as_bytes().ends_with(b".java") {
         return Ok(None);

@@ -1,14 +1,11 @@
 // The store of what a build made, and the record that publishes it.
-ghost use Rattle.std.specs.Prelude.{◌≡◌, ◌≢◌, ℕ, ◌<◌, ◌≤◌, ◌^◌, ◌↔◌, length, slice_index, string_bytes, decimal, IsTrue, IfOk, OnOk, OnErr, MatchOption, None, Some};
-ghost use Rattle.std.specs.FinMap as fin;
+ghost use Rattle.std.specs.Prelude.{◌≡◌, ◌↔◌, string_bytes, decimal, IsTrue, IfOk, OnOk, OnErr, None};
 ghost use Rattle.std.specs.List.Sorted.{IsStrictlyIncreasing};
 ghost use Rattle.apt_outside.specs.Count.{Told};
-ghost use Rattle.apt_outside.specs.Files.{Files, file_at, ChangesOnly};
+ghost use Rattle.apt_outside.specs.Files.{file_at, ChangesOnly};
 ghost use Rattle.tree_store.specs.Cause.{HasStoreCause};
-ghost use Rattle.tree_store.specs.RecordFormat.{read_record};
-ghost use Rattle.tree_store.specs.Output.{store_path, record_path, output_of, StoresStand, SameOutside};
-ghost use Rattle.tree_store.specs.Storing.{AreTaken, AreDistinct, AreAbsent, AreWritten, paths_of, ChangesAmong, AddsToStore, Holds};
-ghost use Rattle.tree_store.specs.declared.record.StoredFile.{StoredFile};
+ghost use Rattle.tree_store.specs.Output.{store_path, SameOutside};
+ghost use Rattle.tree_store.specs.Storing.{IsPlain, FindsNumber, AreTaken, AreDistinct, AreAbsent, AreWritten, paths_of, ChangesAmong, AddsToStore, StandsUnder, PutsRecord, Outputs};
 
 use crate::StoreFault;
 use apt_base::List;
@@ -17,8 +14,7 @@ use std::alloc::Global;
 
 // Without a sign and without a zero before other digits.
 fn is_plain(digits: &[u8]) -> bool
-    ensures { IsTrue result
-        ↔ ((slice_index digits.now 0 ≢ 43) × (slice_index digits.now 0 ≡ 48 → length digits.now ≤ 1)) }
+    ensures { IsTrue result ↔ IsPlain digits.now }
 {
     match digits {
         [b'+', ..] => false,
@@ -29,8 +25,7 @@ fn is_plain(digits: &[u8]) -> bool
 
 // The number below 2^32 whose decimal digits these are.
 fn plain_number(digits: &str) -> Option<u32>
-    ensures { MatchOption result
-        ((n : ℕ) → n < 2 ^ 32 → decimal n ≢ digits.now) (λ n. decimal n ≡ digits.now) }
+    ensures { FindsNumber decimal digits.now result }
 {
     match digits.parse::<u32>() {
         Ok(number) if is_plain(digits.as_bytes()) => Some(number),
@@ -40,8 +35,7 @@ fn plain_number(digits: &str) -> Option<u32>
 
 // The number below 2^32 whose store file stands at the path.
 fn store_number(path: &str) -> Option<u32>
-    ensures { MatchOption result
-        ((n : ℕ) → n < 2 ^ 32 → store_path n ≢ path.now) (λ n. store_path n ≡ path.now) }
+    ensures { FindsNumber store_path path.now result }
 {
     plain_number(path.strip_prefix("out/store/")?)
 }
@@ -85,8 +79,7 @@ fn put_file<T: Tree>(
 ) -> Result<(), StoreFault>
     requires { Told T.tells (file_at (T.files tree.old) (store_path number) ≡ None) }
     ensures cause { HasStoreCause (T.faults tree.old) (T.faults tree.new) result }
-    ensures written { Told T.tells (OnOk result
-        (file_at (T.files tree.new) (store_path number) ≡ Some bytes.now)) }
+    ensures written { Told T.tells (OnOk result (StandsUnder number bytes.now (T.files tree.new))) }
     ensures only { Told T.tells
         (ChangesOnly (store_path number) (T.files tree.old) (T.files tree.new)) }
 {
@@ -128,15 +121,12 @@ pub fn put_files<T: Tree>(
 /// After any error the tree is as it was. `Failed` comes only where the tree's count rose.
 pub fn commit<T: Tree>(tree: &mut T, bytes: &List<u8>) -> Result<(), StoreFault>
     ensures cause { HasStoreCause (T.faults tree.old) (T.faults tree.new) result }
-    ensures ok { Told T.tells (OnOk result
-        (T.files tree.new ≡ fin.insert (T.files tree.old) record_path bytes.now)) }
+    ensures ok { Told T.tells (OnOk result (PutsRecord bytes.now (T.files tree.old) (T.files tree.new))) }
     ensures err { Told T.tells (OnErr result (T.files tree.new ≡ T.files tree.old)) }
     ensures outside { Told T.tells (SameOutside (T.files tree.old) (T.files tree.new)) }
 
     // Where the bytes are read as entries that hold these files, these files are the published output.
-    ensures published { Told T.tells (OnOk result ((entries : List StoredFile) (files : Files)
-        → read_record bytes.now ≡ Some entries → Holds (T.files tree.old) entries files
-        → (output_of (T.files tree.new) ≡ files) × StoresStand (T.files tree.new))) }
+    ensures published { Told T.tells (OnOk result (Outputs bytes.now (T.files tree.old) (T.files tree.new))) }
 {
     tree.replace("out/record", bytes.as_slice())?;
     Ok(())

@@ -1,4 +1,4 @@
-use Rattle.round_engine.proofs.EnterLemmas.{enters_unit, enters_unit-not}
+use Rattle.round_engine.proofs.EnteringLemmas.{enters_unit, enters_unit-not}
 use Rattle.round_engine.proofs.entering.enter_unit.Goals as goal
 
 pub returns-in-Ok : goal.returns-in-Ok

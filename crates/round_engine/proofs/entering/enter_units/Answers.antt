@@ -2,7 +2,7 @@ use Rattle.std.proofs.Common.{◌≡◌, ◌∷◌, Ok, ap, sym, ◌∙◌, subs
 use Rattle.std.proofs.lemmas.Result.{err_from_is_err_and}
 use Rattle.round_engine.specs.Units.{enter_unit, enter_units}
 use Rattle.round_engine.specs.Entering.{Obstructs}
-use Rattle.round_engine.proofs.EnterLemmas.{enters_more, enters_no_more}
+use Rattle.round_engine.proofs.EnteringLemmas.{enters_more, enters_no_more}
 use Rattle.round_engine.proofs.entering.enter_units.Goals as goal
 
 pub loop-unit-preserved : goal.loop-unit-preserved

@@ -1,7 +1,7 @@
 use Rattle.std.proofs.Common.{◌≡◌, ◌+◌, ◌++◌, ◌∷◌, [], length, length-append, append_assoc, ap, sym, ◌∙◌, arith}
 use Rattle.std.proofs.lemmas.Grind.{common_steps}
 use Rattle.round_engine.specs.Run.{place}
-use Rattle.round_engine.proofs.MessageLemmas.{placed, place_more}
+use Rattle.round_engine.proofs.PlacedMessages.{placed, place_more}
 use Rattle.round_engine.proofs.messages.place.Goals as goal
 
 pub loop-message-preserved : goal.loop-message-preserved

@@ -1,6 +1,6 @@
 use Rattle.std.proofs.Common.{string_bytes}
 use Rattle.std.proofs.lemmas.Str.{IsUtf8-string_bytes}
-use Rattle.apt_base.proofs.Fields.{is_text-of_utf8}
+use Rattle.apt_base.proofs.FieldsLemmas.{is_text-of_utf8}
 use Rattle.round_engine.proofs.numbering.made_file.Goals as goal
 
 pub returns-clause-text : goal.returns-clause-text

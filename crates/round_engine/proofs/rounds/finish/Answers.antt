@@ -1,7 +1,7 @@
 use Rattle.std.proofs.Common.{◌≡◌, ◌++◌, [], true, Ok, Err, drop, length, refl, ap, ◌∙◌, subst, rules}
 use Rattle.round_engine.specs.Run.{last_of, place, unread_among}
 use Rattle.round_engine.specs.Shown.{shown_round, standing, Acts}
-use Rattle.round_engine.proofs.RoundLemmas.{finish_ok, finish_err}
+use Rattle.round_engine.proofs.RunsOfRounds.{finish_ok, finish_err}
 use Rattle.round_engine.proofs.rounds.finish.Goals as goal
 
 pub returns-in-Err-clause-ends : goal.returns-in-Err-clause-ends

@@ -8,7 +8,7 @@ use Rattle.round_engine.specs.Run.{Progress, Round, next_of, is_asked, place, pr
 use Rattle.round_engine.specs.Faults.{stop_of}
 use Rattle.round_engine.specs.Entering.{RefusesAs}
 use Rattle.round_engine.specs.Shown.{Whole, standing, Acts, Ends, GoesOn, last_from, all_from}
-use Rattle.round_engine.proofs.RoundLemmas.{way_refused, way_ends, way_goes, way_source_refused, way_is_full}
+use Rattle.round_engine.proofs.RunsOfRounds.{way_refused, way_ends, way_goes, way_source_refused, way_is_full}
 use Rattle.round_engine.proofs.rounds.show_rounds.Goals as goal
 
 pub returns-in-Err-clause-ends : goal.returns-in-Err-clause-ends

@@ -5,7 +5,7 @@ use Rattle.std.proofs.lemmas.List.{take_more, take_all, flat_map_more}
 use Rattle.std.proofs.lemmas.List.Elements.{All-more}
 use Rattle.tree_store.specs.declared.record.StoredFile.{StoredFile}
 use Rattle.tree_store.specs.RecordFormat.{record_head, entry_form, record_form, read_record, IsEntry}
-use Rattle.tree_store.proofs.RecordLemmas.{read_record-record_form}
+use Rattle.tree_store.proofs.RecordFormatLemmas.{read_record-record_form}
 use Rattle.tree_store.proofs.record.encode_record.Goals as goal
 
 pub loop-file-preserved : goal.loop-file-preserved

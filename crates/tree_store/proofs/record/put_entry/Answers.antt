@@ -1,5 +1,5 @@
 use Rattle.std.proofs.Common.{arith}
-use Rattle.apt_base.proofs.Fields.{is_text-of_utf8}
+use Rattle.apt_base.proofs.FieldsLemmas.{is_text-of_utf8}
 use Rattle.tree_store.proofs.record.put_entry.Goals as goal
 
 pub returns-clause-entry : goal.returns-clause-entry

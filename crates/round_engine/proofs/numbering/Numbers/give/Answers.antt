@@ -2,7 +2,7 @@ use Rattle.std.proofs.Common.{ℕ, ◌-◌, ◌≤◌, ◌^◌, ◌≡◌, arith
 use Rattle.std.specs.Result.{OkIff}
 use Rattle.std.proofs.lemmas.List.{take_all, length-drop}
 use Rattle.round_engine.specs.Numbering.{IsNextFree}
-use Rattle.round_engine.proofs.NumberLemmas.{Passes-taken, IsNextFree-from_Passes, IsNextFree-least, AreAhead-more, SameFrom-more}
+use Rattle.round_engine.proofs.NumberingLemmas.{Passes-taken, IsNextFree-from_Passes, IsNextFree-least, AreAhead-more, SameFrom-more}
 use Rattle.round_engine.proofs.numbering.Numbers.give.Goals as goal
 
 -- an error comes only where the fact does not hold

@@ -1,5 +1,5 @@
 use Rattle.std.proofs.Common.{length}
-use Rattle.round_engine.proofs.NumberLemmas.{Passes}
+use Rattle.round_engine.proofs.NumberingLemmas.{Passes}
 use Rattle.round_engine.proofs.numbering.Numbers.give.Given as goal
 
 -- the numbers that were passed are taken

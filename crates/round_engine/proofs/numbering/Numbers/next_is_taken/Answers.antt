@@ -1,5 +1,5 @@
 use Rattle.std.proofs.Common.{arith, ◌≡◌, get_or}
-use Rattle.round_engine.proofs.NumberLemmas.{Contains-next}
+use Rattle.round_engine.proofs.NumberingLemmas.{Contains-next}
 use Rattle.round_engine.proofs.numbering.Numbers.next_is_taken.Goals as goal
 
 pub returns-in-len1-up-clause-taken : goal.returns-in-len1-up-clause-taken

@@ -55,19 +55,6 @@ enters_no_more table unit units fault stands = obstructs_then (enter_unit table 
 
 -- ---- a source
 
-pub reads_not : (table : TypeTable) (read : Result (List UnitText) Flaw) (fault : ParseFault) → Parses read (Err fault) → Obstructs (enter_read table read) (of_parse fault)
-reads_not table read parse.Unbuilt is = ap (enter_read table) is
-reads_not table read (parse.TooLarge what) is = ap (enter_read table) is
-reads_not table read parse.Memory is = tt
-
-pub enters_source : (table next : TypeTable) (read : Result (List UnitText) Flaw) (units : List UnitText) (names : List (List ℕ)) → read ≡ Ok units → enter_units table units ≡ Ok next → names ≡ map unit_name units → enter_read table read ≡ Ok (record { table = next; names = names })
-enters_source table next read units names is enters are =
-    ap (enter_read table) is ∙ ap (λ o. and_then o (λ t. Ok (record { table = t; names = map unit_name units }))) enters ∙ ap (λ ns. Ok (record { table = next; names = ns })) (sym are)
-
-pub enters_source-not : (table : TypeTable) (read : Result (List UnitText) Flaw) (units : List UnitText) (fault : SourceFault) → read ≡ Ok units → Obstructs (enter_units table units) fault → Obstructs (enter_read table read) fault
-enters_source-not table read units fault is obstructs =
-    subst (λ r. Obstructs (enter_read table r) fault) (sym is) (obstructs_then (enter_units table units) fault (λ t. Ok (record { table = t; names = map unit_name units })) obstructs)
-
 -- ---- created sources
 
 refused_by : (roots : NameSet) (path : List ℕ) (outcome : Result Entered Obstacle) (fault : SourceFault) → Obstructs outcome fault → RefusesAs (gather roots path outcome) (of_source path fault)
@@ -80,19 +67,7 @@ or_memory : {A : Type 0} (outcome : Result A Refusal) (due s : Stop) → Refuses
 or_memory outcome due s is (inl same) = subst (RefusesAs outcome) (sym same) is
 or_memory outcome due s is (inr memory) = subst (RefusesAs outcome) (sym memory) tt
 
--- a created source that can't be entered
-pub created_not : (table : TypeTable) (roots : NameSet) (path content : List ℕ) (fault : SourceFault) (s : Stop) → Obstructs (enter_source table content) fault → OrMemory (of_source path fault) s → RefusesAs (enter_created (gathered table roots) (path, content)) s
-created_not table roots path content fault s is due = or_memory _ (of_source path fault) s (refused_by roots path (enter_source table content) fault is) due
-
--- one that was
-pub created_enters : (table next : TypeTable) (roots roots' : NameSet) (path content : List ℕ) (names : List (List ℕ)) → enter_source table content ≡ Ok (record { table = next; names = names }) → roots' ≡ with_names roots names
-    → enter_created (gathered table roots) (path, content) ≡ Ok (gathered next roots')
-created_enters table next roots roots' path content names is are = ap (gather roots path) is ∙ ap (λ r. Ok (gathered next r)) (sym are)
-
 -- ---- more created sources
-
-pub gathers_more : (before after : Gathered) (created : List ℕ × List ℕ) (sources : List (List ℕ × List ℕ)) → enter_created before created ≡ Ok after → gather_all before (created ∷ sources) ≡ gather_all after sources
-gathers_more before after created sources is = ap (λ o. and_then o (λ next. gather_all next sources)) is
 
 refuses_then : {A B : Type 0} (outcome : Result A Refusal) (s : Stop) (next : A → Result B Refusal) → RefusesAs outcome s → RefusesAs (and_then outcome next) s
 refuses_then outcome (Refused refusal) next is = ap (λ o. and_then o next) is

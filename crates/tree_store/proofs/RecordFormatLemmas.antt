@@ -9,7 +9,7 @@ use Rattle.std.proofs.lemmas.List.Concat.{flat_map-cons}
 use Rattle.std.proofs.lemmas.List.Elements.{All-from_recursion, All-head, All-tail}
 use Rattle.std.proofs.lemmas.Slice.Eq.{bytes_eq-Decides}
 use Rattle.apt_base.specs.Fields.{◌>>=◌, text_form, front_next, u32_next, text_next}
-use Rattle.apt_base.proofs.Fields.{IsBytes, IsBytes-rest, bind_some, some_is, front_next-again, front_next-takes, u32_next-again, u32_next-spelled, text_next-again, text_next-spelled}
+use Rattle.apt_base.proofs.FieldsLemmas.{IsBytes, IsBytes-rest, bind_some, some_is, front_next-again, front_next-takes, u32_next-again, u32_next-spelled, text_next-again, text_next-spelled}
 use Rattle.tree_store.specs.declared.record.StoredFile.{StoredFile}
 use Rattle.tree_store.specs.RecordFormat.{record_head, entry_form, record_form, entry_next, entries_next, ascends, read_record, IsEntry, IsRecord}
 

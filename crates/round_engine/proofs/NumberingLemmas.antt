@@ -83,14 +83,6 @@ pub record Passes (old : List ℕ) (start : ℕ) (left : List ℕ) (next : ℕ) 
   pub passed : (m : ℕ) → start ≤ m → m < next → Contains old m
   pub same : SameFrom next old left
 
-pub Passes-none : (left : List ℕ) (next : ℕ) → AreAhead left next → Passes left next left next
-Passes-none left next ready = record {
-  ready = ready;
-  since = omega arith;
-  passed = λ m le lt. absurd (omega arith);
-  same = record { same = λ m le. ((λ has. has), (λ has. has)) };
-}
-
 Passes-first : (old : List ℕ) (start first : ℕ) (rest : List ℕ) → Passes old start (first ∷ rest) first → Passes old start rest (first + 1)
 Passes-first old start first rest p = record {
   ready = record {

@@ -96,21 +96,6 @@ module _ (refusal : engine.Refusal) (status : Status) (due_as : verdict status �
 
 -- ---- starts of a run that was finished
 
-pub starts_finished : (processors : List KeyProcessor) (processor : Option Try) (finished : Finished) (old new : State) → IsKeyOf processors processor → clean.Starts processors (Ok finished) old new → Starts (Build processor) Done old new
-starts_finished processors None finished old new is starts =
-    let n : finished.started ≡ 0 = starts.0 ∙ count_is processors None is in
-    record { finished = λ done. starts.1 ∙ ap (λ k. old.starts + k) n; most = omega (arith, starts.1, n) }
-starts_finished processors (Some t) finished old new is starts =
-    let n : finished.started ≡ 1 = starts.0 ∙ count_is processors (Some t) is in
-    record { finished = λ done. starts.1 ∙ ap (λ k. old.starts + k) n; most = omega (arith, starts.1, n) }
-
-pub tries_build : (processors : List KeyProcessor) (processor : Option Try) (old new : State) → IsKeyOf processors processor → clean.Tries processors old new → Tries (Build processor) old new
-tries_build [] None old new is tries = tries
-tries_build [] (Some t) old new is tries = absurd cc
-tries_build (p ∷ ps) None old new is tries = absurd cc
-tries_build (p ∷ ps) (Some t) old new is (inl same) = inl same
-tries_build (p ∷ ps) (Some t) old new is (inr more) = inr (more ∙ ap (λ x. old.tried ++ x ∷ []) (head_is p ps t is))
-
 -- ---- the run
 
 run_is : (says : Says) (processors : List KeyProcessor) (processor : Option Try) (table : TypeTable) → IsKeyOf processors processor → clean_run says processors table ≡ run_over says processor table

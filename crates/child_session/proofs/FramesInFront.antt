@@ -5,7 +5,7 @@ use Rattle.std.specs.Int.{w32, from_be_bytes}
 use Rattle.std.proofs.lemmas.Bool.{lt-ltb, ne_eqb, eqb-true}
 use Rattle.std.proofs.lemmas.List.{take_at, drop_at, length-take, take-append-drop}
 use Rattle.apt_base.specs.Fields.{◌>>=◌, front_next}
-use Rattle.apt_base.proofs.Fields.{bind_some, front_next-again, front_next-grows}
+use Rattle.apt_base.proofs.FieldsLemmas.{bind_some, front_next-again, front_next-grows}
 use Rattle.wire_frames.specs.declared.frame.Frame.{Frame}
 use Rattle.wire_frames.specs.Readings.{frame_at, length_at, length_of, child_frame}
 use Rattle.child_session.specs.Talk.{rest_after}
@@ -20,7 +20,7 @@ one found = Some found
 abbrev framed : List ℕ × List ℕ → Option Found
 framed body = child_frame body.0 >>= λ frame. Some (frame, body.1)
 
--- the frame of so many bytes
+-- the frame of this many bytes
 abbrev bodied : List ℕ → ℕ → Option Found
 bodied rest n = front_next n rest >>= framed
 
@@ -101,7 +101,7 @@ and_then_some : {A B : Type 0} (f : A → Option B) (o : Option A) (b : B) → o
 and_then_some f None b e = absurd cc
 and_then_some f (Some a) b e = (a, refl, e)
 
--- what follows so many frames is longer where more bytes come
+-- what follows this many frames is longer where more bytes come
 pub rest_after-append : (n : ℕ) (bytes rest more : List ℕ) → rest_after n bytes ≡ Some rest → rest_after n (bytes ++ more) ≡ Some (rest ++ more)
 unfolding rest_after
 rest_after-append zero bytes rest more is = let same : bytes ≡ rest = cc in ap (λ xs. Some (xs ++ more)) same

@@ -1,0 +1,66 @@
+-- The promises of `run` over the objects that it is given: each where the objects tell what it speaks of.
+use Rattle.std.specs.Prelude.{ℕ, List, String}
+use Rattle.std.specs.declared.alloc.Global.{Global}
+use Rattle.apt_outside.specs.declared.tree.Tree as tree
+use Rattle.apt_outside.specs.declared.children.Children as children
+use Rattle.apt_outside.specs.declared.stream.Sink as sink
+use Rattle.apt_outside.specs.Count.{Rose, Told}
+use Rattle.apt_host.specs.declared.status.Status.{Status}
+use Rattle.apt_host.specs.Shown.{asked}
+use Rattle.apt_host.specs.Verdicts.{verdict}
+use Rattle.apt_host.specs.Promises as promise
+
+-- ---- what is started
+
+-- where a source of the project is refused, no child is started
+abbrev pub NotStarted : {T C : Type 0} → tree.Ghosts T → children.Ghosts C → List (String Global) → T → C → C → Type 0
+NotStarted t c words tree old new = Told t.tells (promise.StartsUnread (asked words) (t.files tree) (c.state old) (c.state new))
+
+-- nor is a start of one tried
+abbrev pub NotTried : {T C : Type 0} → tree.Ghosts T → children.Ghosts C → List (String Global) → T → C → C → Type 0
+NotTried t c words tree old new = Told t.tells (Told c.tells (promise.TriesUnread (asked words) (t.files tree) (c.state old) (c.state new)))
+
+-- the child is shown exactly the run
+abbrev pub Shows : {T C : Type 0} → tree.Ghosts T → children.Ghosts C → List (String Global) → T → C → C → Status → Type 0
+Shows t c words tree old new result = Told t.tells (Told c.tells (promise.ShowsRun (asked words) (t.files tree) (c.state old) (c.state new) (verdict result)))
+
+-- ---- what is answered and published
+
+-- words that no command has leave the tree and the children as they were
+abbrev pub OffTable : {T C : Type 0} → List (String Global) → T → T → C → C → Status → Type 0
+OffTable words tree tree' children children' result = promise.OffTable (asked words) (verdict result) tree tree' children children'
+
+-- the answer is the clean build's
+abbrev pub Answers : {T C : Type 0} → tree.Ghosts T → children.Ghosts C → List (String Global) → T → C → Status → Type 0
+Answers t c words tree children result = promise.Answers t.tells c.tells (asked words) (c.state children).says (t.files tree) (verdict result)
+
+-- so is what is published
+abbrev pub Publishes : {T C : Type 0} → tree.Ghosts T → children.Ghosts C → List (String Global) → T → T → C → Status → Type 0
+Publishes t c words old new children result = promise.PublishesClean t.tells c.tells (asked words) (c.state children).says (t.files old) (t.files new) (verdict result)
+
+-- ---- what is written
+
+-- the sink's count rose
+abbrev pub RoseIn : {W : Type 0} → sink.Ghosts W → W → W → Type 0
+RoseIn w old new = Rose (w.faults old) (w.faults new)
+
+-- the line of a refusal
+abbrev pub IsLine : {W : Type 0} → sink.Ghosts W → W → W → Status → List ℕ → Type 0
+IsLine w old new result = promise.IsLine (verdict result) (RoseIn w old new)
+
+-- it was added
+abbrev pub AddsLine : {W : Type 0} → sink.Ghosts W → W → W → Status → Type 0
+AddsLine w old new result = Told w.tells (promise.Adds (IsLine w old new result) (w.written old) (w.written new))
+
+-- what stands of the report
+abbrev pub IsReport : {T C W : Type 0} → tree.Ghosts T → children.Ghosts C → sink.Ghosts W → List (String Global) → T → T → C → W → W → Status → List ℕ → Type 0
+IsReport t c w words tree tree' children old new result =
+    promise.Reports t.tells c.tells (asked words) (c.state children).says (t.files tree) (t.files tree') (verdict result) (RoseIn w old new)
+
+-- it was added
+abbrev pub Reports : {T C W : Type 0} → tree.Ghosts T → children.Ghosts C → sink.Ghosts W → List (String Global) → T → T → C → W → W → Status → Type 0
+Reports t c w words tree tree' children old new result = Told w.tells (promise.Adds (IsReport t c w words tree tree' children old new result) (w.written old) (w.written new))
+
+-- it was added, and then the line
+abbrev pub Writes : {T C W : Type 0} → tree.Ghosts T → children.Ghosts C → sink.Ghosts W → List (String Global) → T → T → C → W → W → Status → Type 0
+Writes t c w words tree tree' children old new result = Told w.tells (promise.Writes (IsReport t c w words tree tree' children old new result) (IsLine w old new result) (w.written old) (w.written new))
