@@ -40,12 +40,12 @@ def source(number):
 
 
 def in_one_round(count):
-    """The answers of a child that creates so many sources in round 1, and the end of the report."""
+    """The answers of a child that creates this many sources in round 1, and the end of the report."""
     return HELLO + b"".join(source(number) for number in range(count)) + 3 * DONE, f"done: 3 rounds, {count} files"
 
 
 def in_as_many_rounds(count):
-    """The answers of a child that creates a source in each of so many rounds, and the end of the report."""
+    """The answers of a child that creates a source in each of this many rounds, and the end of the report."""
     answers = b"".join(source(number) + DONE for number in range(count))
     return HELLO + answers + 2 * DONE, f"done: {count + 2} rounds, {count} files"
 

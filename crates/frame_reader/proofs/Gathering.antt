@@ -20,7 +20,7 @@ then_read-gathered front more k next [] = refl
 then_read-gathered front zero k next (byte ∷ rest) = refl
 then_read-gathered front (suc more) k next (byte ∷ rest) = then_read-gathered (front ++ byte ∷ []) more k next rest
 
--- so many of them at once
+-- this many of them at once
 pub gathered-slice : (front chunk : List ℕ) (more : ℕ) (next : List ℕ → ℕ → Reading) (rest : List ℕ) → gathered front (length chunk + more) next (chunk ++ rest) ≡ gathered (front ++ chunk) more next rest
 unfolding gathered
 gathered-slice front [] more next rest =

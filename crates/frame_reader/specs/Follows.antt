@@ -1,5 +1,9 @@
 -- What a byte does to what is kept.
 use Rattle.std.specs.Prelude.{◌≡◌, ℕ, zero, suc, Bool, true, false, length, List, [], ◌∷◌, ◌++◌, Option, None, Some}
+use Rattle.std.specs.FinSet as set
+use Rattle.frame_forms.specs.declared.bad_kind.BadKind.{BadKind}
+use Rattle.frame_reader.specs.declared.node.Item.{Item}
+use Rattle.frame_reader.specs.Steps.{items_task}
 use Rattle.frame_forms.specs.Scans.{Scan, whole, begun, bad}
 use Rattle.frame_reader.specs.declared.fields.FieldsReader.{FieldsReader}
 use Rattle.frame_reader.specs.declared.task.Gather.{Gather}
@@ -14,7 +18,7 @@ use Rattle.frame_reader.specs.declared.node.ListRule.{ListRule}
 use Rattle.frame_reader.specs.declared.task.Taken.{Taken}
 use Rattle.frame_reader.specs.declared.task.Taken.TheVariants as takens
 use Rattle.frame_reader.specs.Rests.{Reading, behind_text, texts_left}
-use Rattle.frame_reader.specs.Stands.{Stands, Keeps, KeepsTexts, IsTextEnd}
+use Rattle.frame_reader.specs.Stands.{Stands, Keeps, KeepsTexts, IsTextEnd, kept_fault}
 
 -- behind these bytes a reader means this reading of those that come
 abbrev pub Means : FieldsReader → List ℕ → Reading → Type 0
@@ -103,3 +107,26 @@ ended false = begun
 -- whatever the reader means, this is what no more bytes come to
 abbrev pub TellsEnd : FieldsReader → Bool → Type 0
 TellsEnd reader done = (held : List ℕ) (reading : Reading) → Means reader held reading → reading [] ≡ ended done
+
+-- ---- what begins and ends in a reader
+
+-- what is wrong with a text of a list, by those before it that are kept
+abbrev pub fault_in : FieldsReader → ListRule → List ℕ → Option BadKind
+fault_in reader rule text = kept_fault rule reader.earlier reader.last text
+
+-- a text ends that is no text of a list
+abbrev pub EndsAsPlain : FieldsReader → FieldsReader → List ℕ → Taken → Type 0
+EndsAsPlain old new text result = (rule : TextRule) → EndsPlain rule old.list → EndsText rule old new text result
+
+-- a list of things begins
+abbrev pub with_items : FieldsReader → Item → ℕ → ℕ → FieldsReader
+with_items reader item room count = record reader { gather = None; stack = reader.stack ++ items_task item room count }
+
+-- a list of texts begins
+abbrev pub with_texts : FieldsReader → ListRule → ℕ → FieldsReader
+with_texts reader rule count = record reader { gather = None; list = texts_left rule count; earlier = set.empty; last = None }
+
+-- a text of a list begins at a place
+abbrev pub with_text : FieldsReader → TextList → ℕ → FieldsReader
+with_text reader list place =
+    record reader { gather = Some (record { from = place; more = 2; then = thens.Length (text_rule list) }); list = list_behind_begin list }

@@ -41,7 +41,7 @@ then_read first next = and_then first (λ done rest. next rest)
 
 -- ---- bytes that belong together
 
--- One byte and so many more. What comes next hangs on them: on those that were there before the last one, on the last one, and on the bytes behind.
+-- One byte and this many more. What comes next hangs on them: on those that were there before the last one, on the last one, and on the bytes behind.
 unfoldable pub gathered : List ℕ → ℕ → (List ℕ → ℕ → Reading) → Reading
 gathered front more next [] = begun
 gathered front zero next (byte ∷ rest) = next front byte rest
@@ -64,7 +64,7 @@ unfoldable pub fields_rest : ℕ → List Node → Reading
 fields_rest room [] bytes = whole tt bytes
 fields_rest room (node ∷ others) bytes = then_read (node_rest room node bytes) (fields_rest room others)
 
--- so many things
+-- this many things
 unfoldable pub items_rest : Reading → ℕ → Reading
 items_rest item zero bytes = whole tt bytes
 items_rest item (suc count) bytes = then_read (item bytes) (items_rest item count)
@@ -102,7 +102,7 @@ value_rest rules.DistinctTexts bytes = whole tt bytes
 value_rest rules.DistinctPatterns bytes = whole tt bytes
 value_rest rules.AscendingTexts bytes = whole tt bytes
 
--- so many texts, behind these
+-- this many texts, behind these
 unfoldable pub texts_rest : ListRule → List (List ℕ) → ℕ → Reading
 texts_rest rule before zero bytes = whole tt bytes
 texts_rest rule before (suc count) bytes = and_then (run_scan (listed_fault rule before) bytes) (λ text rest. then_read (value_rest rule rest) (texts_rest rule (text ∷ before) count))
@@ -132,7 +132,7 @@ tail_rest before texts stack bytes = then_read (list_rest before texts bytes) (t
 
 -- ---- what becomes of gathered bytes
 
--- so many texts are left of the list
+-- this many texts are left of the list
 abbrev pub texts_left : ListRule → ℕ → Option TextList
 texts_left rule zero = None
 texts_left rule (suc more) = Some (record { rule = rule; value_next = false; more = more })

@@ -68,7 +68,7 @@ InStage (stages.Bad place kind) fields bytes = found_in bytes ≡ founds.Bad pla
 
 -- ---- one byte more
 
--- what has to be known to take one byte behind so many
+-- what has to be known to take one byte behind this many
 abbrev pub CanTake : Stage → FieldsReader → ℕ → Type 0
 CanTake stages.Length fields there = there < 4
 CanTake (stages.Fields end) fields there = IsGathering fields.gather fields.list there × (there < end) × (end ≤ 134217728)

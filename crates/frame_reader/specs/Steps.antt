@@ -1,5 +1,5 @@
 -- What the first byte of a node leaves to come: the node goes on byte by byte, chooses what comes next, or the byte is bad.
-use Rattle.std.specs.Prelude.{◌≡◌, ℕ, zero, suc, Bool, true, false, ◌||◌, ◌==◌, nat_lt, List, [], ◌∷◌, ◌++◌, map, reverse, slice_get, Option, Some, None, if◌then◌else◌}
+use Rattle.std.specs.Prelude.{◌≡◌, ℕ, zero, suc, ◌-◌, Bool, true, false, ◌||◌, ◌==◌, nat_lt, List, [], ◌∷◌, ◌++◌, length, take, map, reverse, slice_get, Option, Some, None, option_to_list, if◌then◌else◌}
 use Rattle.frame_forms.specs.declared.bad_kind.BadKind.{BadKind}
 use Rattle.frame_forms.specs.declared.bad_kind.BadKind.TheVariants as kinds
 use Rattle.frame_forms.specs.Forms.{bool_at}
@@ -130,7 +130,7 @@ inner_tasks room fields = map (λ node. tasks.Field node room) (reverse fields)
 abbrev pub left_tasks : ℕ → Left → List Task
 left_tasks room left = behind_task room left.behind ++ inner_tasks left.room left.inner
 
--- a task for so many things
+-- a task for this many things
 abbrev pub items_task : Item → ℕ → ℕ → List Task
 items_task item room zero = []
 items_task item room (suc more) = tasks.Items item room more ∷ []
@@ -171,3 +171,11 @@ IsLeft None None = Unit {0}
 IsLeft None (Some left) = ⊥
 IsLeft (Some begun) None = ⊥
 IsLeft (Some begun) (Some left) = left_of begun ≡ left
+
+-- what is left where a byte chose fields, if it chose any
+abbrev pub IsChosen : Option (Bor (List Node)) → (Option (List Node) → Option Left) → Option Begun → Type 0
+IsChosen fields left result = (chosen : Option (List Node)) → AreChosen fields chosen → IsLeft result (left chosen)
+
+-- tasks, with others in the place of the last one
+abbrev pub replaced_last : List Task → Option Task → Option Task → List Task → List Task
+replaced_last tasks below above inner = ((take (length tasks - 1) tasks ++ option_to_list below) ++ option_to_list above) ++ inner

@@ -1,6 +1,6 @@
 // What the first byte of a node leaves to come.
 ghost use Rattle.std.specs.Prelude.{◌≡◌, Option, None, Some, slice_get, map, List};
-ghost use Rattle.frame_reader.specs.Steps.{tag_choices, mirror_choices, value_choices, bound_choices, item_left, node_left, passes_if, part_left, maybe_left, gathers, chooses, IsLeft, AreChosen};
+ghost use Rattle.frame_reader.specs.Steps.{tag_choices, mirror_choices, value_choices, bound_choices, item_left, node_left, passes_if, part_left, maybe_left, gathers, chooses, IsLeft, IsChosen, AreChosen};
 ghost use Rattle.frame_forms.specs.Forms.{bool_at};
 ghost use Rattle.frame_reader.specs.Nodes.{chosen_by};
 ghost use Rattle.frame_reader.specs.declared.task.Then.TheVariants as thens;
@@ -29,7 +29,7 @@ fn gathers(more: u32, then: Then, behind: Option<Node>) -> Option<Begun>
 
 // The byte has chosen fields, where it is the number of any.
 fn chooses(room: u16, behind: Option<Node>, fields: Option<&'static [Node]>) -> Option<Begun>
-    ensures { (chosen : Option (List Node)) → AreChosen fields.entry chosen → IsLeft result (chooses room behind chosen) }
+    ensures { IsChosen fields.entry (chooses room behind) result }
 {
     let inner = fields?;
     Some(Begun {
@@ -122,7 +122,7 @@ fn maybe_begun(item: Item, byte: u8) -> Option<Begun>
     }
 }
 
-/// What this first byte of a node leaves to come, with room for so many mirrors and values in each other. None where the byte is bad.
+/// What this first byte of a node leaves to come, with room for this many mirrors and values in each other. None where the byte is bad.
 #[tactic(auto, unfolding(crate::specs::Steps::node_left))]
 pub(crate) fn node_begun(node: Node, room: u16, byte: u8) -> Option<Begun>
     ensures { IsLeft result (node_left room node byte) }

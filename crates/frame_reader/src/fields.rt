@@ -6,7 +6,7 @@ ghost use Rattle.apt_base.specs.Fields.{is_text};
 ghost use Rattle.frame_reader.specs.Rests.{Reading, plain_fault, texts_left, behind_text};
 ghost use Rattle.frame_reader.specs.Steps.{first_kind, items_task, head_node, head_room, left_behind, behind_task, gather_at};
 ghost use Rattle.frame_reader.specs.Stands.{Begins, IsGathering, kept_fault, is_above};
-ghost use Rattle.frame_reader.specs.Follows.{Means, Follows, Finishes, EndsText, EndsPlain, EndsLength, BeginsTask, Starts, text_rule, list_behind_begin, KeepsText, GoesBehind, IsAtTag, TellsEnd};
+ghost use Rattle.frame_reader.specs.Follows.{Means, Follows, Finishes, EndsText, EndsPlain, EndsLength, BeginsTask, Starts, text_rule, list_behind_begin, KeepsText, GoesBehind, IsAtTag, TellsEnd, fault_in, EndsAsPlain, with_items, with_texts, with_text};
 ghost use Rattle.frame_reader.specs.declared.task.Then.TheVariants as thens;
 
 use crate::beginning::{BEHIND_SECOND_OF_FOUR, node_begun};
@@ -51,7 +51,7 @@ pub(crate) fn number_of(bytes: &[u8]) -> u32
     u32::from_be_bytes([bytes[0], bytes[1], bytes[2], bytes[3]])
 }
 
-// So many texts of a list, where there are any.
+// This many texts of a list, where there are any.
 fn texts_left(rule: ListRule, count: u32) -> Option<TextList>
     ensures { result ≡ texts_left rule count }
 {
@@ -172,8 +172,8 @@ impl FieldsReader {
     // The text, where the list lets it stand behind those before it.
     fn judged<'a>(&self, rule: ListRule, bytes: &'a [u8]) -> Result<&'a str, BadKind>
         ensures ok { IfOk result (λ text. text.now ≡ bytes.now) }
-        ensures passes { OnOk result (kept_fault rule self.now.earlier self.now.last bytes.now ≡ None) }
-        ensures fails { IfErr result (λ kind. kept_fault rule self.now.earlier self.now.last bytes.now ≡ Some kind) }
+        ensures passes { OnOk result (fault_in self.now rule bytes.now ≡ None) }
+        ensures fails { IfErr result (λ kind. fault_in self.now rule bytes.now ≡ Some kind) }
     {
         let Some(text) = text_of(bytes) else {
             return Err(BadKind::Field);
@@ -242,7 +242,7 @@ impl FieldsReader {
 
     // A text that is no text of a list ends.
     fn end_plain(&mut self, text: &[u8]) -> Taken
-        ensures { (rule : TextRule) → EndsPlain rule self.old.list → EndsText rule self.old self.new text.now result }
+        ensures { EndsAsPlain self.old self.new text.now result }
     {
         if text_of(text).is_none() {
             return Taken::Bad(BadKind::Field);
@@ -277,7 +277,7 @@ impl FieldsReader {
 
     // A list of things begins. Without memory nothing changes.
     fn begin_items(&mut self, item: Item, room: u16, count: u32) -> Result<(), NoMemory>
-        ensures ok { OnOk result (self.new ≡ record self.old { gather = None; stack = self.old.stack ++ items_task item room count }) }
+        ensures ok { OnOk result (self.new ≡ with_items self.old item room count) }
         ensures err { OnErr result (self.new ≡ self.old) }
     {
         if count > 0 {
@@ -296,7 +296,7 @@ impl FieldsReader {
 
     // A list of texts begins.
     fn begin_texts(&mut self, rule: ListRule, count: u32)
-        ensures { self.new ≡ record self.old { gather = None; list = texts_left rule count; earlier = set.empty; last = None } }
+        ensures { self.new ≡ with_texts self.old rule count }
     {
         self.forget_texts();
         self.gather = None;
@@ -348,7 +348,7 @@ impl FieldsReader {
 
     // A text of a list begins, or the value of the last one.
     fn begin_text(&mut self, list: TextList, place: usize)
-        ensures { self.new ≡ record self.old { gather = Some (record { from = place; more = 2; then = thens.Length (text_rule list) }); list = list_behind_begin list } }
+        ensures { self.new ≡ with_text self.old list place }
     {
         if list.value_next {
             self.gather = Some(Gather {

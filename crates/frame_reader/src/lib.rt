@@ -16,6 +16,4 @@ mod task;
 mod texts;
 
 pub use found::{Found, Interrupted};
-pub use node::{BOUNDS, Item, ListRule, MIRRORS, Node, TAGS, VALUES};
 pub use scanner::FrameScanner;
-pub use task::{Begun, Gather, Taken, Task, TextList, TextRule, Then};

@@ -53,15 +53,15 @@ pub enum Node {
     Four,
     /// A number of eight bytes.
     Eight,
-    /// A length, and so many bytes of any kind.
+    /// A length, and that many bytes of any kind.
     Octets,
     /// One thing.
     One(Item),
     /// 0, or 1 and one thing.
     Maybe(Item),
-    /// A count, and so many things.
+    /// A count, and that many things.
     Many(Item),
-    /// A count, and so many texts of which more is asked.
+    /// A count, and that many texts of which more is asked.
     Texts(ListRule),
     /// How a wildcard is bounded, and its bound.
     Bound,

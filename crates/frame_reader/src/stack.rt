@@ -1,6 +1,6 @@
 // The tasks that are to come, as a stack.
 ghost use Rattle.std.specs.Prelude.{◌≡◌, ◌+◌, ◌-◌, ◌<◌, ◌≤◌, ◌++◌, ◌∷◌, [], List, length, take, vec_len, vec_capacity, option_to_list, slice_get, OnOk, OnErr, option_copied};
-ghost use Rattle.frame_reader.specs.Steps.{inner_tasks};
+ghost use Rattle.frame_reader.specs.Steps.{inner_tasks, replaced_last};
 
 use crate::node::Node;
 use crate::task::Task;
@@ -93,7 +93,7 @@ impl Stack {
         room: u16,
     ) -> Result<(), NoMemory>
         requires { 0 < length self.old }
-        ensures ok { OnOk result (self.new ≡ ((take (length self.old - 1) self.old ++ option_to_list below) ++ option_to_list above) ++ inner_tasks room fields.now) }
+        ensures ok { OnOk result (self.new ≡ replaced_last self.old below above (inner_tasks room fields.now)) }
         ensures err { OnErr result (self.new ≡ self.old) }
     {
         self.tasks.reserve(fields.len() + 1)?;

@@ -61,7 +61,7 @@ fn in_fields(
 ) -> Result<Stage, NoMemory>
     requires some { 0 < length bytes.now }
     requires can { CanTake (stages.Fields end) fields.old (length bytes.now - 1) }
-    ensures ok { IfOk result (λ stage. TakesTo (stages.Fields end) stage fields.old fields.new bytes.now byte) }
+    ensures ok { IfOk result (λ new. TakesTo (stages.Fields end) new fields.old fields.new bytes.now byte) }
     ensures err { OnErr result (fields.new ≡ fields.old) }
 {
     let place = (bytes.len() - 1) as u32;

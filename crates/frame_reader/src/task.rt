@@ -22,7 +22,7 @@ pub enum Then {
     Length(TextRule),
     /// They are a text.
     Text(TextRule),
-    /// They are the count of a list of such things, with room for so many mirrors and values in each other.
+    /// They are the count of a list of such things, with room for this many mirrors and values in each other.
     Count(Item, u16),
     /// They are the count of a list of texts.
     ListCount(ListRule),
@@ -42,9 +42,9 @@ pub struct Gather {
 /// What is to come, from a byte on that stands alone.
 #[derive(Clone, Copy)]
 pub enum Task {
-    /// A field, with room for so many mirrors and values in each other.
+    /// A field, with room for this many mirrors and values in each other.
     Field(Node, u16),
-    /// One thing and so many more, each with room for so many mirrors and values in each other.
+    /// One thing and this many more, each with room for this many mirrors and values in each other.
     Items(Item, u16, u32),
 }
 

@@ -42,7 +42,7 @@ bind_same None f g e = refl
 bind_same (Some x) f g e = e x
 
 -- a reader behind another
-then_same : {A B : Type 0} (o : Option (A × List ℕ)) (s : Scan A) (f : A × List ℕ → Option (B × List ℕ)) (k : A → List ℕ → Scan B) → o ≡ found s → ((a : A) (rest : List ℕ) → f (a, rest) ≡ found (k a rest))
+pub then_same : {A B : Type 0} (o : Option (A × List ℕ)) (s : Scan A) (f : A × List ℕ → Option (B × List ℕ)) (k : A → List ℕ → Scan B) → o ≡ found s → ((a : A) (rest : List ℕ) → f (a, rest) ≡ found (k a rest))
     → (o >>= f) ≡ found (and_then s k)
 then_same o s f k e h = ap (λ p. p >>= f) e ∙ bind_same (found s) f (λ x. found (k x.0 x.1)) (λ x. h x.0 x.1) ∙ sym (found-then s k)
 
@@ -94,7 +94,7 @@ judged-same : (fault : Option BadKind) (run rest last : List ℕ) → cond (is_w
 judged-same None run rest last = refl
 judged-same (Some kind) run rest last = refl
 
-bind_bind : {A B C : Type 0} (o : Option A) (f : A → Option B) (g : B → Option C) → ((o >>= f) >>= g) ≡ (o >>= λ x. f x >>= g)
+pub bind_bind : {A B C : Type 0} (o : Option A) (f : A → Option B) (g : B → Option C) → ((o >>= f) >>= g) ≡ (o >>= λ x. f x >>= g)
 bind_bind None f g = refl
 bind_bind (Some x) f g = refl
 
@@ -142,7 +142,7 @@ made-same make f s same bytes = mapped_same make (f bytes) (s bytes) (same bytes
 
 -- ---- items that are tested by those before them
 
-abbrev all_after : {A : Type 0} → (List A → A → Bool) → List A → List A → Bool
+abbrev pub all_after : {A : Type 0} → (List A → A → Bool) → List A → List A → Bool
 all_after passes before [] = true
 all_after passes before (first ∷ others) = passes before first && all_after passes (first ∷ before) others
 
@@ -196,7 +196,7 @@ module _ {A : Type 0} (item : Reader A) (passes : List A → A → Bool) (scan :
       ∙ then_same (checked (passes before) item bytes) (scan before bytes) _ _ (same before bytes)
       (λ first rest. mapped_same (λ others. first ∷ others) (tested (first ∷ before) (items_next item count rest)) (items_scan scan (first ∷ before) count rest) (tested_items (first ∷ before) count rest))
 
-  tested-same : Same (checked (all_after passes []) (list_next item)) (λ bytes. and_then (number_scan w32 bytes) (λ count rest. items_scan scan [] count rest))
+  pub tested-same : Same (checked (all_after passes []) (list_next item)) (λ bytes. and_then (number_scan w32 bytes) (λ count rest. items_scan scan [] count rest))
   unfolding list_next
   tested-same bytes =
       bind_bind (u32_next bytes) (λ count. items_next item count.0 count.1) (λ xs. cond (all_after passes [] xs.0) (Some xs) None)
@@ -204,10 +204,10 @@ module _ {A : Type 0} (item : Reader A) (passes : List A → A → Bool) (scan :
 
 -- ---- the forms of fields
 
-checked_alike : {A : Type 0} (p q : A → Bool) (next : Reader A) → ((a : A) → p a ≡ q a) → (bytes : List ℕ) → checked p next bytes ≡ checked q next bytes
+pub checked_alike : {A : Type 0} (p q : A → Bool) (next : Reader A) → ((a : A) → p a ≡ q a) → (bytes : List ℕ) → checked p next bytes ≡ checked q next bytes
 checked_alike p q next alike bytes = bind_same (next bytes) (λ a. cond (p a.0) (Some a) None) (λ a. cond (q a.0) (Some a) None) (λ a. ap (λ (b : Bool). cond b (Some a) None) (alike a.0))
 
-checked_twice : {A : Type 0} (p q : A → Bool) (next : Reader A) (bytes : List ℕ) → checked q (checked p next) bytes ≡ checked (λ a. p a && q a) next bytes
+pub checked_twice : {A : Type 0} (p q : A → Bool) (next : Reader A) (bytes : List ℕ) → checked q (checked p next) bytes ≡ checked (λ a. p a && q a) next bytes
 checked_twice {A} p q next bytes = bind_bind (next bytes) first second ∙ bind_same (next bytes) (λ a. first a >>= second) both (λ a. cases (p a.0) a (q a.0) refl)
   where
     first : A × List ℕ → Option (A × List ℕ)
@@ -223,7 +223,7 @@ checked_twice {A} p q next bytes = bind_bind (next bytes) first second ∙ bind_
     cases true a c e = refl
     cases false a c e = refl
 
-abbrev text_fault : Bool → Bool → Option BadKind
+abbrev pub text_fault : Bool → Bool → Option BadKind
 text_fault is passes = cond (is && passes) None (Some kinds.Field)
 
 text_tests : (is passes : Bool) → (is && passes) ≡ is_whole (text_fault is passes)
@@ -231,7 +231,7 @@ text_tests true true = refl
 text_tests true false = refl
 text_tests false passes = refl
 
-text_that-same : (passes : List ℕ → Bool) → Same (checked passes text_next) (run_scan (λ t. text_fault (is_text t) (passes t)))
+pub text_that-same : (passes : List ℕ → Bool) → Same (checked passes text_next) (run_scan (λ t. text_fault (is_text t) (passes t)))
 unfolding text_next
 text_that-same passes bytes =
     checked_twice is_text passes bytes_next bytes ∙ checked_alike (λ t. is_text t && passes t) (λ t. is_whole (text_fault (is_text t) (passes t))) bytes_next (λ t. text_tests (is_text t) (passes t)) bytes

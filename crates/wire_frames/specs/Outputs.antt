@@ -1,5 +1,5 @@
 -- Where fields go: they are counted, or written.
-use Rattle.std.specs.Prelude.{ℕ, ◌+◌, ◌-◌, ◌^◌, List, [], ◌++◌, length, min}
+use Rattle.std.specs.Prelude.{◌≡◌, ℕ, ◌+◌, ◌-◌, ◌^◌, List, [], ◌++◌, length, min, Result, OnOk}
 use Rattle.wire_frames.specs.declared.output.Output.{Output}
 use Rattle.wire_frames.specs.declared.output.Output.TheVariants.{Counted, Written}
 
@@ -19,3 +19,7 @@ size_of (Written written) = 0
 abbrev pub written_to : Output → List ℕ
 written_to (Counted size) = []
 written_to (Written written) = written
+
+-- where a call went well, these bytes were added
+abbrev pub Adds : {T E : Type 0} → Result T E → Output → Output → List ℕ → Type 0
+Adds result old new bytes = OnOk result (new ≡ added old bytes)

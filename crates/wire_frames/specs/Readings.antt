@@ -1,5 +1,5 @@
 -- What stands next at the front of bytes: a value and the bytes behind it, or nothing. It is what the scan of the table finds whole, without the places of bad bytes.
-use Rattle.std.specs.Prelude.{◌≡◌, ℕ, Bool, true, false, not, ◌&&◌, List, [], ◌∷◌, length, take, drop, nat_lt, slice_get, ◌==◌, Option, Some, None, if◌then◌else◌}
+use Rattle.std.specs.Prelude.{◌≡◌, ℕ, Bool, true, false, not, ◌&&◌, List, [], ◌∷◌, length, take, drop, nat_lt, slice_get, ◌==◌, Option, Some, None, Result, IfOk, if◌then◌else◌}
 use Rattle.std.specs.List.{list_any, list_all}
 use Rattle.std.specs.Str.{bytes_eq}
 use Rattle.std.specs.Int.{w32, from_be_bytes}
@@ -17,6 +17,7 @@ use Rattle.wire_frames.specs.declared.frame.Creation.TheVariants.{Source, Resour
 use Rattle.wire_frames.specs.declared.frame.Frame.{Frame}
 use Rattle.wire_frames.specs.declared.frame.Frame.TheVariants as frames
 use Rattle.frame_forms.specs.Frames.{most_fields}
+use Rattle.wire_frames.specs.Frames.{AreFieldsOf}
 
 -- what a scan found whole
 abbrev pub found : {A : Type 0} → Scan A → Option (A × List ℕ)
@@ -123,6 +124,14 @@ is_of_today (frames.Ask question) = false
 
 abbrev pub IsOfToday : Frame → Type 0
 IsOfToday frame = is_of_today frame ≡ true
+
+-- a frame of the table, spelled so, that today's rounds have
+abbrev pub IsTodays : List ℕ → Frame → Type 0
+IsTodays bytes frame = IsOfToday frame × AreFieldsOf bytes frame
+
+-- a call found it
+abbrev pub Finds : {E : Type 0} → Result (Option Frame) E → Frame → Type 0
+Finds result frame = IfOk result (λ found. found ≡ Some frame)
 
 -- the child's frame of today whose tag and fields are the bytes, none left over
 unfoldable pub child_frame : List ℕ → Option Frame

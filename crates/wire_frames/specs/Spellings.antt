@@ -1,7 +1,7 @@
 -- The spellings of what fields are made of, by the forms of the table.
-use Rattle.std.specs.Prelude.{ℕ, List, [], ◌∷◌, ◌++◌, length}
+use Rattle.std.specs.Prelude.{ℕ, Bool, List, [], ◌∷◌, ◌++◌, length}
 use Rattle.std.specs.List.{flat_map}
-use Rattle.std.specs.Int.{w32, to_be_bytes}
+use Rattle.std.specs.Int.{w16, w32, to_be_bytes}
 use Rattle.apt_base.specs.Fields.{bytes_form}
 use Rattle.apt_base.specs.declared.element.ElementRef.{ElementRef}
 use Rattle.type_mirror.specs.declared.mirror.Around.{Around}
@@ -16,7 +16,7 @@ use Rattle.type_mirror.specs.declared.value.NamedValue.{NamedValue}
 use Rattle.type_mirror.specs.Parts.{plain}
 use Rattle.frame_forms.specs.Forms as forms
 use Rattle.frame_forms.specs.Forms.{mirror_part, value_part, spelled_with, opt_spelling}
-use Rattle.frame_forms.specs.MirrorForms.{element, named_value, annotation}
+use Rattle.frame_forms.specs.MirrorForms.{element, named_value, annotation, bool_number}
 use Rattle.frame_forms.specs.FrameTable.{frame_form, Fields}
 use Rattle.frame_forms.specs.Frames.{part_spelling, spelled}
 
@@ -73,3 +73,49 @@ executable_spelled room e =
     list_spelled element_spelled (out-ExecutableMirror e).variables
     ++ (list_spelled (mirror_spelled room) (out-ExecutableMirror e).parameters
     ++ (mirror_spelled room (out-ExecutableMirror e).result ++ list_spelled (mirror_spelled room) (out-ExecutableMirror e).thrown))
+
+-- ---- what frames hold
+
+-- the number of a round and its flags
+abbrev pub heading_spelled : ℕ → Bool → Bool → List ℕ
+heading_spelled number over error = to_be_bytes w32 number ++ (bool_number over ∷ bool_number error ∷ [])
+
+abbrev pub texts_spelled : List (List ℕ) → List ℕ
+texts_spelled texts = list_spelled bytes_form texts
+
+-- a frame that begins a round
+abbrev pub round_spelled : ℕ → Bool → Bool → List (List ℕ) → List (List ℕ) → List ℕ
+round_spelled number over error offered roots = fields_spelled (2, (number, (over, (error, (offered, roots)))))
+
+-- values with their names, as the values of an annotation with its defaults
+abbrev pub values_with_names_spelled : List (List ℕ × Value) → List ℕ
+values_with_names_spelled values = list_spelled (value_with_name_spelled 256) values
+
+-- a source or class file that is created: its name, its bytes and its originating elements
+abbrev pub file_spelled : List ℕ → List ℕ → List ElementRef → List ℕ
+file_spelled name content origins = bytes_form name ++ (bytes_form content ++ list_spelled element_spelled origins)
+
+-- a resource that is created
+abbrev pub resource_spelled : ℕ → List ℕ → List ℕ → List ℕ → List ElementRef → List ℕ
+resource_spelled location folder relative content origins = fields_spelled (67, (location, (folder, (relative, (content, origins)))))
+
+-- ---- what questions hold
+
+-- an element, and the number of one of its annotations
+abbrev pub numbered_spelled : ElementRef → ℕ → List ℕ
+numbered_spelled at number = element_spelled at ++ to_be_bytes w16 number
+
+-- the question about a method, the one that it may override, and the type in which it does, behind its tag
+abbrev pub override_spelled : ElementRef → ElementRef → ElementRef → List ℕ
+override_spelled overrider overridden in_type = 95 ∷ (element_spelled overrider ++ (element_spelled overridden ++ element_spelled in_type))
+
+abbrev pub two_mirrors_spelled : Mirror → Mirror → List ℕ
+two_mirrors_spelled one other = mirror_spelled 256 one ++ mirror_spelled 256 other
+
+-- a type, and the element that is looked at as its member
+abbrev pub member_spelled : Mirror → ElementRef → List ℕ
+member_spelled container at = mirror_spelled 256 container ++ element_spelled at
+
+-- a class or interface, and the arguments of a type of it
+abbrev pub type_spelled : ElementRef → List Mirror → List ℕ
+type_spelled at arguments = element_spelled at ++ list_spelled (mirror_spelled 256) arguments

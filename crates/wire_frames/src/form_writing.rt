@@ -4,7 +4,7 @@ ghost use Rattle.std.specs.List.{flat_map};
 ghost use Rattle.std.specs.Int.{w16, w32, to_be_bytes};
 ghost use Rattle.apt_base.specs.Fields.{i64_form, bytes_form};
 ghost use Rattle.frame_forms.specs.MirrorForms.{primitive_number, whole_number, bool_number};
-ghost use Rattle.wire_frames.specs.Outputs.{added};
+ghost use Rattle.wire_frames.specs.Outputs.{Adds};
 ghost use Rattle.wire_frames.specs.Spellings.{list_spelled, element_spelled, around_spelled, mirror_spelled, base_spelled, enclosing_spelled, declared_spelled, executable_spelled, value_spelled, named_spelled, annotation_spelled};
 
 use crate::output::Output;
@@ -22,7 +22,7 @@ pub(crate) const MOST_NESTED: u16 = 256;
 /// Texts behind their number.
 #[tactic(auto, using(crate::proofs::Added::adds))]
 pub(crate) fn put_texts(output: &mut Output, texts: &[Name]) -> Result<(), NoMemory>
-    ensures { OnOk result (output.new ≡ added output.old (list_spelled bytes_form texts.now)) }
+    ensures { Adds result output.old output.new (list_spelled bytes_form texts.now) }
 {
     output.count(texts.len())?;
     for text in texts {
@@ -33,7 +33,7 @@ pub(crate) fn put_texts(output: &mut Output, texts: &[Name]) -> Result<(), NoMem
 
 #[tactic(auto, using(crate::proofs::Added::adds))]
 fn put_path(output: &mut Output, path: &[u16]) -> Result<(), NoMemory>
-    ensures { OnOk result (output.new ≡ added output.old (list_spelled (to_be_bytes w16) path.now)) }
+    ensures { Adds result output.old output.new (list_spelled (to_be_bytes w16) path.now) }
 {
     output.count(path.len())?;
     for step in path {
@@ -45,7 +45,7 @@ fn put_path(output: &mut Output, path: &[u16]) -> Result<(), NoMemory>
 /// An element.
 #[tactic(auto, using(crate::proofs::Added::adds))]
 pub(crate) fn put_element(output: &mut Output, element: &ElementRef) -> Result<(), NoMemory>
-    ensures { OnOk result (output.new ≡ added output.old (element_spelled element.now)) }
+    ensures { Adds result output.old output.new (element_spelled element.now) }
 {
     output.text(&element.unit)?;
     put_path(output, element.path.as_slice())
@@ -54,7 +54,7 @@ pub(crate) fn put_element(output: &mut Output, element: &ElementRef) -> Result<(
 /// Elements behind their number.
 #[tactic(auto, using(crate::proofs::Added::adds))]
 pub(crate) fn put_elements(output: &mut Output, elements: &[ElementRef]) -> Result<(), NoMemory>
-    ensures { OnOk result (output.new ≡ added output.old (list_spelled element_spelled elements.now)) }
+    ensures { Adds result output.old output.new (list_spelled element_spelled elements.now) }
 {
     output.count(elements.len())?;
     for each in elements {
@@ -66,7 +66,7 @@ pub(crate) fn put_elements(output: &mut Output, elements: &[ElementRef]) -> Resu
 /// A number of one byte, and a text.
 #[tactic(auto, using(crate::proofs::Added::adds))]
 pub(crate) fn put_tagged_text(output: &mut Output, tag: u8, text: &Name) -> Result<(), NoMemory>
-    ensures { OnOk result (output.new ≡ added output.old (tag ∷ bytes_form text.now)) }
+    ensures { Adds result output.old output.new (tag ∷ bytes_form text.now) }
 {
     output.u8(tag)?;
     output.text(text)
@@ -79,7 +79,7 @@ pub(crate) fn put_tagged_element(
     tag: u8,
     element: &ElementRef,
 ) -> Result<(), NoMemory>
-    ensures { OnOk result (output.new ≡ added output.old (tag ∷ element_spelled element.now)) }
+    ensures { Adds result output.old output.new (tag ∷ element_spelled element.now) }
 {
     output.u8(tag)?;
     put_element(output, element)
@@ -89,7 +89,7 @@ pub(crate) fn put_tagged_element(
 
 #[tactic(auto, unfolding(crate::specs::Spellings::around_spelled))]
 fn put_around(output: &mut Output, around: Around) -> Result<(), NoMemory>
-    ensures { OnOk result (output.new ≡ added output.old (around_spelled around)) }
+    ensures { Adds result output.old output.new (around_spelled around) }
 {
     match around {
         Around::Array => output.u8(4),
@@ -100,7 +100,7 @@ fn put_around(output: &mut Output, around: Around) -> Result<(), NoMemory>
 
 #[tactic(auto, using(crate::proofs::Added::adds))]
 fn put_bounded(output: &mut Output, bound: u8) -> Result<(), NoMemory>
-    ensures { OnOk result (output.new ≡ added output.old (5 ∷ bound ∷ 1 ∷ [])) }
+    ensures { Adds result output.old output.new (5 ∷ bound ∷ 1 ∷ []) }
 {
     output.u8(5)?;
     output.u8(bound)?;
@@ -110,7 +110,7 @@ fn put_bounded(output: &mut Output, bound: u8) -> Result<(), NoMemory>
 // What stands around a mirror, as far as there is room for it.
 #[tactic(auto, using(crate::proofs::Added::adds))]
 fn put_arounds(output: &mut Output, arounds: &[Around]) -> Result<(), NoMemory>
-    ensures { OnOk result (output.new ≡ added output.old (flat_map around_spelled arounds.now)) }
+    ensures { Adds result output.old output.new (flat_map around_spelled arounds.now) }
 {
     for around in arounds {
         put_around(output, *around)?;
@@ -122,7 +122,7 @@ fn put_arounds(output: &mut Output, arounds: &[Around]) -> Result<(), NoMemory>
 #[cycle(put_mirror)]
 #[tactic(auto, using(crate::proofs::Added::adds))]
 pub(crate) fn put_mirror(output: &mut Output, mirror: &Mirror, room: u16) -> Result<(), NoMemory>
-    ensures { OnOk result (output.new ≡ added output.old (mirror_spelled room mirror.now)) }
+    ensures { Adds result output.old output.new (mirror_spelled room mirror.now) }
 {
     let around = mirror.around.as_slice();
     let count = around.len().min(room as usize);
@@ -133,7 +133,7 @@ pub(crate) fn put_mirror(output: &mut Output, mirror: &Mirror, room: u16) -> Res
 #[cycle(put_mirror)]
 #[tactic(auto, using(crate::proofs::Added::adds))]
 fn put_base(output: &mut Output, base: &BaseMirror, room: u16) -> Result<(), NoMemory>
-    ensures { OnOk result (output.new ≡ added output.old (base_spelled room base.now)) }
+    ensures { Adds result output.old output.new (base_spelled room base.now) }
 {
     if room == 0 {
         return Ok(());
@@ -154,7 +154,7 @@ fn put_base(output: &mut Output, base: &BaseMirror, room: u16) -> Result<(), NoM
 
 #[tactic(auto, using(crate::proofs::Added::adds))]
 fn put_primitive(output: &mut Output, kind: PrimitiveKind) -> Result<(), NoMemory>
-    ensures { OnOk result (output.new ≡ added output.old (0 ∷ primitive_number kind ∷ [])) }
+    ensures { Adds result output.old output.new (0 ∷ primitive_number kind ∷ []) }
 {
     output.u8(0)?;
     output.u8(kind as u8)
@@ -162,7 +162,7 @@ fn put_primitive(output: &mut Output, kind: PrimitiveKind) -> Result<(), NoMemor
 
 #[tactic(auto, using(crate::proofs::Added::adds))]
 fn put_wildcard(output: &mut Output) -> Result<(), NoMemory>
-    ensures { OnOk result (output.new ≡ added output.old (5 ∷ 0 ∷ 0 ∷ [])) }
+    ensures { Adds result output.old output.new (5 ∷ 0 ∷ 0 ∷ []) }
 {
     output.u8(5)?;
     output.u8(0)?;
@@ -177,7 +177,7 @@ pub(crate) fn put_mirrors(
     mirrors: &[Mirror],
     room: u16,
 ) -> Result<(), NoMemory>
-    ensures { OnOk result (output.new ≡ added output.old (list_spelled (mirror_spelled room) mirrors.now)) }
+    ensures { Adds result output.old output.new (list_spelled (mirror_spelled room) mirrors.now) }
 {
     output.count(mirrors.len())?;
     for each in mirrors {
@@ -189,7 +189,7 @@ pub(crate) fn put_mirrors(
 #[cycle(put_mirror)]
 #[tactic(auto, using(crate::proofs::Added::adds))]
 fn put_declared(output: &mut Output, declared: &DeclaredMirror, room: u16) -> Result<(), NoMemory>
-    ensures { OnOk result (output.new ≡ added output.old (1 ∷ declared_spelled room declared.now)) }
+    ensures { Adds result output.old output.new (1 ∷ declared_spelled room declared.now) }
 {
     output.u8(1)?;
     put_element(output, &declared.element)?;
@@ -200,7 +200,7 @@ fn put_declared(output: &mut Output, declared: &DeclaredMirror, room: u16) -> Re
 #[cycle(put_mirror)]
 #[tactic(auto, using(crate::proofs::Added::adds))]
 fn put_enclosing(output: &mut Output, declared: &DeclaredMirror, room: u16) -> Result<(), NoMemory>
-    ensures { OnOk result (output.new ≡ added output.old (enclosing_spelled room declared.now)) }
+    ensures { Adds result output.old output.new (enclosing_spelled room declared.now) }
 {
     match &declared.enclosing {
         None => output.u8(0),
@@ -218,7 +218,7 @@ fn put_executable(
     executable: &ExecutableMirror,
     room: u16,
 ) -> Result<(), NoMemory>
-    ensures { OnOk result (output.new ≡ added output.old (6 ∷ executable_spelled room executable.now)) }
+    ensures { Adds result output.old output.new (6 ∷ executable_spelled room executable.now) }
 {
     output.u8(6)?;
     put_elements(output, executable.variables.as_slice())?;
@@ -235,7 +235,7 @@ pub(crate) fn put_tagged_mirror(
     mirror: &Mirror,
     room: u16,
 ) -> Result<(), NoMemory>
-    ensures { OnOk result (output.new ≡ added output.old (tag ∷ mirror_spelled room mirror.now)) }
+    ensures { Adds result output.old output.new (tag ∷ mirror_spelled room mirror.now) }
 {
     output.u8(tag)?;
     put_mirror(output, mirror, room)
@@ -247,7 +247,7 @@ pub(crate) fn put_tagged_mirror(
 #[cycle(put_value)]
 #[tactic(auto, using(crate::proofs::Added::adds))]
 pub(crate) fn put_value(output: &mut Output, value: &Value, room: u16) -> Result<(), NoMemory>
-    ensures { OnOk result (output.new ≡ added output.old (value_spelled room value.now)) }
+    ensures { Adds result output.old output.new (value_spelled room value.now) }
 {
     if room == 0 {
         return Ok(());
@@ -268,7 +268,7 @@ pub(crate) fn put_value(output: &mut Output, value: &Value, room: u16) -> Result
 
 #[tactic(auto, using(crate::proofs::Added::adds))]
 fn put_truth(output: &mut Output, truth: bool) -> Result<(), NoMemory>
-    ensures { OnOk result (output.new ≡ added output.old (0 ∷ bool_number truth ∷ [])) }
+    ensures { Adds result output.old output.new (0 ∷ bool_number truth ∷ []) }
 {
     output.u8(0)?;
     output.bool(truth)
@@ -276,7 +276,7 @@ fn put_truth(output: &mut Output, truth: bool) -> Result<(), NoMemory>
 
 #[tactic(auto, using(crate::proofs::Added::adds))]
 fn put_whole(output: &mut Output, kind: WholeKind, number: &i64) -> Result<(), NoMemory>
-    ensures { OnOk result (output.new ≡ added output.old (1 ∷ whole_number kind ∷ i64_form number.now)) }
+    ensures { Adds result output.old output.new (1 ∷ whole_number kind ∷ i64_form number.now) }
 {
     output.u8(1)?;
     put_whole_kind(output, kind)?;
@@ -284,7 +284,7 @@ fn put_whole(output: &mut Output, kind: WholeKind, number: &i64) -> Result<(), N
 }
 
 fn put_whole_kind(output: &mut Output, kind: WholeKind) -> Result<(), NoMemory>
-    ensures { OnOk result (output.new ≡ added output.old (whole_number kind ∷ [])) }
+    ensures { Adds result output.old output.new (whole_number kind ∷ []) }
 {
     match kind {
         WholeKind::Int => output.u8(3),
@@ -294,7 +294,7 @@ fn put_whole_kind(output: &mut Output, kind: WholeKind) -> Result<(), NoMemory>
 
 #[tactic(auto, using(crate::proofs::Added::adds))]
 fn put_character(output: &mut Output, number: u32) -> Result<(), NoMemory>
-    ensures { OnOk result (output.new ≡ added output.old (2 ∷ to_be_bytes w32 number)) }
+    ensures { Adds result output.old output.new (2 ∷ to_be_bytes w32 number) }
 {
     output.u8(2)?;
     output.u32(number)
@@ -303,7 +303,7 @@ fn put_character(output: &mut Output, number: u32) -> Result<(), NoMemory>
 #[cycle(put_value)]
 #[tactic(auto, using(crate::proofs::Added::adds))]
 fn put_array(output: &mut Output, items: &List<Value>, room: u16) -> Result<(), NoMemory>
-    ensures { OnOk result (output.new ≡ added output.old (6 ∷ list_spelled (value_spelled room) items.now)) }
+    ensures { Adds result output.old output.new (6 ∷ list_spelled (value_spelled room) items.now) }
 {
     output.u8(6)?;
     put_values(output, items.as_slice(), room)
@@ -312,7 +312,7 @@ fn put_array(output: &mut Output, items: &List<Value>, room: u16) -> Result<(), 
 #[cycle(put_value)]
 #[tactic(auto, using(crate::proofs::Added::adds))]
 fn put_values(output: &mut Output, items: &[Value], room: u16) -> Result<(), NoMemory>
-    ensures { OnOk result (output.new ≡ added output.old (list_spelled (value_spelled room) items.now)) }
+    ensures { Adds result output.old output.new (list_spelled (value_spelled room) items.now) }
 {
     output.count(items.len())?;
     for each in items {
@@ -324,7 +324,7 @@ fn put_values(output: &mut Output, items: &[Value], room: u16) -> Result<(), NoM
 #[cycle(put_value)]
 #[tactic(auto, using(crate::proofs::Added::adds))]
 fn put_nested(output: &mut Output, annotation: &Annotation, room: u16) -> Result<(), NoMemory>
-    ensures { OnOk result (output.new ≡ added output.old (7 ∷ annotation_spelled room annotation.now)) }
+    ensures { Adds result output.old output.new (7 ∷ annotation_spelled room annotation.now) }
 {
     output.u8(7)?;
     put_annotation(output, annotation, room)
@@ -338,7 +338,7 @@ pub(crate) fn put_annotation(
     annotation: &Annotation,
     room: u16,
 ) -> Result<(), NoMemory>
-    ensures { OnOk result (output.new ≡ added output.old (annotation_spelled room annotation.now)) }
+    ensures { Adds result output.old output.new (annotation_spelled room annotation.now) }
 {
     put_mirror(output, &annotation.annotation_type, room)?;
     put_named(output, annotation.values.as_slice(), room)
@@ -347,7 +347,7 @@ pub(crate) fn put_annotation(
 #[cycle(put_value)]
 #[tactic(auto, using(crate::proofs::Added::adds))]
 fn put_named(output: &mut Output, values: &[NamedValue], room: u16) -> Result<(), NoMemory>
-    ensures { OnOk result (output.new ≡ added output.old (list_spelled (named_spelled room) values.now)) }
+    ensures { Adds result output.old output.new (list_spelled (named_spelled room) values.now) }
 {
     output.count(values.len())?;
     for each in values {
@@ -359,7 +359,7 @@ fn put_named(output: &mut Output, values: &[NamedValue], room: u16) -> Result<()
 #[cycle(put_value)]
 #[tactic(auto, using(crate::proofs::Added::adds))]
 fn put_named_value(output: &mut Output, named: &NamedValue, room: u16) -> Result<(), NoMemory>
-    ensures { OnOk result (output.new ≡ added output.old (named_spelled room named.now)) }
+    ensures { Adds result output.old output.new (named_spelled room named.now) }
 {
     output.text(&named.name)?;
     put_value(output, &named.value, room)
@@ -372,7 +372,7 @@ pub(crate) fn put_annotations(
     annotations: &[Annotation],
     room: u16,
 ) -> Result<(), NoMemory>
-    ensures { OnOk result (output.new ≡ added output.old (list_spelled (annotation_spelled room) annotations.now)) }
+    ensures { Adds result output.old output.new (list_spelled (annotation_spelled room) annotations.now) }
 {
     output.count(annotations.len())?;
     for each in annotations {

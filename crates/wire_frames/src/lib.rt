@@ -19,11 +19,14 @@ mod question;
 mod question_writing;
 mod reading;
 mod reply;
-mod tags;
+pub mod tags;
 mod writing;
 
 pub use frame::{Creation, Frame, Hello, Init, Message, copy_options};
 pub use question::Question;
-pub use reading::{frame_length, read_child_frame};
+pub use reading::{
+    frame_length, read_below, read_child_fields, read_child_frame, read_element, read_elements,
+    read_step,
+};
 pub use reply::{Created, Info, Refused, Reply};
 pub use writing::{FrameFault, MAX_FRAME, encode};

@@ -2,8 +2,8 @@
 ghost use Rattle.std.specs.Prelude.{◌≡◌, [], ◌∷◌, ◌++◌, OnOk};
 ghost use Rattle.std.specs.Int.{w16, to_be_bytes};
 ghost use Rattle.wire_frames.specs.Frames.{question_shown};
-ghost use Rattle.wire_frames.specs.Outputs.{added};
-ghost use Rattle.wire_frames.specs.Spellings.{list_spelled, fields_spelled, element_spelled, mirror_spelled};
+ghost use Rattle.wire_frames.specs.Outputs.{Adds};
+ghost use Rattle.wire_frames.specs.Spellings.{fields_spelled, mirror_spelled, numbered_spelled, override_spelled, two_mirrors_spelled, member_spelled, type_spelled};
 
 use crate::form_writing::{
     MOST_NESTED, put_element, put_mirror, put_mirrors, put_tagged_element, put_tagged_mirror,
@@ -17,7 +17,7 @@ use type_mirror::Mirror;
 
 #[tactic(auto, using(crate::proofs::Added::adds))]
 fn put_numbered(output: &mut Output, element: &ElementRef, number: u16) -> Result<(), NoMemory>
-    ensures { OnOk result (output.new ≡ added output.old (91 ∷ (element_spelled element.now ++ to_be_bytes w16 number))) }
+    ensures { Adds result output.old output.new (91 ∷ numbered_spelled element.now number) }
 {
     put_tagged_element(output, tags::ASK_VALUES_WITH_DEFAULTS, element)?;
     output.u16(number)
@@ -30,8 +30,7 @@ fn put_overrides(
     overridden: &ElementRef,
     in_type: &ElementRef,
 ) -> Result<(), NoMemory>
-    ensures { OnOk result (output.new ≡ added output.old
-        (95 ∷ (element_spelled overrider.now ++ (element_spelled overridden.now ++ element_spelled in_type.now)))) }
+    ensures { Adds result output.old output.new (override_spelled overrider.now overridden.now in_type.now) }
 {
     put_tagged_element(output, tags::ASK_OVERRIDES, overrider)?;
     put_element(output, overridden)?;
@@ -45,8 +44,7 @@ fn put_two_mirrors(
     one: &Mirror,
     other: &Mirror,
 ) -> Result<(), NoMemory>
-    ensures { OnOk result (output.new ≡ added output.old
-        (tag ∷ (mirror_spelled 256 one.now ++ mirror_spelled 256 other.now))) }
+    ensures { Adds result output.old output.new (tag ∷ two_mirrors_spelled one.now other.now) }
 {
     put_tagged_mirror(output, tag, one, MOST_NESTED)?;
     put_mirror(output, other, MOST_NESTED)
@@ -54,8 +52,7 @@ fn put_two_mirrors(
 
 #[tactic(auto, using(crate::proofs::Added::adds))]
 fn put_member(output: &mut Output, container: &Mirror, element: &ElementRef) -> Result<(), NoMemory>
-    ensures { OnOk result (output.new ≡ added output.old
-        (109 ∷ (mirror_spelled 256 container.now ++ element_spelled element.now))) }
+    ensures { Adds result output.old output.new (109 ∷ member_spelled container.now element.now) }
 {
     put_tagged_mirror(output, tags::ASK_MEMBER_TYPE, container, MOST_NESTED)?;
     put_element(output, element)
@@ -67,15 +64,14 @@ fn put_type(
     element: &ElementRef,
     arguments: &List<Mirror>,
 ) -> Result<(), NoMemory>
-    ensures { OnOk result (output.new ≡ added output.old
-        (112 ∷ (element_spelled element.now ++ list_spelled (mirror_spelled 256) arguments.now))) }
+    ensures { Adds result output.old output.new (112 ∷ type_spelled element.now arguments.now) }
 {
     put_tagged_element(output, tags::ASK_DECLARED_TYPE, element)?;
     put_mirrors(output, arguments.as_slice(), MOST_NESTED)
 }
 
 fn put_about_mirror(output: &mut Output, tag: u8, mirror: &Mirror) -> Result<(), NoMemory>
-    ensures { OnOk result (output.new ≡ added output.old (tag ∷ mirror_spelled 256 mirror.now)) }
+    ensures { Adds result output.old output.new (tag ∷ mirror_spelled 256 mirror.now) }
 {
     put_tagged_mirror(output, tag, mirror, MOST_NESTED)
 }
@@ -83,7 +79,7 @@ fn put_about_mirror(output: &mut Output, tag: u8, mirror: &Mirror) -> Result<(),
 /// A question, its tag and its fields.
 #[tactic(auto, using(crate::proofs::Added::adds, crate::proofs::Rows::question_rows))]
 pub(crate) fn put_question(output: &mut Output, question: &Question) -> Result<(), NoMemory>
-    ensures { OnOk result (output.new ≡ added output.old (fields_spelled (question_shown question.now))) }
+    ensures { Adds result output.old output.new (fields_spelled (question_shown question.now)) }
 {
     match question {
         Question::TypeElement(name) => put_tagged_text(output, tags::ASK_TYPE_ELEMENT, name),

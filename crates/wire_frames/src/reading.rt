@@ -6,7 +6,7 @@ ghost use Rattle.apt_base.specs.Forms.{mapped, opt_next, list_next};
 ghost use Rattle.apt_base.specs.Identifiers.{is_pattern};
 ghost use Rattle.apt_base.specs.Readings.{Gives, GivesAll};
 ghost use Rattle.wire_frames.specs.Frames.{AreFieldsOf};
-ghost use Rattle.wire_frames.specs.Readings.{is_of_today, has_no_origins, IsOfToday, child_frame, length_of, are_distinct, distinct_next, patterns_next, below_next, claim_next, element_next, hello_next, done_next, file_next, source_of, class_of, resource_next, message_next, fields_next};
+ghost use Rattle.wire_frames.specs.Readings.{is_of_today, has_no_origins, IsOfToday, IsTodays, Finds, child_frame, length_of, are_distinct, distinct_next, patterns_next, below_next, claim_next, element_next, hello_next, done_next, file_next, source_of, class_of, resource_next, message_next, fields_next};
 
 use crate::frame::{Creation, Frame, Hello, Message};
 use crate::tags;
@@ -62,8 +62,9 @@ fn patterns(alloc: Global, reader: &mut FieldReader<'_>) -> Result<List<Name>, F
     }
 }
 
+/// The number of one byte that is below the bound. The only fault is Bad: another byte stands there, or none.
 #[tactic(auto, unfolding(crate::specs::Readings::below_next))]
-fn below(bound: u8, reader: &mut FieldReader<'_>) -> Result<u8, FormFault>
+pub fn read_below(bound: u8, reader: &mut FieldReader<'_>) -> Result<u8, FormFault>
     ensures { Gives result (below_next bound reader.old) reader.new }
 {
     let number = read_byte(reader)?;
@@ -100,7 +101,8 @@ fn content(alloc: Global, reader: &mut FieldReader<'_>) -> Result<List<u8>, Form
 
 // ---- elements
 
-fn step(reader: &mut FieldReader<'_>) -> Result<u16, FormFault>
+/// The number of two bytes that stands next. The only fault is Bad: fewer stand there.
+pub fn read_step(reader: &mut FieldReader<'_>) -> Result<u16, FormFault>
     ensures { Gives result (u16_next reader.old) reader.new }
 {
     match reader.u16() {
@@ -116,14 +118,15 @@ fn path(alloc: Global, reader: &mut FieldReader<'_>) -> Result<List<u16>, FormFa
     let count = read_count(reader)?;
     let mut items = List::new(alloc);
     for _ in 0..count {
-        let item = step(reader)?;
+        let item = read_step(reader)?;
         items.push(item)?;
     }
     Ok(items)
 }
 
+/// The reference of an element that stands next. It is Bad where none stands there, and Memory for want of memory.
 #[tactic(auto, unfolding(crate::specs::Readings::element_next))]
-fn element(alloc: Global, reader: &mut FieldReader<'_>) -> Result<ElementRef, FormFault>
+pub fn read_element(alloc: Global, reader: &mut FieldReader<'_>) -> Result<ElementRef, FormFault>
     ensures { Gives result (element_next reader.old) reader.new }
 {
     let unit = read_text(alloc, reader)?;
@@ -131,14 +134,19 @@ fn element(alloc: Global, reader: &mut FieldReader<'_>) -> Result<ElementRef, Fo
     Ok(ElementRef { unit, path })
 }
 
+/// The references of elements that stand next, behind their number. It is Bad where there is no such list, and
+/// Memory for want of memory.
 #[tactic(auto, unfolding(apt_base::specs::Forms::list_next))]
-fn elements(alloc: Global, reader: &mut FieldReader<'_>) -> Result<List<ElementRef>, FormFault>
+pub fn read_elements(
+    alloc: Global,
+    reader: &mut FieldReader<'_>,
+) -> Result<List<ElementRef>, FormFault>
     ensures { Gives result (list_next element_next reader.old) reader.new }
 {
     let count = read_count(reader)?;
     let mut items = List::new(alloc);
     for _ in 0..count {
-        let item = element(alloc, reader)?;
+        let item = read_element(alloc, reader)?;
         items.push(item)?;
     }
     Ok(items)
@@ -152,7 +160,7 @@ fn optional_element(
     ensures { Gives result (opt_next element_next reader.old) reader.new }
 {
     if read_truth(reader)? {
-        let value = element(alloc, reader)?;
+        let value = read_element(alloc, reader)?;
         Ok(Some(value))
     } else {
         Ok(None)
@@ -189,7 +197,7 @@ fn source(alloc: Global, reader: &mut FieldReader<'_>) -> Result<Frame, FormFaul
 {
     let name = read_text(alloc, reader)?;
     let content = content(alloc, reader)?;
-    let origins = elements(alloc, reader)?;
+    let origins = read_elements(alloc, reader)?;
     Ok(Frame::Create(Creation::Source {
         name,
         content,
@@ -201,11 +209,11 @@ fn source(alloc: Global, reader: &mut FieldReader<'_>) -> Result<Frame, FormFaul
 fn resource(alloc: Global, reader: &mut FieldReader<'_>) -> Result<Frame, FormFault>
     ensures { Gives result (resource_next reader.old) reader.new }
 {
-    let location = below(3, reader)?;
+    let location = read_below(3, reader)?;
     let package = read_text(alloc, reader)?;
     let relative = read_text(alloc, reader)?;
     let content = content(alloc, reader)?;
-    let origins = elements(alloc, reader)?;
+    let origins = read_elements(alloc, reader)?;
     Ok(Frame::Create(Creation::Resource {
         location,
         package,
@@ -221,7 +229,7 @@ fn class(alloc: Global, reader: &mut FieldReader<'_>) -> Result<Frame, FormFault
 {
     let name = read_text(alloc, reader)?;
     let content = content(alloc, reader)?;
-    let origins = elements(alloc, reader)?;
+    let origins = read_elements(alloc, reader)?;
     Ok(Frame::Create(Creation::Class {
         name,
         content,
@@ -233,7 +241,7 @@ fn class(alloc: Global, reader: &mut FieldReader<'_>) -> Result<Frame, FormFault
 fn message(alloc: Global, reader: &mut FieldReader<'_>) -> Result<Frame, FormFault>
     ensures { Gives result (message_next reader.old) reader.new }
 {
-    let kind = below(5, reader)?;
+    let kind = read_below(5, reader)?;
     let element = optional_element(alloc, reader)?;
     let text = read_text(alloc, reader)?;
     Ok(Frame::Message(Message {
@@ -243,7 +251,13 @@ fn message(alloc: Global, reader: &mut FieldReader<'_>) -> Result<Frame, FormFau
     }))
 }
 
-fn fields(alloc: Global, tag: u8, reader: &mut FieldReader<'_>) -> Result<Frame, FormFault>
+/// The frame of a child that has this tag and the fields that stand next: `Hello`, `Done`, `Create` or `Message`.
+/// It is Bad where they are not the tag's fields, and for any other tag, and Memory for want of memory.
+pub fn read_child_fields(
+    alloc: Global,
+    tag: u8,
+    reader: &mut FieldReader<'_>,
+) -> Result<Frame, FormFault>
     ensures { Gives result (fields_next tag reader.old) reader.new }
 {
     match tag {
@@ -263,7 +277,7 @@ fn frame_of(alloc: Global, bytes: &[u8]) -> Result<Frame, FormFault>
 {
     let mut reader = FieldReader::new(bytes);
     let tag = read_byte(&mut reader)?;
-    let frame = fields(alloc, tag, &mut reader)?;
+    let frame = read_child_fields(alloc, tag, &mut reader)?;
     if reader.left() > 0 || !is_of_today(&frame) {
         return Err(FormFault::Bad);
     }
@@ -329,9 +343,9 @@ fn child_frame(alloc: Global, bytes: &[u8]) -> Result<Option<Frame>, NoMemory>
 pub fn read_child_frame(alloc: Global, bytes: &[u8]) -> Result<Option<Frame>, NoMemory>
     ensures exact { IfOk result (λ found. found ≡ child_frame bytes.now) }
     // What is read is a frame of the table, spelled so, and today's rounds have it.
-    ensures found { IfOk result (λ found. IfSome found (λ frame. IsOfToday frame × AreFieldsOf bytes.now frame)) }
+    ensures found { IfOk result (λ found. IfSome found (IsTodays bytes.now)) }
     // Each frame of the table that is spelled so and that today's rounds have is read.
-    ensures only { (frame : Frame) → IsOfToday frame → AreFieldsOf bytes.now frame → IfOk result (λ found. found ≡ Some frame) }
+    ensures only { (frame : Frame) → IsOfToday frame → AreFieldsOf bytes.now frame → Finds result frame }
 {
     child_frame(alloc, bytes)
 }

@@ -13,7 +13,7 @@ pub enum Created {
     Accepted,
     /// A file of that name is there already.
     Exists,
-    /// A file can't be created at that location.
+    /// Files of that kind can't be created: class files, which no host of sources makes.
     Unsupported,
     /// The name is none of a file or a type.
     BadName,
@@ -28,7 +28,7 @@ pub enum Refused {
     NoSuch,
     /// An argument isn't of the kind that the question asks for.
     WrongKind,
-    /// The answer would be nested too deep.
+    /// The question has no answer within 64 steps from a type to its supertypes, bounds or arguments.
     TooDeep,
     /// The answer would be too large.
     TooLarge,

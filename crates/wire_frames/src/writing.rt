@@ -6,8 +6,8 @@ ghost use Rattle.frame_forms.specs.Forms.{opt_spelling};
 ghost use Rattle.frame_forms.specs.MirrorForms.{bool_number};
 ghost use Rattle.frame_forms.specs.FrameTable.{claim_number};
 ghost use Rattle.wire_frames.specs.Frames.{shown, init_shown, reply_shown, info_shown, hello_shown, creation_shown, message_shown, created_number, refused_number, spelling, IsInTable, AreBytesOf};
-ghost use Rattle.wire_frames.specs.Outputs.{added, counted};
-ghost use Rattle.wire_frames.specs.Spellings.{list_spelled, fields_spelled, element_spelled, option_spelled, value_with_name_spelled};
+ghost use Rattle.wire_frames.specs.Outputs.{Adds, added, counted};
+ghost use Rattle.wire_frames.specs.Spellings.{list_spelled, fields_spelled, element_spelled, option_spelled, value_with_name_spelled, heading_spelled, texts_spelled, round_spelled, values_with_names_spelled, file_spelled, resource_spelled};
 ghost use Rattle.wire_frames.specs.declared.writing.FrameFault.TheVariants as faults;
 
 use crate::form_writing::{
@@ -46,7 +46,7 @@ impl From<NoMemory> for FrameFault {
 
 #[tactic(auto, using(crate::proofs::Added::adds))]
 fn put_option(output: &mut Output, option: &(Name, Name)) -> Result<(), NoMemory>
-    ensures { OnOk result (output.new ≡ added output.old (option_spelled option.now)) }
+    ensures { Adds result output.old output.new (option_spelled option.now) }
 {
     output.text(&option.0)?;
     output.text(&option.1)
@@ -54,7 +54,7 @@ fn put_option(output: &mut Output, option: &(Name, Name)) -> Result<(), NoMemory
 
 #[tactic(auto, using(crate::proofs::Added::adds))]
 fn put_options(output: &mut Output, options: &[(Name, Name)]) -> Result<(), NoMemory>
-    ensures { OnOk result (output.new ≡ added output.old (list_spelled option_spelled options.now)) }
+    ensures { Adds result output.old output.new (list_spelled option_spelled options.now) }
 {
     output.count(options.len())?;
     for each in options {
@@ -65,7 +65,7 @@ fn put_options(output: &mut Output, options: &[(Name, Name)]) -> Result<(), NoMe
 
 #[tactic(auto, using(crate::proofs::Added::adds, crate::proofs::Rows::frame_rows))]
 fn put_init(output: &mut Output, init: &Init) -> Result<(), NoMemory>
-    ensures { OnOk result (output.new ≡ added output.old (fields_spelled (init_shown init.now))) }
+    ensures { Adds result output.old output.new (fields_spelled (init_shown init.now)) }
 {
     output.u8(tags::INIT)?;
     output.text(&init.name)?;
@@ -76,8 +76,7 @@ fn put_init(output: &mut Output, init: &Init) -> Result<(), NoMemory>
 // The number of a round, and its flags.
 #[tactic(auto, using(crate::proofs::Added::adds))]
 fn put_heading(output: &mut Output, number: u32, over: bool, error: bool) -> Result<(), NoMemory>
-    ensures { OnOk result (output.new ≡ added output.old
-        (2 ∷ (to_be_bytes w32 number ++ (bool_number over ∷ bool_number error ∷ [])))) }
+    ensures { Adds result output.old output.new (2 ∷ heading_spelled number over error) }
 {
     output.u8(tags::ROUND)?;
     output.u32(number)?;
@@ -87,8 +86,7 @@ fn put_heading(output: &mut Output, number: u32, over: bool, error: bool) -> Res
 
 #[tactic(auto, using(crate::proofs::Added::adds))]
 fn put_two_lists(output: &mut Output, one: &List<Name>, other: &List<Name>) -> Result<(), NoMemory>
-    ensures { OnOk result (output.new ≡ added output.old
-        (list_spelled bytes_form one.now ++ list_spelled bytes_form other.now)) }
+    ensures { Adds result output.old output.new (texts_spelled one.now ++ texts_spelled other.now) }
 {
     put_texts(output, one.as_slice())?;
     put_texts(output, other.as_slice())
@@ -103,8 +101,7 @@ fn put_round(
     offered: &List<Name>,
     roots: &List<Name>,
 ) -> Result<(), NoMemory>
-    ensures { OnOk result (output.new ≡ added output.old
-        (fields_spelled (2, (number, (over, (error, (offered.now, roots.now))))))) }
+    ensures { Adds result output.old output.new (round_spelled number over error offered.now roots.now) }
 {
     put_heading(output, number, over, error)?;
     put_two_lists(output, offered, roots)
@@ -114,7 +111,7 @@ fn put_round(
 
 #[tactic(auto, using(crate::proofs::Added::adds))]
 fn put_named_value(output: &mut Output, named: &(Name, Value)) -> Result<(), NoMemory>
-    ensures { OnOk result (output.new ≡ added output.old (value_with_name_spelled MOST_NESTED named.now)) }
+    ensures { Adds result output.old output.new (value_with_name_spelled MOST_NESTED named.now) }
 {
     output.text(&named.0)?;
     put_value(output, &named.1, MOST_NESTED)
@@ -122,8 +119,7 @@ fn put_named_value(output: &mut Output, named: &(Name, Value)) -> Result<(), NoM
 
 #[tactic(auto, using(crate::proofs::Added::adds))]
 fn put_named_values(output: &mut Output, values: &[(Name, Value)]) -> Result<(), NoMemory>
-    ensures { OnOk result (output.new ≡ added output.old
-        (list_spelled (value_with_name_spelled MOST_NESTED) values.now)) }
+    ensures { Adds result output.old output.new (values_with_names_spelled values.now) }
 {
     output.count(values.len())?;
     for each in values {
@@ -134,7 +130,7 @@ fn put_named_values(output: &mut Output, values: &[(Name, Value)]) -> Result<(),
 
 #[tactic(auto, using(crate::proofs::Added::adds, crate::proofs::Rows::reply_rows))]
 fn put_info(output: &mut Output, info: &Info) -> Result<(), NoMemory>
-    ensures { OnOk result (output.new ≡ added output.old (fields_spelled (info_shown info.now))) }
+    ensures { Adds result output.old output.new (fields_spelled (info_shown info.now)) }
 {
     output.u8(tags::INFO)?;
     output.u8(info.kind)?;
@@ -146,7 +142,7 @@ fn put_info(output: &mut Output, info: &Info) -> Result<(), NoMemory>
 
 #[tactic(auto, using(crate::proofs::Added::adds))]
 fn put_pair(output: &mut Output, tag: u8, number: u8) -> Result<(), NoMemory>
-    ensures { OnOk result (output.new ≡ added output.old (tag ∷ number ∷ [])) }
+    ensures { Adds result output.old output.new (tag ∷ number ∷ []) }
 {
     output.u8(tag)?;
     output.u8(number)
@@ -177,7 +173,7 @@ fn number_of_refused(refused: Refused) -> u8
 
 #[tactic(auto, using(crate::proofs::Added::adds, crate::proofs::Rows::reply_rows))]
 fn put_reply(output: &mut Output, reply: &Reply) -> Result<(), NoMemory>
-    ensures { OnOk result (output.new ≡ added output.old (fields_spelled (reply_shown reply.now))) }
+    ensures { Adds result output.old output.new (fields_spelled (reply_shown reply.now)) }
 {
     match reply {
         Reply::Elements(elements) => {
@@ -215,14 +211,14 @@ fn put_reply(output: &mut Output, reply: &Reply) -> Result<(), NoMemory>
 
 #[tactic(auto, using(crate::proofs::Added::adds))]
 fn put_claim(output: &mut Output, claim: Claim) -> Result<(), NoMemory>
-    ensures { OnOk result (output.new ≡ added output.old (claim_number claim ∷ [])) }
+    ensures { Adds result output.old output.new (claim_number claim ∷ []) }
 {
     output.u8(claim as u8)
 }
 
 #[tactic(auto, using(crate::proofs::Added::adds, crate::proofs::Rows::frame_rows))]
 fn put_hello(output: &mut Output, hello: &Hello) -> Result<(), NoMemory>
-    ensures { OnOk result (output.new ≡ added output.old (fields_spelled (hello_shown hello.now))) }
+    ensures { Adds result output.old output.new (fields_spelled (hello_shown hello.now)) }
 {
     output.u8(tags::HELLO)?;
     put_texts(output, hello.patterns.as_slice())?;
@@ -232,7 +228,7 @@ fn put_hello(output: &mut Output, hello: &Hello) -> Result<(), NoMemory>
 
 #[tactic(auto, using(crate::proofs::Added::adds, crate::proofs::Rows::frame_rows))]
 fn put_done(output: &mut Output, claimed: bool) -> Result<(), NoMemory>
-    ensures { OnOk result (output.new ≡ added output.old (fields_spelled (65, claimed))) }
+    ensures { Adds result output.old output.new (fields_spelled (65, claimed)) }
 {
     output.u8(tags::DONE)?;
     output.bool(claimed)
@@ -246,8 +242,7 @@ fn put_file(
     content: &List<u8>,
     origins: &List<ElementRef>,
 ) -> Result<(), NoMemory>
-    ensures { OnOk result (output.new ≡ added output.old
-        (tag ∷ (bytes_form name.now ++ (bytes_form content.now ++ list_spelled element_spelled origins.now)))) }
+    ensures { Adds result output.old output.new (tag ∷ file_spelled name.now content.now origins.now) }
 {
     output.u8(tag)?;
     output.text(name)?;
@@ -264,8 +259,7 @@ fn put_resource(
     content: &List<u8>,
     origins: &List<ElementRef>,
 ) -> Result<(), NoMemory>
-    ensures { OnOk result (output.new ≡ added output.old
-        (fields_spelled (67, (location, (folder.now, (relative.now, (content.now, origins.now))))))) }
+    ensures { Adds result output.old output.new (resource_spelled location folder.now relative.now content.now origins.now) }
 {
     output.u8(tags::RESOURCE)?;
     output.u8(location)?;
@@ -277,7 +271,7 @@ fn put_resource(
 
 #[tactic(auto, using(crate::proofs::Added::adds, crate::proofs::Rows::frame_rows))]
 fn put_creation(output: &mut Output, creation: &Creation) -> Result<(), NoMemory>
-    ensures { OnOk result (output.new ≡ added output.old (fields_spelled (creation_shown creation.now))) }
+    ensures { Adds result output.old output.new (fields_spelled (creation_shown creation.now)) }
 {
     match creation {
         Creation::Source {
@@ -302,8 +296,7 @@ fn put_creation(output: &mut Output, creation: &Creation) -> Result<(), NoMemory
 
 #[tactic(auto, using(crate::proofs::Added::adds))]
 fn put_optional_element(output: &mut Output, element: &Option<ElementRef>) -> Result<(), NoMemory>
-    ensures { OnOk result (output.new ≡ added output.old
-        (opt_spelling {A = ElementRef} element_spelled element.now)) }
+    ensures { Adds result output.old output.new (opt_spelling {A = ElementRef} element_spelled element.now) }
 {
     match element {
         None => output.u8(0),
@@ -316,7 +309,7 @@ fn put_optional_element(output: &mut Output, element: &Option<ElementRef>) -> Re
 
 #[tactic(auto, using(crate::proofs::Added::adds, crate::proofs::Rows::frame_rows))]
 fn put_message(output: &mut Output, message: &Message) -> Result<(), NoMemory>
-    ensures { OnOk result (output.new ≡ added output.old (fields_spelled (message_shown message.now))) }
+    ensures { Adds result output.old output.new (fields_spelled (message_shown message.now)) }
 {
     output.u8(tags::MESSAGE)?;
     output.u8(message.kind)?;
@@ -328,7 +321,7 @@ fn put_message(output: &mut Output, message: &Message) -> Result<(), NoMemory>
 
 #[tactic(auto, using(crate::proofs::Added::adds, crate::proofs::Rows::frame_rows))]
 fn put_fields(output: &mut Output, frame: &Frame) -> Result<(), NoMemory>
-    ensures { OnOk result (output.new ≡ added output.old (fields_spelled (shown frame.now))) }
+    ensures { Adds result output.old output.new (fields_spelled (shown frame.now)) }
 {
     match frame {
         Frame::Init(init) => put_init(output, init),

@@ -1,4 +1,4 @@
-use Rattle.apt_base.proofs.Fields.{is_text-of_utf8, is_text-fails}
+use Rattle.apt_base.proofs.FieldsLemmas.{is_text-of_utf8, is_text-fails}
 use Rattle.frame_reader.proofs.fields.text_of.Goals as goal
 
 pub returns-in-Ok-clause-some : goal.returns-in-Ok-clause-some

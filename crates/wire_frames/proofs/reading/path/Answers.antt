@@ -7,12 +7,12 @@ use Rattle.wire_frames.proofs.reading.path.Goals as goal
 pub returns-in_err-item : goal.returns-in_err-item
 returns-in_err-item c =
     let p = err_from_is_err_and c.from_residual-in_err-item.result c.from_residual-in_err-item.ensures.1 in
-    rw (p.1, p.2) (list_ends u16_next c.in_err-item.field-0.0 c.loop.items c.in_ok-count.count c.loop.counter c.loop.reader c.args.reader.now c.read_count.new.reader c.step.new.reader
+    rw (p.1, p.2) (list_ends u16_next c.in_err-item.field-0.0 c.loop.items c.in_ok-count.count c.loop.counter c.loop.reader c.args.reader.now c.read_count.new.reader c.read_step.new.reader
     c.in_ok-count.ensures c.loop-test.true c.in_err-item.ensures c.loop.invariant)
 
 pub loop-preserved : goal.loop-preserved
 loop-preserved c =
-    rw c.in_ok-push.ensures.ok (goes_on u16_next c.loop.items c.in_ok-count.count c.loop.counter c.loop.reader c.in_ok-item.item c.step.new.reader (items_next u16_next c.in_ok-count.count c.read_count.new.reader)
+    rw c.in_ok-push.ensures.ok (goes_on u16_next c.loop.items c.in_ok-count.count c.loop.counter c.loop.reader c.in_ok-item.item c.read_step.new.reader (items_next u16_next c.in_ok-count.count c.read_count.new.reader)
     c.loop-test.true c.in_ok-item.ensures c.loop.invariant)
 
 pub returns : goal.returns

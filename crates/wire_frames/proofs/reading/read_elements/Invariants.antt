@@ -2,7 +2,7 @@ use Rattle.std.proofs.Common.{◌≡◌, ◌-◌}
 use Rattle.apt_base.specs.Forms.{items_next}
 use Rattle.apt_base.proofs.Counted.{with_front}
 use Rattle.wire_frames.specs.Readings.{element_next}
-use Rattle.wire_frames.proofs.reading.elements.Given as goal
+use Rattle.wire_frames.proofs.reading.read_elements.Given as goal
 
 -- what was read, and what is left to read, are all
 abbrev pub invariant-loop : goal.invariant-loop

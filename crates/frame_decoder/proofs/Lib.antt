@@ -1,0 +1,6 @@
+pub mod Rooms
+pub mod Wrapping
+pub mod PartsScanned
+pub mod Ascending
+pub mod TableRows
+pub mod Decoded

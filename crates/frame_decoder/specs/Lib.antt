@@ -1,0 +1,4 @@
+pub mod PartReadings
+pub mod QuestionReadings
+pub mod HostReadings
+pub mod Decodings

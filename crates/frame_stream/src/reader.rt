@@ -1,0 +1,81 @@
+// Reads the frames of a stream.
+ghost use Rattle.std.specs.Prelude.{◌≡◌, [], length};
+ghost use Rattle.frame_reader.specs.Stages.{fed};
+ghost use Rattle.frame_stream.specs.Streams.{Comes};
+ghost use Rattle.frame_stream.specs.declared.reader.ReadFault.TheVariants as faults;
+
+use crate::taking::{take_byte, waiting_in};
+use apt_base::NoMemory;
+use frame_forms::BadKind;
+use frame_reader::FrameScanner;
+use std::alloc::Global;
+use std::marker::Model;
+use wire_frames::Frame;
+
+/// Why a byte gives no frame and begins none.
+#[derive(Clone, Copy, Debug, PartialEq, Eq)]
+pub enum ReadFault {
+    /// The bytes since the last frame are no frame's, nor the beginning of one's.
+    Bad {
+        /// The place of the first bad byte, from 0 at the first byte of the length.
+        place: u32,
+        /// What is wrong with it.
+        kind: BadKind,
+    },
+    /// Want of memory.
+    Memory,
+}
+
+impl From<NoMemory> for ReadFault {
+    ghost from_gives = { λ _ fault. fault ≡ faults.Memory };
+
+    fn from(_: NoMemory) -> ReadFault {
+        ReadFault::Memory
+    }
+}
+
+/// Reads the frames of a stream, byte by byte. Contracts see it as the bytes since the last frame.
+#[derive(Drop)]
+pub struct Reader {
+    alloc: Global,
+    scanner: FrameScanner,
+}
+
+impl Model for Reader {
+    ghost use Rattle.std.specs.Prelude.{List, ℕ, ◌≤◌, length};
+    ghost use Rattle.frame_stream.specs.Streams.{pending, most_bytes};
+
+    ghost Value = { List ℕ };
+
+    ghost view = { λ a. pending a.scanner };
+
+    ghost invariant = { λ a. length (pending a.scanner) ≤ most_bytes };
+}
+
+impl Reader {
+    /// A reader at the beginning of a stream. It takes no memory.
+    pub fn new(alloc: Global) -> Reader
+        ensures { result ≡ [] }
+    {
+        Reader {
+            alloc,
+            scanner: FrameScanner::new(alloc),
+        }
+    }
+
+    /// Takes the next byte of the stream, and gives the frame that it ends: None while the bytes since the last frame begin one and none of them is bad.
+    ///
+    /// `Bad` comes exactly where this byte is the first bad one by the table of all frames, the fourth byte of a length out of range among them; from then on each call answers the same. `Memory` is want of memory, and the reader is then as it was.
+    pub fn feed(&mut self, byte: u8) -> Result<Option<Frame>, ReadFault>
+        ensures { Comes result self.old (fed self.old byte) self.new }
+    {
+        take_byte(self.alloc, &mut self.scanner, byte)
+    }
+
+    /// How many bytes there are since the last frame. After a bad byte it counts those up to it.
+    pub fn waiting(&self) -> u32
+        ensures { result ≡ length self.now }
+    {
+        waiting_in(&self.scanner)
+    }
+}
