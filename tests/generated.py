@@ -233,7 +233,7 @@ def a_created_source_of_a_type_that_is_there(project):
 
 
 def chain(count):
-    """The rounds of a child that creates one source in each of so many rounds, and the names of the sources."""
+    """The rounds of a child that creates one source in each of this many rounds, and the names of the sources."""
     names = [f"p.D{number:02}" for number in range(1, count + 1)]
     return [[create_source(name)] for name in names], names
 
@@ -327,7 +327,7 @@ def a_created_source_of_a_type_with_too_long_a_name(project):
 
 
 def made(project, count):
-    """Steps that create so many sources, each of a type of its own, a thousand at a time."""
+    """Steps that create this many sources, each of a type of its own, a thousand at a time."""
     frames = [create_source(f"p.T{number:05}") for number in range(count)]
     return [from_file(project, f"made-{start}", *frames[start:start + 1000]) for start in range(0, count, 1000)]
 

@@ -13,20 +13,26 @@ from host import SECONDS
 
 PROGRAM = os.path.join(os.path.dirname(os.path.abspath(__file__)), "..", "crates", "apt_vectors", "out", "apt_vectors")
 
-PASSED = b"tokens: passed\n"
+TOKENS = b"tokens: passed\n"
+FRAMES = b"frames: passed\n"
 REFUSED = b"refused\n"
 
 # The words of a call, what is printed, and the exit status.
 CASES = [
-    ([], PASSED, 0),
-    (["--table", "tokens"], PASSED, 0),
-    (["--table=tokens"], PASSED, 0),
+    ([], TOKENS + FRAMES, 0),
+    (["--table", "tokens"], TOKENS, 0),
+    (["--table=tokens"], TOKENS, 0),
+    (["--table", "frames"], FRAMES, 0),
+    (["--table=frames"], FRAMES, 0),
     (["--table", "other"], REFUSED, 2),
     (["--table", ""], REFUSED, 2),
     (["--table"], REFUSED, 2),
     (["--table", "tokens", "--table", "tokens"], REFUSED, 2),
+    (["--table", "tokens", "--table", "frames"], REFUSED, 2),
     (["--table", "tokens", "tokens"], REFUSED, 2),
+    (["--table", "tokens", "frames"], REFUSED, 2),
     (["tokens"], REFUSED, 2),
+    (["frames"], REFUSED, 2),
     (["--other"], REFUSED, 2),
     (["--help"], REFUSED, 2),
     ([b"--table=\xff"], REFUSED, 2),

@@ -14,6 +14,7 @@
 //! | `case FILE characters TEXT` | `passed` where the file gives these characters, else `failed` |
 //! | `case FILE no_characters PLACE`, `case FILE no_tokens PLACE` | the same for a fault at this offset |
 //! | `case FILE tokens TOKEN..` | the same for these tokens, each as KIND:START:LINE:TEXT:DOC, where KIND is Identifier or Null and a DOC that is missing is `none` |
+//! | `frame BYTES whole`, `frame BYTES begun`, `frame BYTES bad PLACE KIND` | the same for bytes, in hexadecimal digits, that are to be one frame, the beginning of one, or bad at this byte |
 //! | `lines NAME:passed NAME:failed ..` | what is printed of tables that passed or failed, and the exit status |
 //! | `status STATUS PRINTED` | the exit status where the lines were printed (`yes`) or not (`no`) |
 //! | `vectors WORD..` | what `apt_vectors` prints for the words behind its name, and its exit status |
@@ -25,6 +26,7 @@
 #![tactic(auto)]
 
 mod files;
+mod frames;
 mod identifiers;
 mod tables;
 mod vectors;
@@ -44,6 +46,7 @@ impl Calls for Tokens {
             ["vectors", ..] => vectors::answer(alloc, &words[1..]),
             ["lines", ..] => vectors::lines(alloc, &words[1..]),
             ["status", status, printed] => vectors::end(alloc, status, printed),
+            ["frame", digits, ..] => frames::frame_case(alloc, digits, &words[2..]),
             ["case", file, "tokens", ..] => vectors::tokens_case(alloc, file, &words[3..]),
             ["case", file, what, word] => vectors::other_case(alloc, file, what, word),
             ["find", rows, word] => tables::find(alloc, rows, word),

@@ -1,2 +1,4 @@
-pub mod CaseLemmas
-pub mod OutcomeLemmas
+pub mod CasesLemmas
+pub mod FrameCasesLemmas
+pub mod TableOutcomes
+pub mod WordsLemmas

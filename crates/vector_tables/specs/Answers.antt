@@ -7,16 +7,20 @@ use Rattle.vector_tables.specs.declared.outcome.Outcome.{Outcome}
 use Rattle.vector_tables.specs.declared.answer.Answer.{Answer}
 use Rattle.vector_tables.specs.declared.words.Task.{Task}
 use Rattle.vector_tables.specs.declared.words.Task.TheVariants.{Each, One, Refused}
-use Rattle.vector_tables.specs.Cases.{Row, Tells, Holds}
+use Rattle.vector_tables.specs.Cases.{Tells, Holds}
 use Rattle.vector_tables.specs.TokenRows.{token_rows}
+use Rattle.vector_tables.specs.FrameCases.{IsMet}
+use Rattle.vector_tables.specs.FrameRows.{frame_rows}
 
 -- the name of a table
 abbrev pub name_of : Table → List ℕ
 name_of tables.Tokens = codes "tokens"
+name_of tables.Frames = codes "frames"
 
--- the rows that it holds
-abbrev pub rows_of : Table → List Row
-rows_of tables.Tokens = token_rows
+-- each row of a table holds
+abbrev pub AllHold : Table → Type 0
+AllHold tables.Tokens = All Holds token_rows
+AllHold tables.Frames = All IsMet frame_rows
 
 -- no table has the name
 abbrev pub HasNoTable : List ℕ → Type 0
@@ -24,11 +28,11 @@ HasNoTable name = (table : Table) → name ≢ name_of table
 
 -- each table, in order
 abbrev pub every_table : List Table
-every_table = tables.Tokens ∷ []
+every_table = tables.Tokens ∷ tables.Frames ∷ []
 
 -- what comes of a table: its name, and whether each of its rows holds
 abbrev pub IsOutcome : Table → Outcome → Type 0
-IsOutcome table outcome = (outcome.name.now ≡ name_of table) × Tells outcome.passed (All Holds (rows_of table))
+IsOutcome table outcome = (outcome.name.now ≡ name_of table) × Tells outcome.passed (AllHold table)
 
 -- what comes of tables, in order
 abbrev pub AreOutcomes : List Table → List Outcome → Type 0

@@ -1,3 +1,6 @@
 pub mod Cases
 pub mod TokenRows
+pub mod FrameCases
+pub mod FrameRows
 pub mod Answers
+pub mod Words

@@ -1,5 +1,5 @@
 -- The table of the characters and tokens of files (JLS 3.3 to 3.12).
-use Rattle.std.specs.Prelude.{ℕ, List, [], ◌∷◌, ◌++◌, codes, Option, None, Some}
+use Rattle.std.specs.Prelude.{ℕ, List, [], ◌∷◌, ◌++◌, codes, None, Some}
 use Rattle.java_tokens.specs.declared.token.TokenKind.{TokenKind}
 use Rattle.java_tokens.specs.declared.token.TokenKind.TheVariants.{Identifier, Reserved, Integer, Operator, Truth, Null}
 use Rattle.java_tokens.specs.Tokens.{Lexeme}

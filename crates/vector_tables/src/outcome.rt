@@ -3,7 +3,7 @@ ghost use Rattle.std.specs.Prelude.{◌≡◌, ◌++◌, string_bytes, IfOk, OnO
 ghost use Rattle.std.specs.List.{flat_map};
 ghost use Rattle.vector_tables.specs.Answers.{IsOutcome, AreOutcomes, outcome_line, status_of};
 
-use crate::table::{Table, all_pass};
+use crate::table::Table;
 use std::alloc::{AllocError, Global};
 
 /// The name of a table, and whether it passed.
@@ -19,7 +19,7 @@ pub struct Outcome<'a> {
 fn outcome_of(alloc: Global, table: Table) -> Result<Outcome<'static>, AllocError>
     ensures { IfOk result (λ outcome. IsOutcome table outcome) }
 {
-    let passed = all_pass(alloc, table.cases())?;
+    let passed = table.passes(alloc)?;
     Ok(Outcome {
         name: table.name(),
         passed,

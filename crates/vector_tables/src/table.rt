@@ -1,11 +1,13 @@
 // The tables of cases, and their names.
-ghost use Rattle.std.specs.Prelude.{◌≡◌, map, IfOk, MatchOption};
+ghost use Rattle.std.specs.Prelude.{◌≡◌, IfOk, MatchOption};
 ghost use Rattle.std.specs.List.{All};
-ghost use Rattle.vector_tables.specs.Cases.{shown_case, Tells, IsPassed};
-ghost use Rattle.vector_tables.specs.Answers.{name_of, rows_of, HasNoTable};
+ghost use Rattle.vector_tables.specs.Cases.{Tells, IsPassed};
+ghost use Rattle.vector_tables.specs.Answers.{name_of, AllHold, HasNoTable};
 
 use crate::case::{Case, passes};
-use crate::token_table::TOKEN_CASES;
+use crate::frame_case::all_frames_pass;
+use crate::frame_table::frame_cases;
+use crate::token_table::token_cases;
 use std::alloc::{AllocError, Global};
 
 /// A table of cases.
@@ -13,11 +15,13 @@ use std::alloc::{AllocError, Global};
 pub enum Table {
     /// The characters and tokens of files.
     Tokens,
+    /// The frames between the host and a processor, byte by byte.
+    Frames,
 }
 
 impl Table {
     /// Each table, in the order in which they are run.
-    pub const ALL: [Table; 1] = [Table::Tokens];
+    pub const ALL: [Table; 2] = [Table::Tokens, Table::Frames];
 
     /// Its name.
     pub fn name(self) -> &'static str
@@ -25,6 +29,7 @@ impl Table {
     {
         match self {
             Table::Tokens => "tokens",
+            Table::Frames => "frames",
         }
     }
 
@@ -35,15 +40,19 @@ impl Table {
         if name == "tokens" {
             return Some(Table::Tokens);
         }
+        if name == "frames" {
+            return Some(Table::Frames);
+        }
         None
     }
 
-    /// Its cases.
-    pub fn cases(self) -> &'static [Case<'static>]
-        ensures { map shown_case result.now ≡ rows_of self }
+    /// It passes exactly where each of its rows holds. The one error is want of memory.
+    pub fn passes(self, alloc: Global) -> Result<bool, AllocError>
+        ensures { IfOk result (λ passed. Tells passed (AllHold self)) }
     {
         match self {
-            Table::Tokens => &TOKEN_CASES,
+            Table::Tokens => all_pass(alloc, token_cases()),
+            Table::Frames => all_frames_pass(alloc, frame_cases()),
         }
     }
 }

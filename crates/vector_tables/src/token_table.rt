@@ -1,9 +1,20 @@
 // The table of the characters and tokens of files.
+ghost use Rattle.std.specs.Prelude.{◌≡◌, map};
+ghost use Rattle.vector_tables.specs.Cases.{shown_case};
+ghost use Rattle.vector_tables.specs.TokenRows.{token_rows};
+
 use crate::case::{Case, Expected};
 use java_tokens::{Token, TokenKind};
 
-/// Files, and their characters or tokens.
-pub static TOKEN_CASES: [Case<'static>; 17] = [
+/// The cases of characters and tokens.
+pub fn token_cases() -> &'static [Case<'static>]
+    ensures { map shown_case result.now ≡ token_rows }
+{
+    &TOKEN_CASES
+}
+
+// Files, and their characters or tokens.
+static TOKEN_CASES: [Case<'static>; 17] = [
     Case {
         file: b"a>>>=1_0L",
         expected: Expected::Tokens(&[

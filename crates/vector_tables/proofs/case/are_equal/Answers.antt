@@ -1,5 +1,5 @@
 use Rattle.std.proofs.Common.{arith}
-use Rattle.vector_tables.proofs.CaseLemmas.{equal_more, not_equal_at}
+use Rattle.vector_tables.proofs.CasesLemmas.{equal_more, not_equal_at}
 use Rattle.vector_tables.proofs.case.are_equal.Goals as goal
 
 pub returns-then-not-is_equal : goal.returns-then-not-is_equal

@@ -1,4 +1,4 @@
-use Rattle.vector_tables.proofs.CaseLemmas.{AreEqual}
+use Rattle.vector_tables.proofs.CasesLemmas.{AreEqual}
 use Rattle.vector_tables.proofs.case.are_equal.Given as goal
 
 abbrev pub invariant-loop-at : goal.invariant-loop-at

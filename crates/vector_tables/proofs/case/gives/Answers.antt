@@ -3,7 +3,7 @@ use Rattle.std.proofs.lemmas.Str.{IsUtf8-string_bytes}
 use Rattle.std.specs.Prelude.{MatchBool}
 use Rattle.java_tokens.specs.TokensShown.{codes_in, offsets_in}
 use Rattle.vector_tables.specs.Cases.{shown_expected, GivenBy}
-use Rattle.vector_tables.proofs.CaseLemmas.{text_answer}
+use Rattle.vector_tables.proofs.CasesLemmas.{text_answer}
 use Rattle.vector_tables.proofs.case.gives.Goals as goal
 
 pub returns-in-Characters : goal.returns-in-Characters

@@ -3,7 +3,7 @@ use Rattle.std.specs.Prelude.{IfOk, MatchBool}
 use Rattle.java_tokens.specs.CharsShown.{FaultAt}
 use Rattle.java_tokens.specs.Tokens.{IsTokenFault}
 use Rattle.java_tokens.specs.TokensShown.{codes_in, offsets_in}
-use Rattle.vector_tables.proofs.CaseLemmas.{place_answer}
+use Rattle.vector_tables.proofs.CasesLemmas.{place_answer}
 use Rattle.vector_tables.proofs.case.has_fault.Goals as goal
 use Rattle.vector_tables.proofs.case.has_fault.Goals.{in-Ok, in-Err-Bad, in-Err-Memory}
 

@@ -1,7 +1,7 @@
 use Rattle.std.proofs.Common.{◌≡◌, ◌∙◌, subst, sym}
 use Rattle.std.specs.Prelude.{MatchBool}
 use Rattle.java_tokens.specs.TokensShown.{codes_in, offsets_in, shown_tokens}
-use Rattle.vector_tables.proofs.CaseLemmas.{tokens_answer, bad_memory}
+use Rattle.vector_tables.proofs.CasesLemmas.{tokens_answer, bad_memory}
 use Rattle.vector_tables.proofs.case.has_tokens.Goals as goal
 
 pub returns-in-Ok : goal.returns-in-Ok

@@ -4,7 +4,7 @@ use Rattle.java_tokens.specs.Characters.{IsCharFault}
 use Rattle.java_tokens.specs.CharsShown.{FaultAt}
 use Rattle.java_tokens.specs.TokensShown.{codes_in, offsets_in}
 use Rattle.vector_tables.specs.Cases.{no_characters, shown_expected, GivenBy, IsPassed}
-use Rattle.vector_tables.proofs.CaseLemmas.{same_answer, same_result, gives_by, given_by, fault_given, bad_memory}
+use Rattle.vector_tables.proofs.CasesLemmas.{same_answer, same_result, gives_by, given_by, fault_given, bad_memory}
 use Rattle.vector_tables.proofs.case.passes.Goals as goal
 
 pub returns-in-Ok : goal.returns-in-Ok

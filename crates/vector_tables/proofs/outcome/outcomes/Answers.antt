@@ -1,6 +1,6 @@
 use Rattle.std.proofs.Common.{◌+◌, take, sym, subst}
 use Rattle.vector_tables.specs.Answers.{AreOutcomes}
-use Rattle.vector_tables.proofs.OutcomeLemmas.{outcomes_more}
+use Rattle.vector_tables.proofs.TableOutcomes.{outcomes_more}
 use Rattle.vector_tables.proofs.outcome.outcomes.Goals as goal
 
 pub loop-table-preserved : goal.loop-table-preserved

@@ -1,5 +1,5 @@
 -- How the answers on a file, its characters and its tokens hang together.
-use Rattle.std.proofs.Common.{◌≡◌, ◌≢◌, ◌⊎◌, eqb, inl, inr, ℕ, ◌+◌, ◌<◌, Bool, true, false, Result, Ok, Err, IfOk, MatchBool, bytes_eq, List, [], ◌∷◌, ◌++◌, length, take, map, get_or, Option, refl, sym, ap, ◌∙◌, subst, arith}
+use Rattle.std.proofs.Common.{◌≡◌, ◌≢◌, ◌⊎◌, eqb, inl, inr, ℕ, ◌+◌, ◌<◌, Bool, true, false, Result, Ok, Err, IfOk, MatchBool, bytes_eq, List, length, take, map, get_or, Option, refl, sym, ap, ◌∙◌, subst, arith}
 use Rattle.std.proofs.lemmas.Bool.{false≢true}
 use Rattle.std.proofs.lemmas.Bool.Decides.{eqb_tells}
 use Rattle.std.proofs.lemmas.List.{take_more_same, get_or-map, get_or_default, length-map}
@@ -15,9 +15,8 @@ use Rattle.java_tokens.specs.Characters.{Placed, AreChars, IsCharFault}
 use Rattle.java_tokens.specs.CharsShown.{offsets_of, placed_chars}
 use Rattle.java_tokens.specs.Tokens.{Lexeme, AreTokens}
 use Rattle.java_tokens.specs.TokensShown.{shown_token, shown_tokens}
-use Rattle.java_tokens.proofs.ReadLemmas.{offsets-length}
-use Rattle.vector_tables.specs.declared.case.Case.{Case}
-use Rattle.vector_tables.specs.Cases.{Wanted, no_characters, IsAlike, GivenBy, Gives, IsPassed}
+use Rattle.java_tokens.proofs.Readings.{offsets-length}
+use Rattle.vector_tables.specs.Cases.{Wanted, no_characters, IsAlike, GivenBy, Gives}
 
 -- an answer to one fact is one to another that holds where it does
 pub same_answer : (P Q : Type 0) (b : Bool) → (P → Q) → (Q → P) → MatchBool b P (¬ P) → MatchBool b Q (¬ Q)
@@ -74,7 +73,7 @@ shown_at : (tokens : List Token) (n : ℕ) (d : Token) (x : Lexeme) → n < leng
 shown_at tokens n d x h = get_or-map shown_token tokens n d x h
 
 module _ (tokens list : List Token) where
-  -- so many tokens are as expected
+  -- this many tokens are as expected
   pub record AreEqual (n : ℕ) : Type 0 where
     pub equal : take n (shown_tokens tokens) ≡ take n (shown_tokens list)
 
@@ -114,16 +113,16 @@ pub tokens_answer : (codes offsets : List ℕ) (tokens list : List Lexeme) (b : 
 tokens_answer codes offsets tokens list b are one answer =
     same_answer (tokens ≡ list) (AreTokens codes offsets list) b (λ same. subst (AreTokens codes offsets) same are) (λ have. one list have) answer
 
--- so many cases pass
-pub record PassSoFar (cases : List Case) (n : ℕ) : Type 0 where
-  pub passed : (k : ℕ) (d : Case) → k < n → IsPassed (get_or cases k d)
+-- this many cases pass
+pub record PassSoFar {A : Type 0} (P : A → Type 0) (cases : List A) (n : ℕ) : Type 0 where
+  pub passed : (k : ℕ) (d : A) → k < n → P (get_or cases k d)
 
-pub pass_more : (cases : List Case) (n : ℕ) (e : Case) (b : Bool) → PassSoFar cases n → n < length cases → MatchBool b (IsPassed (get_or cases n e)) (¬ IsPassed (get_or cases n e)) → b ≡ true → PassSoFar cases (n + 1)
-pass_more cases n e b so_far h answer is = record { passed = λ k d l. by_place k d l (eqb_tells k n) }
+pub pass_more : {A : Type 0} (P : A → Type 0) (cases : List A) (n : ℕ) (e : A) (b : Bool) → PassSoFar P cases n → n < length cases → MatchBool b (P (get_or cases n e)) (¬ P (get_or cases n e)) → b ≡ true → PassSoFar P cases (n + 1)
+pass_more {A} P cases n e b so_far h answer is = record { passed = λ k d l. by_place k d l (eqb_tells k n) }
   where
-    here : IsPassed (get_or cases n e)
-    here = subst (λ x. MatchBool x (IsPassed (get_or cases n e)) (¬ IsPassed (get_or cases n e))) is answer
+    here : P (get_or cases n e)
+    here = subst (λ x. MatchBool x (P (get_or cases n e)) (¬ P (get_or cases n e))) is answer
 
-    by_place : (k : ℕ) (d : Case) → k < n + 1 → ((eqb k n ≡ true) × (k ≡ n)) ⊎ ((eqb k n ≡ false) × (k ≢ n)) → IsPassed (get_or cases k d)
-    by_place k d l (inl same) = subst (λ m. IsPassed (get_or cases m d)) (sym same.1) (subst IsPassed (get_or_default cases n e d h) here)
+    by_place : (k : ℕ) (d : A) → k < n + 1 → ((eqb k n ≡ true) × (k ≡ n)) ⊎ ((eqb k n ≡ false) × (k ≢ n)) → P (get_or cases k d)
+    by_place k d l (inl same) = subst (λ m. P (get_or cases m d)) (sym same.1) (subst P (get_or_default cases n e d h) here)
     by_place k d l (inr other) = so_far.passed k d (omega (arith, l, other.1))

@@ -1,14 +1,12 @@
 -- What comes of tables, one after another.
-use Rattle.std.proofs.Common.{◌≡◌, ℕ, ◌+◌, ◌<◌, ◌≤◌, Bool, MatchBool, List, [], ◌∷◌, ◌++◌, length, take, map, get_or, sym, ◌∙◌, subst, arith}
+use Rattle.std.proofs.Common.{◌≡◌, ℕ, ◌+◌, ◌<◌, ◌≤◌, Bool, Result, Ok, Err, IfOk, MatchBool, List, [], ◌∷◌, ◌++◌, length, take, map, get_or, sym, subst, arith}
 use Rattle.std.proofs.lemmas.List.{take_more, take_all, get_or-map, length-map}
 use Rattle.std.proofs.lemmas.List.Elements.{All-map}
 use Rattle.std.specs.List.{All}
-use Rattle.vector_tables.specs.declared.case.Case.{Case}
 use Rattle.vector_tables.specs.declared.table.Table.{Table}
 use Rattle.vector_tables.specs.declared.outcome.Outcome.{Outcome}
-use Rattle.vector_tables.specs.Cases.{Row, Holds, IsPassed, shown_case}
 use Rattle.vector_tables.specs.Answers.{IsOutcome, AreOutcomes}
-use Rattle.vector_tables.proofs.CaseLemmas.{same_answer}
+use Rattle.vector_tables.proofs.CasesLemmas.{same_answer}
 
 outcomes_push : (tables : List Table) (outcomes : List Outcome) (table : Table) (outcome : Outcome) → AreOutcomes tables outcomes → IsOutcome table outcome → AreOutcomes (tables ++ table ∷ []) (outcomes ++ outcome ∷ [])
 outcomes_push [] [] table outcome are is = (is, tt)
@@ -25,10 +23,16 @@ outcomes_more tables outcomes n d outcome h are is =
 pub outcomes_all : (tables : List Table) (outcomes : List Outcome) (n : ℕ) → length tables ≤ n → AreOutcomes (take n tables) outcomes → AreOutcomes tables outcomes
 outcomes_all tables outcomes n h are = subst (λ ts. AreOutcomes ts outcomes) (take_all n tables h) are
 
--- cases pass where their rows hold
-rows_hold : (cases : List Case) → All Holds (map shown_case cases) → All IsPassed cases
-rows_hold cases all k d h = subst Holds (get_or-map shown_case cases k d (shown_case d) h) (all k (shown_case d) (omega (arith, h, length-map cases shown_case)))
+-- cases pass where the rows that they show hold
+rows_hold : {A B : Type 0} (show : A → B) (Holds : B → Type 0) (cases : List A) → All Holds (map show cases) → All (λ c. Holds (show c)) cases
+rows_hold show Holds cases all k d h = subst Holds (get_or-map show cases k d (show d) h) (all k (show d) (omega (arith, h, length-map cases show)))
 
-pub rows_answer : (cases : List Case) (rows : List Row) (b : Bool) → map shown_case cases ≡ rows → MatchBool b (All IsPassed cases) (¬ All IsPassed cases) → MatchBool b (All Holds rows) (¬ All Holds rows)
-rows_answer cases rows b are answer =
-    same_answer (All IsPassed cases) (All Holds rows) b (λ passed. subst (All Holds) are (All-map Holds shown_case cases passed)) (λ hold. rows_hold cases (subst (All Holds) (sym are) hold)) answer
+pub rows_answer : {A B : Type 0} (show : A → B) (Holds : B → Type 0) (cases : List A) (rows : List B) (b : Bool) → map show cases ≡ rows
+    → MatchBool b (All (λ c. Holds (show c)) cases) (¬ All (λ c. Holds (show c)) cases) → MatchBool b (All Holds rows) (¬ All Holds rows)
+rows_answer show Holds cases rows b are answer =
+    same_answer (All (λ c. Holds (show c)) cases) (All Holds rows) b (λ passed. subst (All Holds) are (All-map Holds show cases passed)) (λ hold. rows_hold show Holds cases (subst (All Holds) (sym are) hold)) answer
+
+pub rows_result : {A B E : Type 0} (show : A → B) (Holds : B → Type 0) (cases : List A) (rows : List B) (r : Result Bool E) → map show cases ≡ rows
+    → IfOk r (λ b. MatchBool b (All (λ c. Holds (show c)) cases) (¬ All (λ c. Holds (show c)) cases)) → IfOk r (λ b. MatchBool b (All Holds rows) (¬ All Holds rows))
+rows_result show Holds cases rows (Ok b) are answer = rows_answer show Holds cases rows b are answer
+rows_result show Holds cases rows (Err e) are answer = answer
