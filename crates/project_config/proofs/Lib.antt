@@ -1,0 +1,7 @@
+mod AnswerLaws
+mod NameSets
+mod ObjectLaws
+mod OptionLaws
+mod ReadLaws
+mod SettledLaws
+mod TextMaps
