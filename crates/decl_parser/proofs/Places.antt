@@ -2,9 +2,9 @@
 use Rattle.std.proofs.Common.{◌≡◌, ℕ, List, [], ◌∷◌, ◌++◌, Option, length, refl, sym, ap, ◌∙◌}
 use Rattle.std.specs.Prelude.{slice_get}
 use Rattle.std.specs.Option.{option_map_or}
-use Rattle.decl_parser.specs.declared.symbol.Symbol.{Symbol}
-use Rattle.decl_parser.specs.Form.{Form}
-use Rattle.decl_parser.specs.File.{IsFirstFault, IsFirstDeep}
+use Rattle.decl_grammar.specs.declared.symbol.Symbol.{Symbol}
+use Rattle.decl_grammar.specs.Form.{Form}
+use Rattle.decl_grammar.specs.File.{IsFirstFault, IsFirstDeep}
 use Rattle.decl_parser.specs.Parsed.{offset_at}
 
 get-moved : (us at : List Symbol) → slice_get (us ++ at) (length us) ≡ slice_get at 0

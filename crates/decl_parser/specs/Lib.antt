@@ -1,11 +1,4 @@
-pub mod Symbols
-pub mod Reading
-pub mod Docs
-pub mod Form
-pub mod Constants
-pub mod Grammar
-pub mod File
+pub mod MemberRows
 pub mod FileShown
-pub mod SymbolList
 pub mod Units
 pub mod Parsed

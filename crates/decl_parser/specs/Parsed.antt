@@ -3,11 +3,11 @@ use Rattle.std.specs.Prelude.{◌≡◌, ℕ, List, Result, Ok, Err, slice_get}
 use Rattle.std.specs.Option.{option_map_or}
 use Rattle.apt_base.specs.declared.kinds.What.TheVariants as limits
 use Rattle.decl_tree.specs.declared.compilation.UnitText.{UnitText}
-use Rattle.decl_parser.specs.declared.symbol.Symbol.{Symbol}
+use Rattle.decl_grammar.specs.declared.symbol.Symbol.{Symbol}
 use Rattle.decl_parser.specs.declared.parsing.FileFault.{FileFault}
 use Rattle.decl_parser.specs.declared.parsing.FileFault.TheVariants as faults
-use Rattle.decl_parser.specs.Form.{Form}
-use Rattle.decl_parser.specs.File.{IsPhrase, IsFirstFault, IsFirstDeep}
+use Rattle.decl_grammar.specs.Form.{Form}
+use Rattle.decl_grammar.specs.File.{IsPhrase, IsFirstFault, IsFirstDeep}
 
 -- the most that may be open at a symbol
 abbrev pub limit : ℕ
@@ -28,6 +28,10 @@ MissedUnits units (Ok us) = us ≡ units
 MissedUnits units (Err (faults.Bad place)) = ⊥
 MissedUnits units (Err (faults.TooLarge what)) = Unit {0}
 MissedUnits units (Err faults.Memory) = Unit {0}
+
+-- the units of each phrase that the symbols are are given, unless it is too deep or memory ran out
+abbrev pub OnlyUnits : {A : Type 0} → Form A → (A → List UnitText) → List Symbol → Result (List UnitText) FileFault → Type 0
+OnlyUnits {A} f units ts result = (x : A) → IsPhrase f ts x → MissedUnits (units x) result
 
 -- the place is that of the first fault
 abbrev pub BadPlace : {A : Type 0} → Form A → ℕ → List Symbol → Result (List UnitText) FileFault → Type 0

@@ -1,26 +1,21 @@
 // Reads files `package-info.java` (JLS 7.4.1).
 ghost use Rattle.std.specs.Prelude.{◌≡◌, ℕ, [], ◌∷◌, ◌++◌, List, length, IfOk, Ok};
-ghost use Rattle.decl_parser.specs.Reading.{Gives, starts};
-ghost use Rattle.decl_parser.specs.Form.{ats, many, maybe, turned};
-ghost use Rattle.decl_parser.specs.Grammar.{silently, reads, package_part, annotated_package, semicolon, package_info, Info};
-ghost use Rattle.decl_parser.specs.FileShown.{package_view, optional_package_view, info_view};
-ghost use Rattle.decl_parser.specs.File.{IsPhrase, IsShallow, phrase_at, Found, Missed, BadAt, DeepAt};
+ghost use Rattle.decl_grammar.specs.Reading.{Gives, starts};
+ghost use Rattle.decl_grammar.specs.Form.{ats, many, maybe, turned};
+ghost use Rattle.decl_grammar.specs.Grammar.{silently, reads, package_part, annotated_package, semicolon, package_info, Info};
+ghost use Rattle.decl_parser.specs.FileShown.{package_view, package_seen, package_or_none, info_view};
+ghost use Rattle.decl_grammar.specs.File.{IsPhrase, IsShallow, phrase_at, Found, Missed, BadAt, DeepAt};
 
-use crate::docs::doc_before;
-use crate::fault::{ParseFault, ReadFault};
-use crate::headings::package_of;
-use crate::imports::imports_of;
 use crate::info_file::{InfoFile, PackageText};
-use crate::marks::annotations_of;
-use crate::steps::{begin, is_next, one};
-use crate::symbol::Symbol;
-use crate::values::starts_annotation;
 use apt_base::{List, Name};
+use decl_grammar::{ParseFault, ReadFault, Symbol};
 use decl_tree::AnnotationText;
+use decl_types::package_of;
+use decl_values::{annotations_of, begin, doc_before, imports_of, is_next, one, starts_annotation};
 use std::alloc::Global;
 
 // Annotations and a package declaration.
-#[tactic(auto, unfolding(crate::specs::Grammar::package_part))]
+#[tactic(auto, unfolding(decl_grammar::specs::Grammar::package_part))]
 fn package_part_of<'a, 's>(
     alloc: Global,
     room: usize,
@@ -35,7 +30,7 @@ fn package_part_of<'a, 's>(
 }
 
 // The same with its doc comment.
-#[tactic(auto, unfolding(crate::specs::Grammar::annotated_package))]
+#[tactic(auto, unfolding(decl_grammar::specs::Grammar::annotated_package))]
 fn annotated_package_of<'a, 's>(
     alloc: Global,
     room: usize,
@@ -55,6 +50,7 @@ fn annotated_package_of<'a, 's>(
     ))
 }
 
+// Whether a package declaration begins here, or an annotation before one.
 fn starts_package(symbols: &[Symbol<'_>]) -> bool
     ensures { result ≡ starts (ats ++ (41 ∷ [])) symbols.now }
 {
@@ -62,13 +58,13 @@ fn starts_package(symbols: &[Symbol<'_>]) -> bool
 }
 
 // A package declaration with annotations, where there is one.
-#[tactic(auto, using(crate::proofs::Firsts::annotated_package_first))]
+#[tactic(auto, using(decl_grammar::proofs::Firsts::annotated_package_first))]
 fn optional_package_of<'a, 's>(
     alloc: Global,
     room: usize,
     symbols: &'s [Symbol<'a>],
 ) -> Result<(Option<PackageText>, &'s [Symbol<'a>]), ReadFault>
-    ensures { Gives (λ x. (optional_package_view x.0, x.1.now)) result (reads room (maybe annotated_package) symbols.now) }
+    ensures { Gives (λ x. (package_seen x.0, x.1.now)) result (reads room package_or_none symbols.now) }
 {
     if starts_package(symbols) {
         let (text, rest) = annotated_package_of(alloc, room, symbols)?;
@@ -77,7 +73,8 @@ fn optional_package_of<'a, 's>(
     Ok((None, symbols))
 }
 
-#[tactic(auto, unfolding(crate::specs::Grammar::semicolon))]
+// A `;`.
+#[tactic(auto, unfolding(decl_grammar::specs::Grammar::semicolon))]
 fn semicolon_of<'a, 's>(
     room: usize,
     symbols: &'s [Symbol<'a>],
@@ -102,7 +99,8 @@ fn semicolons_of<'a, 's>(
     Ok(rest)
 }
 
-#[tactic(auto, unfolding(crate::specs::Grammar::package_info))]
+// What the front of the symbols declares.
+#[tactic(auto, unfolding(decl_grammar::specs::Grammar::package_info))]
 fn info_of<'a, 's>(
     alloc: Global,
     room: usize,
@@ -117,6 +115,7 @@ fn info_of<'a, 's>(
     Ok((InfoFile { package, imports }, rest))
 }
 
+// What all of the symbols declare.
 fn whole_info<'a, 's>(
     alloc: Global,
     room: usize,

@@ -1,4 +1,4 @@
-//! Prints a table of shapes and of the trees that are read from them.
+//! Prints a table of shapes, of the trees that are read from them, and of the units that files declare.
 //!
 //! The library `case_lines` says how bytes and texts are written. The calls are:
 //!
@@ -11,12 +11,15 @@
 //! | `arguments NUMBER` | as `shape`, of a class with a field whose type has that number of lists of type arguments, each inside the one before |
 //! | `brackets NUMBER` | the same, with that number of pairs of brackets |
 //! | `wildcards NUMBER` | the same, with `? extends` that number of times |
+//! | `file TEXT` | the units of the ordinary compilation unit that the text is, without initialisers of fields, in words; or `bad` and the offset of its first fault, or `deep` |
+//! | `info TEXT` | the same of a file `package-info.java` |
 //!
 //! In words, a list is the number of its items and the items, and a part that may be left out is `none`, or `some` and the part.
 #![tactic(auto)]
 
 mod made;
 mod members;
+mod parsed;
 mod types;
 mod unit;
 mod values;
@@ -42,6 +45,8 @@ impl Calls for Shapes {
             "shape" => shape_word(alloc, hex_bytes(alloc, word)?.as_slice()),
             "tree" => tree(alloc, hex_bytes(alloc, word)?.as_slice()),
             "type" => field_type(alloc, hex_bytes(alloc, word)?.as_slice()),
+            "file" => parsed::file(alloc, false, word),
+            "info" => parsed::file(alloc, true, word),
             _ => {
                 let bytes = made::bytes(alloc, call, word.parse::<u32>()?)?;
                 shape_word(alloc, bytes.as_slice())

@@ -1,6 +1,6 @@
-use Rattle.decl_parser.specs.Grammar.{package_info}
-use Rattle.decl_parser.proofs.Rules.{package_info-ok}
-use Rattle.decl_parser.proofs.Law.{phrase-found, phrase-is, phrase-shallow, fault-left, deep-left, fault-none, fault-place, deep-place}
+use Rattle.decl_grammar.specs.Grammar.{package_info}
+use Rattle.decl_grammar.proofs.Rules.{package_info-ok}
+use Rattle.decl_grammar.proofs.Law.{phrase-found, phrase-is, phrase-shallow, fault-left, deep-left, fault-none, fault-place, deep-place}
 use Rattle.decl_parser.proofs.info.parse_info.Goals as goal
 
 pub overflow_sub-result : goal.overflow_sub-result

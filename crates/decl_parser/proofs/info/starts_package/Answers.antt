@@ -1,6 +1,6 @@
 use Rattle.std.proofs.Common.{[], ◌∷◌}
-use Rattle.decl_parser.specs.Form.{ats}
-use Rattle.decl_parser.proofs.Ranges.{starts_then, starts_else}
+use Rattle.decl_grammar.specs.Form.{ats}
+use Rattle.decl_grammar.proofs.Ranges.{starts_then, starts_else}
 use Rattle.decl_parser.proofs.info.starts_package.Goals as goal
 
 pub returns-then-starts_annotation : goal.returns-then-starts_annotation

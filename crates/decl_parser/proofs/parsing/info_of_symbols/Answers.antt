@@ -1,5 +1,5 @@
 use Rattle.std.proofs.Common.{◌∙◌, ap}
-use Rattle.decl_parser.specs.Grammar.{package_info}
+use Rattle.decl_grammar.specs.Grammar.{package_info}
 use Rattle.decl_parser.specs.Units.{info_units}
 use Rattle.decl_parser.proofs.Places.{place-moved}
 use Rattle.decl_parser.proofs.parsing.info_of_symbols.Goals as goal

@@ -1,7 +1,7 @@
 use Rattle.std.proofs.Common.{◌∙◌, sym, subst}
 use Rattle.std.specs.Prelude.{IfOk}
-use Rattle.decl_parser.specs.Grammar.{package_info}
-use Rattle.decl_parser.specs.File.{IsPhrase, IsShallow}
+use Rattle.decl_grammar.specs.Grammar.{package_info}
+use Rattle.decl_grammar.specs.File.{IsPhrase, IsShallow}
 use Rattle.decl_parser.proofs.parsing.package_info_units.Goals as goal
 
 pub returns-in-Ok-clause-only : goal.returns-in-Ok-clause-only

@@ -1,0 +1,16 @@
+pub mod OneToken
+pub mod Rules
+pub mod Opens
+pub mod Progress
+pub mod Fuel
+pub mod Heads
+pub mod Told
+pub mod Complete
+pub mod Passes
+pub mod Knot
+pub mod Law
+pub mod Prefixes
+pub mod Loop
+pub mod Ranges
+pub mod Firsts
+pub mod Nests

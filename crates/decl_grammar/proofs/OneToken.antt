@@ -1,0 +1,148 @@
+-- Sets of sorts, and the test that a form can be read by looking at the next symbol alone.
+use Rattle.std.proofs.Common.{◌≡◌, ℕ, Bool, true, false, cond, eqb, List, [], ◌∷◌, ◌++◌, ◌⊎◌, refl, sym, ap, ◌∙◌, inl, inr}
+use Rattle.std.specs.Prelude.{◌||◌, ◌&&◌}
+use Rattle.std.proofs.Math.Bool.{or-false}
+use Rattle.std.proofs.lemmas.Bool.{eqb-true}
+use Rattle.decl_grammar.specs.Symbols.{operator, word, numbers, named}
+use Rattle.decl_grammar.specs.declared.symbol.Symbol.{Symbol}
+use Rattle.decl_grammar.specs.Reading.{has, starts}
+use Rattle.decl_grammar.specs.Form.{Nest, type_arguments, any_value, lone_value, first_name, nested_type, modifiers, plain_modifiers, static_word, array_rest, import_rest, enum_rest, param_rest, first_rest, first_of, expression_signs, names, ats, Form, terminal, pair, turn, maybe, many, either, seen, nest, over, nullable, first}
+
+abbrev pub no : Bool → Bool
+no true = false
+no false = true
+
+pub no_true : (b : Bool) → no b ≡ true → b ≡ false
+no_true true e = absurd cc
+no_true false e = refl
+
+pub both : (a b : Bool) → (a && b) ≡ true → (a ≡ true) × (b ≡ true)
+both true b e = (refl, e)
+both false b e = absurd cc
+
+pub neither : (a b : Bool) → (a || b) ≡ false → (a ≡ false) × (b ≡ false)
+neither true b e = absurd cc
+neither false b e = (refl, e)
+
+pub one_or : (a b : Bool) → (a || b) ≡ true → (a ≡ true) ⊎ (b ≡ true)
+one_or true b e = inl refl
+one_or false b e = inr e
+
+pub or_left : (a b : Bool) → a ≡ true → (a || b) ≡ true
+or_left true b e = refl
+or_left false b e = absurd cc
+
+pub or_right : (a b : Bool) → b ≡ true → (a || b) ≡ true
+or_right true b e = refl
+or_right false b e = e
+
+pub not_both : {A : Type 0} (b : Bool) → b ≡ true → b ≡ false → A
+not_both b p q = absurd cc
+
+pub has-cons : (k : ℕ) (ks : List ℕ) (n : ℕ) → has (k ∷ ks) n ≡ (eqb n k || has ks n)
+has-cons k [] n = sym (or-false (eqb n k))
+has-cons k (l ∷ ks) n = refl
+
+or_assoc : (a b c : Bool) → ((a || b) || c) ≡ (a || (b || c))
+or_assoc true b c = refl
+or_assoc false b c = refl
+
+pub has-append : (ks ls : List ℕ) (n : ℕ) → has (ks ++ ls) n ≡ (has ks n || has ls n)
+has-append [] ls n = refl
+has-append (k ∷ ks) ls n = has-cons k (ks ++ ls) n ∙ ap (λ (b : Bool). eqb n k || b) (has-append ks ls n) ∙ sym (or_assoc (eqb n k) (has ks n) (has ls n)) ∙ ap (λ (b : Bool). b || has ls n) (sym (has-cons k ks n))
+
+pub starts-append : (ks ls : List ℕ) (ts : List Symbol) → starts (ks ++ ls) ts ≡ (starts ks ts || starts ls ts)
+starts-append ks ls [] = refl
+starts-append ks ls (t ∷ ts) = has-append ks ls t.sort
+
+-- no sort is in both
+abbrev pub disjoint : List ℕ → List ℕ → Bool
+disjoint [] ls = true
+disjoint (k ∷ ks) ls = no (has ls k) && disjoint ks ls
+
+pub disjoint-has : (ks ls : List ℕ) (n : ℕ) → disjoint ks ls ≡ true → has ks n ≡ true → has ls n ≡ false
+disjoint-has [] ls n d h = absurd cc
+disjoint-has (k ∷ ks) ls n d h =
+    let p = both (no (has ls k)) (disjoint ks ls) d in
+    elim (one_or (eqb n k) (has ks n) (sym (has-cons k ks n) ∙ h)) [
+      | inl e ↦ ap (has ls) (eqb-true n k e) ∙ no_true (has ls k) p.0
+      | inr e ↦ disjoint-has ks ls n p.1 e
+    ]
+
+-- all of the first are in the second
+abbrev pub within : List ℕ → List ℕ → Bool
+within [] ls = true
+within (k ∷ ks) ls = has ls k && within ks ls
+
+pub within-has : (ks ls : List ℕ) (n : ℕ) → within ks ls ≡ true → has ks n ≡ true → has ls n ≡ true
+within-has [] ls n d h = absurd cc
+within-has (k ∷ ks) ls n d h =
+    let p = both (has ls k) (within ks ls) d in
+    elim (one_or (eqb n k) (has ks n) (sym (has-cons k ks n) ∙ h)) [
+      | inl e ↦ ap (has ls) (eqb-true n k e) ∙ p.0
+      | inr e ↦ within-has ks ls n p.1 e
+    ]
+
+-- what none of more sorts begins, none of fewer begins
+pub within-starts : (ks ls : List ℕ) (ts : List Symbol) → within ks ls ≡ true → starts ls ts ≡ false → starts ks ts ≡ false
+within-starts ks ls [] d h = refl
+within-starts ks ls (t ∷ ts) d h = go (has ks t.sort) refl
+  where
+    go : (c : Bool) → has ks t.sort ≡ c → c ≡ false
+    go true e = not_both (has ls t.sort) (within-has ks ls t.sort d e) h
+    go false e = refl
+
+-- what may go on with an expression
+abbrev pub expression_more : List ℕ
+expression_more = numbers 0 61 ++ (operator 10 ∷ expression_signs) ++ operator 0 ∷ operator 2 ∷ operator 4 ∷ []
+
+-- the sorts of symbol that can continue each nested form, and each form
+abbrev pub more_of : Nest → List ℕ
+more_of type_arguments = []
+more_of any_value = operator 8 ∷ operator 0 ∷ expression_more
+more_of lone_value = operator 8 ∷ operator 0 ∷ expression_more
+more_of first_name = []
+more_of nested_type = []
+more_of modifiers = operator 8 ∷ operator 0 ∷ first_of modifiers
+more_of plain_modifiers = operator 8 ∷ operator 0 ∷ first_of modifiers
+more_of static_word = []
+more_of array_rest = operator 7 ∷ operator 8 ∷ operator 0 ∷ (first_of any_value ++ expression_more)
+more_of import_rest = operator 8 ∷ []
+more_of enum_rest = operator 7 ∷ operator 0 ∷ operator 2 ∷ operator 8 ∷ (ats ++ names)
+more_of param_rest = operator 4 ∷ operator 7 ∷ ats
+more_of first_rest = operator 4 ∷ operator 7 ∷ operator 8 ∷ ats
+
+abbrev pub more : {A : Type 0} → Form A → List ℕ
+more (terminal k) = []
+more (pair f g) = cond (nullable g) (more f ++ more g) (more g)
+more (turn h f) = more f
+more (maybe f) = first f ++ more f
+more (many f) = first f ++ more f
+more (either f g) = more f ++ more g
+more (seen h f) = more f
+more (nest m) = more_of m
+more (over opens) = []
+
+-- the next symbol always tells how to go on
+abbrev pub ok : {A : Type 0} → Form A → Bool
+ok (terminal k) = true
+ok (pair f g) = ok f && (ok g && disjoint (first g) (more f))
+ok (turn h f) = ok f
+ok (maybe f) = ok f && no (nullable f)
+ok (many f) = ok f && (no (nullable f) && disjoint (first f) (more f))
+ok (either f g) = ok f && (ok g && (no (nullable f) && (no (nullable g) && disjoint (first g) (first f))))
+ok (seen h f) = ok f
+ok (nest m) = true
+ok (over opens) = true
+
+-- the first symbol is read before any form that holds itself
+abbrev pub guarded : {A : Type 0} → Form A → Bool
+guarded (terminal k) = true
+guarded (pair f g) = guarded f && (no (nullable f) || guarded g)
+guarded (turn h f) = guarded f
+guarded (maybe f) = guarded f
+guarded (many f) = guarded f
+guarded (either f g) = guarded f && guarded g
+guarded (seen h f) = guarded f
+guarded (nest m) = false
+guarded (over opens) = true

@@ -1,0 +1,1070 @@
+-- The grammar of declarations without field initialisers (JLS 4, 7.3 to 9.7), over symbols: what the phrases of each part are, and what they mean.
+-- Annotations of types are passed over, and so are bodies, the arguments of enum constants, and initialisers: there brackets stand in pairs, and all else is free.
+use Rattle.std.specs.Prelude.{ℕ, zero, suc, Bool, true, false, List, [], ◌∷◌, ◌++◌, length, is_some, Option, None, Some, map, option_map, option_and_then, codes, ◌==◌, if◌then◌else◌}
+use Rattle.std.specs.List.{flat_map}
+use Rattle.std.specs.Option.{option_map_or}
+use Rattle.std.specs.Int.Bits.{bit_or}
+use Rattle.decl_tree.specs.declared.type_text.PrimitiveKind.{PrimitiveKind}
+use Rattle.decl_tree.specs.declared.type_text.PrimitiveKind.TheVariants as primitive
+use Rattle.decl_tree.specs.declared.type_text.Around.{Around}
+use Rattle.decl_tree.specs.declared.type_text.Around.TheVariants as around
+use Rattle.decl_tree.specs.declared.type_text.BaseType.{BaseType}
+use Rattle.decl_tree.specs.declared.type_text.BaseType.TheVariants as base
+use Rattle.decl_tree.specs.declared.type_text.TypeText.{TypeText, out-TypeText}
+use Rattle.decl_tree.specs.declared.type_text.NamedPart.{NamedPart}
+use Rattle.decl_tree.specs.declared.annotation.ValueText.{ValueText}
+use Rattle.decl_tree.specs.declared.annotation.ValueText.TheVariants as value
+use Rattle.decl_tree.specs.declared.annotation.AnnotationText.{AnnotationText, roll-AnnotationText}
+use Rattle.decl_tree.specs.declared.annotation.ElementValuePair.{ElementValuePair}
+use Rattle.decl_tree.specs.declared.member.TypeParam.{TypeParam}
+use Rattle.decl_tree.specs.declared.member.Param.{Param}
+use Rattle.decl_tree.specs.declared.declaration.Member.{Member}
+use Rattle.decl_tree.specs.declared.declaration.Member.TheVariants as member
+use Rattle.decl_tree.specs.declared.declaration.TypeDecl.{TypeDecl}
+use Rattle.decl_tree.specs.declared.declaration.TypeKind.{TypeKind}
+use Rattle.decl_tree.specs.declared.declaration.TypeKind.TheVariants as kind
+use Rattle.decl_tree.specs.declared.compilation.Import.{Import}
+use Rattle.decl_tree.specs.declared.compilation.ImportKind.{ImportKind}
+use Rattle.decl_tree.specs.declared.compilation.ImportKind.TheVariants as import_kind
+use Rattle.decl_grammar.specs.declared.symbol.Symbol.{Symbol}
+use Rattle.decl_grammar.specs.declared.written.Modifiers.{Modifiers}
+use Rattle.decl_grammar.specs.declared.written.Params.{Params}
+use Rattle.decl_grammar.specs.declared.written.Signature.{Signature}
+use Rattle.decl_grammar.specs.declared.written.Declarator.{Declarator}
+use Rattle.decl_grammar.specs.declared.written.ParamEnd.{ParamEnd}
+use Rattle.decl_grammar.specs.declared.written.ParamEnd.TheVariants as param_end
+use Rattle.decl_grammar.specs.declared.written.MemberRest.{MemberRest}
+use Rattle.decl_grammar.specs.declared.written.MemberRest.TheVariants as rest_kind
+use Rattle.decl_grammar.specs.declared.written.TypeRest.{TypeRest}
+use Rattle.decl_grammar.specs.declared.written.Unmodified.{Unmodified}
+use Rattle.decl_grammar.specs.declared.written.Unmodified.TheVariants as unmodified
+use Rattle.decl_grammar.specs.Symbols.{identifier, named, at_interface, word, operator, numbers}
+use Rattle.decl_grammar.specs.Reading.{starts, Outcome, fault, deep}
+use Rattle.decl_grammar.specs.Form.{Nest, type_arguments, any_value, lone_value, first_name, nested_type, modifiers, plain_modifiers, static_word, array_rest, import_rest, enum_rest, param_rest, first_rest, counts, Shape, ParamRest, ImportRest, Of, first_of, Form, terminal, pair, turn, maybe, many, either, seen, nest, over, Wholes, Readers, Begun, Is, Begins, read, names, ats, dots, expression_signs, expression_firsts, value_names, plain_words, modifier_words}
+use Rattle.decl_grammar.specs.Docs.{doc_text}
+use Rattle.decl_grammar.specs.Constants.{primitive_of, named_part_of, type_of, more_dotted, expression_of}
+
+-- ---- short forms
+
+-- the reserved word, and the operator, with this number
+abbrev pub keyword : ℕ → Form Symbol
+keyword n = terminal (word n ∷ [])
+
+abbrev pub sign : ℕ → Form Symbol
+sign n = terminal (operator n ∷ [])
+
+-- a form behind another, and one before another
+abbrev pub behind : {A B : Type 0} → Form B → Form A → Form A
+behind g f = turn (λ x. x.1) (pair g f)
+
+abbrev pub before : {A B : Type 0} → Form A → Form B → Form A
+before f g = turn (λ x. x.0) (pair f g)
+
+abbrev pub list_or_none : {A : Type 0} → Option (List A) → List A
+list_or_none None = []
+list_or_none (Some xs) = xs
+
+abbrev pub first_and_rest : {A : Type 0} → A × List A → List A
+first_and_rest x = x.0 ∷ x.1
+
+-- a comma, and what stands behind it, where it begins there
+abbrev pub comma_item : {A : Type 0} → Form A → Form (Option A)
+comma_item f = behind (sign 7) (maybe f)
+
+-- ---- names (JLS 3.8, 6.5)
+
+abbrev pub text_of : Symbol → List ℕ
+text_of s = s.text.now
+
+unfoldable pub name : Form (List ℕ)
+name = turn text_of (terminal names)
+
+-- a name that a `=` follows
+unfoldable pub named_text : Form (List ℕ)
+named_text = turn text_of (terminal (named ∷ []))
+
+-- . Name
+unfoldable pub dot_name : Form (List ℕ)
+dot_name = behind (sign 8) name
+
+abbrev pub dotted_name : List ℕ × List (List ℕ) → List ℕ
+dotted_name x = more_dotted x.0 x.1
+
+-- Name { . Name }
+unfoldable pub name_chain : Form (List ℕ)
+name_chain = turn dotted_name (pair name (many dot_name))
+
+-- ---- annotations (JLS 9.7)
+
+abbrev pub pair_of : List ℕ → ValueText → ElementValuePair
+pair_of n v = record { name = n; value = v }
+
+-- a value alone is that of the element `value` (JLS 9.7.3)
+abbrev pub lone_pair : ValueText → List ElementValuePair
+lone_pair v = pair_of (codes "value") v ∷ []
+
+-- Name = Value, where the name might still be a value
+unfoldable pub first_pair : Form ElementValuePair
+first_pair = turn (λ x. pair_of x.0 x.1) (pair (nest first_name) (behind (sign 12) (nest any_value)))
+
+-- , Name = Value
+unfoldable pub next_pair : Form ElementValuePair
+next_pair = behind (sign 7) (turn (λ x. pair_of x.0 x.1) (pair name (behind (sign 12) (nest any_value))))
+
+-- Name = Value { , Name = Value }
+unfoldable pub pairs : Form (List ElementValuePair)
+pairs = turn first_and_rest (pair first_pair (many next_pair))
+
+unfoldable pub pairs_or_value : Form (List ElementValuePair)
+pairs_or_value = either pairs (turn lone_pair (nest lone_value))
+
+-- ( [PairsOrValue] )
+unfoldable pub annotation_arguments : Form (List ElementValuePair)
+annotation_arguments = behind (sign 0) (before (turn list_or_none (maybe pairs_or_value)) (sign 1))
+
+abbrev pub annotation_of : List ℕ → Option (List ElementValuePair) → AnnotationText
+annotation_of n values = roll-AnnotationText (record { name = n; values = list_or_none values })
+
+-- Name { . Name } [Arguments]
+unfoldable pub annotation_body : Form AnnotationText
+annotation_body = turn (λ x. annotation_of x.0 x.1) (pair name_chain (maybe annotation_arguments))
+
+abbrev pub annotation_from : List ℕ → Form AnnotationText
+annotation_from sorts = behind (terminal sorts) annotation_body
+
+-- @ Name { . Name } [Arguments]
+unfoldable pub annotation : Form AnnotationText
+annotation = annotation_from ats
+
+-- the same where the `@` of an annotation interface begins no annotation
+unfoldable pub modifier_annotation : Form AnnotationText
+modifier_annotation = annotation_from (operator 10 ∷ [])
+
+unfoldable pub annotations : Form (List AnnotationText)
+annotations = many annotation
+
+-- a value, and the values behind it
+abbrev pub one_and_rest : {A : Type 0} → A × Option (List A) → List A
+one_and_rest x = x.0 ∷ list_or_none x.1
+
+abbrev pub no_values : {A : Type 0} → Symbol → List A
+no_values s = []
+
+-- Value [ArrayRest]
+unfoldable pub some_values : Form (List ValueText)
+some_values = turn one_and_rest (pair (nest any_value) (maybe (nest array_rest)))
+
+-- , [SomeValues]: behind the last value a `,` may stand
+unfoldable pub array_rest_form : Form (List ValueText)
+array_rest_form = behind (sign 7) (turn list_or_none (maybe some_values))
+
+-- SomeValues, or a `,` alone
+unfoldable pub array_values : Form (List ValueText)
+array_values = either some_values (turn no_values (sign 7))
+
+-- { [ArrayValues] }
+unfoldable pub array : Form ValueText
+array = turn value.Array (behind (sign 2) (before (turn list_or_none (maybe array_values)) (sign 3)))
+
+-- what is read means nothing
+abbrev pub silently : {A : Type 0} → A → Unit {0}
+silently v = tt
+
+-- the sorts of symbol that go on with an expression, brackets aside
+abbrev pub later_sorts : List ℕ
+later_sorts = numbers 0 61 ++ (operator 10 ∷ expression_signs)
+
+-- a symbol that goes on with an expression, or what stands between two brackets
+unfoldable pub later_item : Form (Unit {0})
+later_item = either (turn silently (terminal later_sorts)) (over (operator 0 ∷ operator 2 ∷ operator 4 ∷ []))
+
+unfoldable pub first_item : Bool → Form (Unit {0})
+first_item named = either (turn silently (terminal (value_names named ++ expression_firsts))) (over (operator 0 ∷ operator 4 ∷ []))
+
+abbrev pub as_written : List Symbol → List Symbol
+as_written ts = ts
+
+-- an expression, of which the text is kept where it is no constant form
+unfoldable pub expression : Bool → Form ValueText
+expression named = turn (λ x. expression_of x.0) (seen as_written (pair (first_item named) (many later_item)))
+
+unfoldable pub value_from : Bool → Form ValueText
+value_from named = either array (either (turn value.Nested annotation) (expression named))
+
+-- ---- types (JLS 4, 8.3, 10.2)
+
+abbrev pub primitive_sorts : List ℕ
+primitive_sorts = word 2 ∷ word 4 ∷ word 36 ∷ word 26 ∷ word 28 ∷ word 7 ∷ word 19 ∷ word 13 ∷ []
+
+abbrev pub kind_of_word : ℕ → PrimitiveKind
+kind_of_word n = option_map_or (λ k. k) (primitive_of n) primitive.Void
+
+abbrev pub kind_of : Symbol → PrimitiveKind
+kind_of s = kind_of_word s.sort
+
+unfoldable pub primitive_type : Form PrimitiveKind
+primitive_type = turn kind_of (terminal primitive_sorts)
+
+-- Name [TypeArguments]
+unfoldable pub named_part : Form NamedPart
+named_part = turn (λ x. named_part_of x.0 x.1) (pair name (maybe (nest type_arguments)))
+
+-- . Annotations NamedPart
+unfoldable pub next_part : Form NamedPart
+next_part = behind (sign 8) (behind annotations named_part)
+
+-- NamedPart { . Annotations NamedPart }
+unfoldable pub class_type : Form (List NamedPart)
+class_type = turn first_and_rest (pair named_part (many next_part))
+
+abbrev pub array_around : Symbol → Around
+array_around s = around.Array
+
+-- Annotations [ ]
+unfoldable pub dim : Form Around
+dim = behind annotations (behind (sign 4) (turn array_around (sign 5)))
+
+unfoldable pub base_type : Form BaseType
+base_type = either (turn base.Primitive primitive_type) (turn base.Named class_type)
+
+abbrev pub type_in : Shape → TypeText
+type_in x = type_of x.0 x.1
+
+unfoldable pub type_form : Form TypeText
+type_form = turn type_in (pair base_type (many dim))
+
+-- ClassType { [ ] }
+unfoldable pub class_array : Form Shape
+class_array = pair (turn base.Named class_type) (many dim)
+
+-- PrimitiveType [ ] { [ ] }
+unfoldable pub primitive_array : Form Shape
+primitive_array = pair (turn base.Primitive primitive_type) (turn first_and_rest (pair dim (many dim)))
+
+-- of a primitive type an array alone is a reference type (JLS 4.3)
+unfoldable pub reference : Form Shape
+reference = either class_array primitive_array
+
+-- Annotations Reference
+unfoldable pub annotated_reference : Form Shape
+annotated_reference = behind annotations reference
+
+-- a type within something around it
+abbrev pub bounded_text : Around → TypeText → TypeText
+bounded_text item text = type_of (out-TypeText text).base (item ∷ (out-TypeText text).around)
+
+abbrev pub bounded : Around → Shape → TypeText
+bounded item x = bounded_text item (type_in x)
+
+-- extends Reference, or super Reference
+unfoldable pub wildcard_bound : Form TypeText
+wildcard_bound =
+    either (turn (bounded around.Extends) (behind (keyword 16) annotated_reference))
+    (turn (bounded around.Super) (behind (keyword 39) annotated_reference))
+
+abbrev pub wildcard_of : Option TypeText → TypeText
+wildcard_of None = type_of base.Wildcard []
+wildcard_of (Some w) = w
+
+-- ? [WildcardBound]
+unfoldable pub wildcard : Form TypeText
+wildcard = turn wildcard_of (behind (sign 17) (maybe wildcard_bound))
+
+-- JLS 4.5.1
+unfoldable pub type_argument : Form TypeText
+type_argument = behind annotations (either wildcard (turn type_in reference))
+
+-- , TypeArgument
+unfoldable pub next_argument : Form TypeText
+next_argument = behind (sign 7) type_argument
+
+-- < TypeArgument { , TypeArgument } >
+unfoldable pub arguments_form : Form (List TypeText)
+arguments_form = behind (sign 14) (before (turn first_and_rest (pair type_argument (many next_argument))) (sign 13))
+
+abbrev pub class_text : List NamedPart → TypeText
+class_text parts = type_of (base.Named parts) []
+
+-- Annotations ClassType
+unfoldable pub annotated_class : Form TypeText
+annotated_class = behind annotations (turn class_text class_type)
+
+-- & Annotations ClassType
+unfoldable pub next_bound : Form TypeText
+next_bound = behind (sign 32) annotated_class
+
+-- extends Bound { & Bound }
+unfoldable pub bounds : Form (List TypeText)
+bounds = behind (keyword 16) (turn first_and_rest (pair annotated_class (many next_bound)))
+
+abbrev pub type_param_of : List AnnotationText → List ℕ → Option (List TypeText) → TypeParam
+type_param_of marks n bs = record { name = n; annotations = marks; bounds = list_or_none bs }
+
+-- JLS 8.1.2
+unfoldable pub type_param : Form TypeParam
+type_param = turn (λ x. type_param_of x.0 x.1.0 x.1.1) (pair annotations (pair name (maybe bounds)))
+
+-- , TypeParam
+unfoldable pub next_type_param : Form TypeParam
+next_type_param = behind (sign 7) type_param
+
+-- < TypeParam { , TypeParam } >
+unfoldable pub type_params : Form (List TypeParam)
+type_params = behind (sign 14) (before (turn first_and_rest (pair type_param (many next_type_param))) (sign 13))
+
+unfoldable pub optional_params : Form (List TypeParam)
+optional_params = turn list_or_none (maybe type_params)
+
+-- , Annotations ClassType
+unfoldable pub next_class : Form TypeText
+next_class = behind (sign 7) annotated_class
+
+-- ClassType { , ClassType }
+unfoldable pub classes : Form (List TypeText)
+classes = turn first_and_rest (pair annotated_class (many next_class))
+
+-- ---- modifiers (JLS 8.1.1, 8.3.1, 8.4.3)
+
+-- what one modifier is: a bit, or an annotation
+pub data Mark : Type 0 where
+  bit : ℕ → Mark
+  marked : AnnotationText → Mark
+
+-- the bit of a modifier, by its sort
+abbrev pub bit_of : ℕ → ℕ
+bit_of n =
+    if n == word 34 then 1 else if n == word 33 then 2 else if n == word 32 then 4 else if n == word 0 then 8
+    else if n == word 11 then 16 else if n == word 37 then 32 else if n == word 17 then 64 else if n == word 45 then 128
+    else if n == word 48 then 256 else if n == word 41 then 512 else if n == word 29 then 1024 else 2048
+
+abbrev pub bit_mark : Symbol → Mark
+bit_mark s = bit (bit_of s.sort)
+
+abbrev pub no_modifiers : Modifiers
+no_modifiers = record { bits = 0; annotations = [] }
+
+abbrev pub with_bit : ℕ → Modifiers → Modifiers
+with_bit b m = record { bits = bit_or m.bits b; annotations = m.annotations }
+
+abbrev pub with_annotation : AnnotationText → Modifiers → Modifiers
+with_annotation a m = record { bits = m.bits; annotations = m.annotations ++ a ∷ [] }
+
+abbrev pub with_mark : Modifiers → Mark → Modifiers
+with_mark m (bit b) = with_bit b m
+with_mark m (marked a) = with_annotation a m
+
+-- modifiers, and more of them
+abbrev pub with_marks : Modifiers → List Mark → Modifiers
+with_marks m [] = m
+with_marks m (k ∷ ks) = with_marks (with_mark m k) ks
+
+abbrev pub marks_of : Mark × List Mark → Modifiers
+marks_of x = with_marks no_modifiers (x.0 ∷ x.1)
+
+abbrev pub modifier_from : List ℕ → Form Mark
+modifier_from words = either (turn bit_mark (terminal words)) (turn marked modifier_annotation)
+
+unfoldable pub modifier : Form Mark
+modifier = modifier_from modifier_words
+
+unfoldable pub plain_modifier : Form Mark
+plain_modifier = modifier_from plain_words
+
+-- Modifier { Modifier }
+abbrev pub modifiers_form : Form Mark → Form Modifiers
+modifiers_form f = turn marks_of (pair f (many modifier))
+
+abbrev pub modifiers_or_none : Option Modifiers → Modifiers
+modifiers_or_none None = no_modifiers
+modifiers_or_none (Some m) = m
+
+-- those of a member, which might still be those of a nested type
+unfoldable pub optional_modifiers : Form Modifiers
+optional_modifiers = turn modifiers_or_none (maybe (nest modifiers))
+
+-- those of a type that is not nested
+unfoldable pub type_modifiers : Form Modifiers
+type_modifiers = turn (with_marks no_modifiers) (many modifier)
+
+-- ---- parameters (JLS 8.4.1)
+
+unfoldable pub param_modifier : Form Mark
+param_modifier = either (turn bit_mark (keyword 17)) (turn marked annotation)
+
+unfoldable pub param_modifiers : Form Modifiers
+param_modifiers = turn (with_marks no_modifiers) (many param_modifier)
+
+-- a parameter with this name and these brackets behind it
+abbrev pub param_of : List ℕ → List Around → Modifiers → BaseType → List Around → Param
+param_of n ds m of items = record { name = n; modifiers = m.bits; annotations = m.annotations; of = type_of of (ds ++ items) }
+
+-- no parameters, none of which takes any number of arguments
+abbrev pub no_params : List Param × Bool
+no_params = ([], false)
+
+abbrev pub params_or_none : Option (List Param × Bool) → List Param × Bool
+params_or_none None = no_params
+params_or_none (Some ps) = ps
+
+-- a pair of brackets, and what stands behind it
+abbrev pub in_array : ParamRest → ParamRest
+in_array rest = (around.Array ∷ rest.0, rest.1)
+
+-- the end of a parameter, and the parameters behind it
+abbrev pub ended_with : ParamEnd → List Param × Bool → ParamRest
+ended_with e ps = ([], (e, ps))
+
+abbrev pub ended_last : ParamEnd → ParamRest
+ended_last e = ended_with e no_params
+
+abbrev pub end_and_rest : ParamEnd × Option (List Param × Bool) → ParamRest
+end_and_rest v = ended_with v.0 (params_or_none v.1)
+
+-- a parameter before others, from its parts: its type is its base in the brackets behind the name and those before it
+abbrev pub param_ended : ParamEnd → Modifiers → BaseType → List Around → List Param × Bool → List Param × Bool
+param_ended (param_end.Named n ds) m of items ps = (param_of n ds m of items ∷ ps.0, ps.1)
+param_ended (param_end.AnyNumber n) m of items ps = (param_of n (around.Array ∷ []) m of items ∷ [], true)
+param_ended param_end.Receiver m of items ps = ps
+
+abbrev pub apply_rest : Modifiers × (BaseType × ParamRest) → List Param × Bool
+apply_rest v = param_ended v.1.1.1.0 v.0 v.1.0 v.1.1.0 v.1.1.1.1
+
+-- BaseType ParamRest
+abbrev pub based : Form ParamRest → Form (BaseType × ParamRest)
+based rest = pair base_type rest
+
+-- Modifiers BaseType ParamRest
+unfoldable pub params_from : Form (List Param × Bool)
+params_from = turn apply_rest (pair param_modifiers (based (nest param_rest)))
+
+-- , ParamsFrom
+unfoldable pub next_params : Form (List Param × Bool)
+next_params = behind (sign 7) params_from
+
+abbrev pub any_number : List ℕ → ParamEnd
+any_number n = param_end.AnyNumber n
+
+-- ... Name
+unfoldable pub varargs : Form ParamEnd
+varargs = turn any_number (behind (sign 9) name)
+
+-- [ ] Rest
+abbrev pub bracket_rest : Form ParamRest → Form ParamRest
+bracket_rest rest = behind (sign 4) (behind (sign 5) (turn in_array rest))
+
+-- Annotation { Annotation } BracketRest, or with Varargs: annotations of a type stand before brackets, or before the `...`
+abbrev pub annotated_rest : Form ParamRest → Form ParamRest
+annotated_rest rest = behind annotation (behind annotations (either (bracket_rest rest) (turn ended_last varargs)))
+
+abbrev pub named_with : List ℕ × List Around → ParamEnd
+named_with v = param_end.Named v.0 v.1
+
+-- Name { [ ] }
+unfoldable pub named_end : Form ParamEnd
+named_end = turn named_with (pair name (many dim))
+
+-- behind the base of the type of a parameter
+unfoldable pub param_rest_form : Form ParamRest
+param_rest_form =
+    either (bracket_rest (nest param_rest)) (either (annotated_rest (nest param_rest)) (either (turn ended_last varargs) (turn end_and_rest (pair named_end (maybe next_params)))))
+
+abbrev pub receiver_end : Symbol → ParamEnd
+receiver_end s = param_end.Receiver
+
+-- this
+unfoldable pub receiver : Form ParamEnd
+receiver = turn receiver_end (keyword 42)
+
+-- [ ] { [ ] }
+unfoldable pub some_dims : Form (List Around)
+some_dims = turn first_and_rest (pair dim (many dim))
+
+abbrev pub no_dims : Symbol → Option (List Around)
+no_dims s = None
+
+abbrev pub some_brackets : List Around → Option (List Around)
+some_brackets ds = Some ds
+
+-- . this: the name before it is that of a type around the receiver
+unfoldable pub dot_this : Form (Option (List Around))
+dot_this = turn no_dims (behind (sign 8) (keyword 42))
+
+unfoldable pub with_dims : Form (Option (List Around))
+with_dims = turn some_brackets some_dims
+
+-- the end of a first parameter from its name and the brackets behind it, none where it is that of the receiver
+abbrev pub end_named : List ℕ → Option (List Around) → ParamEnd
+end_named n None = param_end.Receiver
+end_named n (Some ds) = param_end.Named n ds
+
+abbrev pub FirstBehind : Type 0
+FirstBehind = Option (List Around) × (List Param × Bool)
+
+abbrev pub dims_and_rest : Option (List Around) × Option (List Param × Bool) → FirstBehind
+dims_and_rest v = (v.0, params_or_none v.1)
+
+abbrev pub comma_first : List Param × Bool → FirstBehind
+comma_first ps = (Some [], ps)
+
+abbrev pub alone_or : Option FirstBehind → FirstBehind
+alone_or None = (Some [], no_params)
+alone_or (Some v) = v
+
+-- behind a name that is the parameter's own, or that of a type around the receiver
+unfoldable pub behind_first_name : Form FirstBehind
+behind_first_name =
+    turn alone_or (maybe (either (turn dims_and_rest (pair dot_this (maybe next_params))) (either (turn dims_and_rest (pair with_dims (maybe next_params))) (turn comma_first next_params))))
+
+abbrev pub first_named : List ℕ × FirstBehind → ParamRest
+first_named v = ended_with (end_named v.0 v.1.0) v.1.1
+
+-- behind the base of the type of the first parameter, which may be the receiver
+unfoldable pub first_rest_form : Form ParamRest
+first_rest_form =
+    either (bracket_rest (nest first_rest)) (either (annotated_rest (nest first_rest)) (either (turn ended_last varargs)
+    (either (turn end_and_rest (pair receiver (maybe next_params))) (turn first_named (pair name behind_first_name)))))
+
+-- of the first parameter the annotations stand before what tells whether it is the receiver, which has no `final`
+abbrev pub FirstRest : Type 0
+FirstRest = List AnnotationText → List Param × Bool
+
+abbrev pub annotated_only : List AnnotationText → Modifiers
+annotated_only found = record { bits = 0; annotations = found }
+
+abbrev pub final_and : List AnnotationText → Modifiers
+final_and found = record { bits = 64; annotations = found }
+
+abbrev pub final_first : List Mark × (BaseType × ParamRest) → FirstRest
+final_first v found = apply_rest (with_marks (final_and found) v.0, v.1)
+
+abbrev pub plain_first : BaseType × ParamRest → FirstRest
+plain_first v found = apply_rest (annotated_only found, v)
+
+unfoldable pub behind_annotations : Form FirstRest
+behind_annotations = either (turn final_first (behind (keyword 17) (pair (many param_modifier) (based (nest param_rest))))) (turn plain_first (based (nest first_rest)))
+
+abbrev pub first_from : List AnnotationText × FirstRest → List Param × Bool
+first_from x = x.1 x.0
+
+unfoldable pub first_params : Form (List Param × Bool)
+first_params = turn first_from (pair annotations behind_annotations)
+
+abbrev pub params_of : List Param × Bool → Params
+params_of x = record { params = x.0; varargs = x.1 }
+
+abbrev pub optional_first : Option (List Param × Bool) → Params
+optional_first o = params_of (params_or_none o)
+
+-- ( [FirstParams] )
+unfoldable pub params : Form Params
+params = behind (sign 0) (before (turn optional_first (maybe first_params)) (sign 1))
+
+-- ---- what stands behind the name of a method or a constructor (JLS 8.4, 8.8, 9.6.1)
+
+-- throws ClassType { , ClassType }
+unfoldable pub thrown : Form (List TypeText)
+thrown = turn list_or_none (maybe (behind (keyword 44) classes))
+
+-- a block, whatever it holds (JLS 14.2)
+abbrev pub block : Form (Unit {0})
+block = over (operator 2 ∷ [])
+
+unfoldable pub body : Form (Unit {0})
+body = either block (turn silently (sign 6))
+
+abbrev pub signature_of : Params → List Around → List TypeText → Option ValueText → Signature
+signature_of ps ds ts v = record { params = ps; dims = ds; thrown = ts; default = v }
+
+unfoldable pub method_signature : Form Signature
+method_signature = turn (λ x. signature_of x.0 x.1.0 x.1.1 None) (pair params (pair (many dim) (before thrown body)))
+
+unfoldable pub constructor_signature : Form Signature
+constructor_signature = turn (λ x. signature_of x.0 [] x.1 None) (pair params (before thrown block))
+
+-- default Value
+unfoldable pub element_default : Form (Option ValueText)
+element_default = maybe (behind (keyword 11) (nest any_value))
+
+unfoldable pub element_signature : Form Signature
+element_signature =
+    turn (λ x. signature_of (params_of no_params) x.0 [] x.1) (behind (sign 0) (behind (sign 1) (pair (many dim) (before element_default (sign 6)))))
+
+-- ---- fields (JLS 8.3), without initialisers
+
+abbrev pub declarator_of : List ℕ → List Around → Declarator
+declarator_of n ds = record { name = n; dims = ds }
+
+-- , Name { [ ] }
+unfoldable pub next_declarator : Form Declarator
+next_declarator = behind (sign 7) (turn (λ x. declarator_of x.0 x.1) (pair name (many dim)))
+
+-- { [ ] } { , Name { [ ] } } ;
+unfoldable pub field_rest : Form (List Around × List Declarator)
+field_rest = pair (many dim) (before (many next_declarator) (sign 6))
+
+-- ---- members behind their modifiers (JLS 8.1.6, 9.1.4, 9.6.1)
+
+-- a member, once its type and its name are known
+abbrev pub Named : Type 0
+Named = TypeText → List ℕ → Unmodified
+
+abbrev pub fields_named : List Around × List Declarator → Named
+fields_named v of n = unmodified.Fields of (declarator_of n v.0 ∷ v.1)
+
+abbrev pub method_named : Signature → Named
+method_named s of n = unmodified.Method [] of n s
+
+-- behind the name of a method or of fields
+abbrev pub member_rest : Form Signature → Form Named
+member_rest signature = either (turn method_named signature) (turn fields_named field_rest)
+
+-- what may stand behind the name of a member
+abbrev pub rest_form : MemberRest → Form Named
+rest_form rest_kind.Any = member_rest method_signature
+rest_form rest_kind.Method = turn method_named method_signature
+rest_form rest_kind.Element = member_rest element_signature
+
+-- behind the first name of a class type, up to the name of the member and what follows it
+abbrev pub Typed : Type 0
+Typed = List ℕ → Unmodified
+
+abbrev pub typed_as : Option (List TypeText) × (List NamedPart × (List Around × (List ℕ × Named))) → Typed
+typed_as v n = v.1.1.1.1 (type_of (base.Named (named_part_of n v.0 ∷ v.1.0)) v.1.1.0) v.1.1.1.0
+
+unfoldable pub typed_member : MemberRest → Form Typed
+typed_member rest = turn typed_as (pair (maybe (nest type_arguments)) (pair (many next_part) (pair (many dim) (pair name (rest_form rest)))))
+
+abbrev pub constructed : Signature → Typed
+constructed s n = unmodified.Constructor [] s
+
+-- what stands behind a first name: a constructor, whose name that was, or a member of a class type
+unfoldable pub constructed_or : MemberRest → Form Typed
+constructed_or rest = either (turn constructed constructor_signature) (typed_member rest)
+
+-- with constructors or without
+abbrev pub typed_form : Bool → MemberRest → Form Typed
+typed_form true rest = constructed_or rest
+typed_form false rest = typed_member rest
+
+abbrev pub void_type : TypeText
+void_type = type_of (base.Primitive primitive.Void) []
+
+abbrev pub void_named : List ℕ × Signature → Unmodified
+void_named x = method_named x.1 void_type x.0
+
+-- void Name Signature
+unfoldable pub void_method : Form Unmodified
+void_method = turn void_named (behind (keyword 47) (pair name method_signature))
+
+abbrev pub primitive_of_dims : PrimitiveKind × List Around → TypeText
+primitive_of_dims x = type_of (base.Primitive x.0) x.1
+
+abbrev pub primitive_named : TypeText × (List ℕ × Named) → Unmodified
+primitive_named x = x.1.1 x.0 x.1.0
+
+-- PrimitiveType { [ ] } Name Rest
+unfoldable pub primitive_member : MemberRest → Form Unmodified
+primitive_member rest = turn primitive_named (pair (turn primitive_of_dims (pair primitive_type (many dim))) (pair name (rest_form rest)))
+
+abbrev pub typed_named : List ℕ × Typed → Unmodified
+typed_named x = x.1 x.0
+
+-- Name Rest
+unfoldable pub named_member : Bool → MemberRest → Form Unmodified
+named_member constructors rest = turn typed_named (pair name (typed_form constructors rest))
+
+-- with other type parameters (JLS 8.4.4, 8.8.4)
+abbrev pub with_type_params : List TypeParam → Unmodified → Unmodified
+with_type_params ps unmodified.Nothing = unmodified.Nothing
+with_type_params ps (unmodified.Fields of ds) = unmodified.Fields of ds
+with_type_params ps (unmodified.Method qs of n s) = unmodified.Method ps of n s
+with_type_params ps (unmodified.Constructor qs s) = unmodified.Constructor ps s
+with_type_params ps (unmodified.Nested rest) = unmodified.Nested rest
+
+-- behind annotations a method comes
+unfoldable pub generic_method : Form Unmodified
+generic_method = either void_method (either (primitive_member rest_kind.Method) (named_member false rest_kind.Method))
+
+unfoldable pub annotated_method : Form Unmodified
+annotated_method = behind annotation (behind annotations generic_method)
+
+-- behind type parameters, with constructors or without
+unfoldable pub generic_rest : Bool → Form Unmodified
+generic_rest constructors = either annotated_method (either void_method (either (primitive_member rest_kind.Method) (named_member constructors rest_kind.Method)))
+
+abbrev pub generic_of : List TypeParam × Unmodified → Unmodified
+generic_of x = with_type_params x.0 x.1
+
+-- TypeParams GenericRest
+unfoldable pub generic : Bool → Form Unmodified
+generic constructors = turn generic_of (pair type_params (generic_rest constructors))
+
+-- ---- member lists
+
+-- the text of a doc comment, where there is one
+abbrev pub doc_of : Option (List ℕ) → Option (List ℕ)
+doc_of raw = option_map doc_text raw
+
+-- the doc comment before the first of some symbols
+abbrev pub first_doc : List Symbol → Option (List ℕ)
+first_doc [] = None
+first_doc (s ∷ ss) = option_map (λ d. d.now) s.doc
+
+-- a declaration with this doc comment
+abbrev pub declaration_of : Option (List ℕ) → Modifiers → TypeRest → TypeDecl
+declaration_of doc m rest = record {
+  kind = rest.kind;
+  name = rest.name;
+  modifiers = m.bits;
+  annotations = m.annotations;
+  doc = doc;
+  parameters = rest.parameters;
+  superclass = rest.superclass;
+  interfaces = rest.interfaces;
+  members = rest.members;
+}
+
+abbrev pub declared : Option (List ℕ) → Modifiers → TypeRest → TypeDecl
+declared raw m rest = declaration_of (doc_of raw) m rest
+
+-- brackets behind the name are around those of the type
+abbrev pub in_dims : List Around → TypeText → TypeText
+in_dims ds of = type_of (out-TypeText of).base (ds ++ (out-TypeText of).around)
+
+abbrev pub field_of : Option (List ℕ) → Modifiers → TypeText → Declarator → Member
+field_of doc m of d = member.Field (record {
+  name = d.name;
+  modifiers = m.bits;
+  annotations = m.annotations;
+  doc = doc;
+  of = in_dims d.dims of;
+  constant = None;
+})
+
+abbrev pub method_of : Option (List ℕ) → Modifiers → List TypeParam → TypeText → List ℕ → Signature → Member
+method_of doc m ps of n s = member.Method (record {
+  name = n;
+  modifiers = m.bits;
+  annotations = m.annotations;
+  doc = doc;
+  parameters = ps;
+  result = in_dims s.dims of;
+  arguments = s.params.params;
+  varargs = s.params.varargs;
+  thrown = s.thrown;
+  default = s.default;
+})
+
+abbrev pub constructor_of : Option (List ℕ) → Modifiers → List TypeParam → Signature → Member
+constructor_of doc m ps s = member.Constructor (record {
+  modifiers = m.bits;
+  annotations = m.annotations;
+  doc = doc;
+  parameters = ps;
+  arguments = s.params.params;
+  varargs = s.params.varargs;
+  thrown = s.thrown;
+})
+
+-- the members that a declaration with this doc comment gives
+abbrev pub members_with : Option (List ℕ) → Modifiers → Unmodified → List Member
+members_with doc m unmodified.Nothing = []
+members_with doc m (unmodified.Fields of ds) = map (field_of doc m of) ds
+members_with doc m (unmodified.Method ps of n s) = method_of doc m ps of n s ∷ []
+members_with doc m (unmodified.Constructor ps s) = constructor_of doc m ps s ∷ []
+members_with doc m (unmodified.Nested rest) = member.Nested (declaration_of doc m rest) ∷ []
+
+abbrev pub members_of : Option (List ℕ) → Modifiers → Unmodified → List Member
+members_of raw m u = members_with (doc_of raw) m u
+
+abbrev pub Modified : Type 0
+Modified = Modifiers × Unmodified
+
+abbrev pub bare : Unmodified → Modified
+bare u = (no_modifiers, u)
+
+abbrev pub nothing_here : Unit {0} → Modified
+nothing_here v = (no_modifiers, unmodified.Nothing)
+
+-- `static` stood before them
+abbrev pub with_static : Modified → Modified
+with_static x = (record { bits = bit_or 32 x.0.bits; annotations = x.0.annotations }, x.1)
+
+-- behind a first `static`: an initialiser (JLS 8.7), or a member
+unfoldable pub static_rest : Form Unmodified → Form Modified
+static_rest f = either (turn nothing_here block) (turn with_static (pair optional_modifiers f))
+
+unfoldable pub plain_modified : Form Unmodified → Form Modified
+plain_modified f = pair (nest plain_modifiers) f
+
+-- a member of a class with its modifiers; a `static` may begin an initialiser
+abbrev pub class_modified : Form Unmodified → Form Modified
+class_modified f = either (turn bare f) (either (plain_modified f) (behind (nest static_word) (static_rest f)))
+
+abbrev pub modified : Form Unmodified → Form Modified
+modified f = pair optional_modifiers f
+
+abbrev pub no_member : {A : Type 0} → A → List Member
+no_member v = []
+
+abbrev pub documented_members : Option (List ℕ) × Modified → List Member
+documented_members x = members_of x.0 x.1.0 x.1.1
+
+abbrev pub member_from : Form Modified → Form (List Member)
+member_from f = turn documented_members (seen first_doc f)
+
+unfoldable pub nested_member : Form Unmodified
+nested_member = turn unmodified.Nested (nest nested_type)
+
+-- a member of a class, with constructors, or of an interface
+unfoldable pub unmodified_of : Bool → Form Unmodified
+unmodified_of constructors =
+    either nested_member (either void_method (either (primitive_member rest_kind.Any) (either (named_member constructors rest_kind.Any) (generic constructors))))
+
+unfoldable pub annotation_unmodified : Form Unmodified
+annotation_unmodified = either nested_member (either (primitive_member rest_kind.Element) (named_member false rest_kind.Element))
+
+-- a member with its modifiers, by the kind of its type (JLS 8.1.7, 8.9.2, 9.1.5, 9.6.1)
+unfoldable pub modified_form : TypeKind → Form Modified
+modified_form kind.Enum = class_modified (unmodified_of true)
+modified_form kind.Class = class_modified (unmodified_of true)
+modified_form kind.AnnotationType = modified annotation_unmodified
+modified_form kind.Interface = modified (unmodified_of false)
+
+-- a class has initialisers too
+abbrev pub or_block : TypeKind → Form (List Member) → Form (List Member)
+or_block kind.Enum f = either (turn no_member block) f
+or_block kind.Class f = either (turn no_member block) f
+or_block kind.AnnotationType f = f
+or_block kind.Interface f = f
+
+unfoldable pub member_form : TypeKind → Form (List Member)
+member_form k = either (turn no_member (sign 6)) (or_block k (member_from (modified_form k)))
+
+abbrev pub joined_lists : List (List Member) → List Member
+joined_lists ms = flat_map (λ m. m) ms
+
+-- ---- types (JLS 8.1, 8.9, 9.1, 9.6)
+
+abbrev pub rest_of : TypeKind → List ℕ → List TypeParam → Option TypeText → List TypeText → List Member → TypeRest
+rest_of k n ps above types ms = record { kind = k; name = n; parameters = ps; superclass = above; interfaces = types; members = ms }
+
+-- { Members }
+abbrev pub members_in : TypeKind → Form (List Member)
+members_in k = behind (sign 2) (before (turn joined_lists (many (member_form k))) (sign 3))
+
+unfoldable pub superclass : Form (Option TypeText)
+superclass = maybe (behind (keyword 16) annotated_class)
+
+unfoldable pub implemented : Form (List TypeText)
+implemented = turn list_or_none (maybe (behind (keyword 23) classes))
+
+unfoldable pub extended : Form (List TypeText)
+extended = turn list_or_none (maybe (behind (keyword 16) classes))
+
+unfoldable pub class_form : Form TypeRest
+class_form =
+    turn (λ x. rest_of kind.Class x.0 x.1.0 x.1.1.0 x.1.1.1.0 x.1.1.1.1)
+    (behind (keyword 8) (pair name (pair optional_params (pair superclass (pair implemented (members_in kind.Class))))))
+
+unfoldable pub interface_form : Form TypeRest
+interface_form =
+    turn (λ x. rest_of kind.Interface x.0 x.1.0 None x.1.1.0 x.1.1.1)
+    (behind (keyword 27) (pair name (pair optional_params (pair extended (members_in kind.Interface)))))
+
+unfoldable pub annotation_form : Form TypeRest
+annotation_form =
+    turn (λ x. rest_of kind.AnnotationType x.0 [] None [] x.1)
+    (behind (terminal (at_interface ∷ [])) (behind (keyword 27) (pair name (members_in kind.AnnotationType))))
+
+-- whether something in brackets of this sort stands here
+abbrev pub is_there : {A : Type 0} → Option A → Bool
+is_there x = is_some x
+
+unfoldable pub optional_over : ℕ → Form Bool
+optional_over sort = turn is_there (maybe (over (sort ∷ [])))
+
+-- the annotations of an enum constant, its name, and whether it has a body
+abbrev pub ConstantPart : Type 0
+ConstantPart = List AnnotationText × (List ℕ × Bool)
+
+abbrev pub constant_part_of : List AnnotationText × (List ℕ × (Bool × Bool)) → ConstantPart
+constant_part_of x = (x.0, (x.1.0, x.1.1.1))
+
+-- Annotations Name [Arguments] [Body]: arguments and a body are passed over (JLS 8.9.1)
+unfoldable pub constant_part : Form ConstantPart
+constant_part = turn constant_part_of (pair annotations (pair name (pair (optional_over (operator 0)) (optional_over (operator 2)))))
+
+abbrev pub constant_of : Option (List ℕ) × ConstantPart → Member
+constant_of x = member.Constant (record { name = x.1.1.0; annotations = x.1.0; doc = doc_of x.0; body = x.1.1.1 })
+
+unfoldable pub constant : Form Member
+constant = turn constant_of (seen first_doc constant_part)
+
+-- Constant [EnumRest]
+unfoldable pub some_constants : Form (List Member)
+some_constants = turn one_and_rest (pair constant (maybe (nest enum_rest)))
+
+-- , [SomeConstants]: behind the last constant a `,` may stand
+unfoldable pub enum_rest_form : Form (List Member)
+enum_rest_form = behind (sign 7) (turn list_or_none (maybe some_constants))
+
+-- SomeConstants, or a `,` alone
+unfoldable pub constant_list : Form (List Member)
+constant_list = either some_constants (turn no_values (sign 7))
+
+unfoldable pub constants : Form (List Member)
+constants = turn list_or_none (maybe constant_list)
+
+-- [; Members]
+unfoldable pub enum_members : Form (List Member)
+enum_members = turn list_or_none (maybe (behind (sign 6) (turn joined_lists (many (member_form kind.Enum)))))
+
+unfoldable pub enum_form : Form TypeRest
+enum_form =
+    turn (λ x. rest_of kind.Enum x.0 [] None x.1.0 (x.1.1.0 ++ x.1.1.1))
+    (behind (keyword 15) (pair name (pair implemented (behind (sign 2) (pair constants (before enum_members (sign 3)))))))
+
+unfoldable pub type_rest : Form TypeRest
+type_rest = either class_form (either interface_form (either annotation_form enum_form))
+
+-- ---- compilation units (JLS 7.3 to 7.6)
+
+abbrev pub import_as : ImportKind → List ℕ → Import
+import_as k n = record { kind = k; name = n }
+
+abbrev pub static_import : Import → Import
+static_import i = import_as (static_kind i.kind) i.name
+  where
+    static_kind : ImportKind → ImportKind
+    static_kind import_kind.Single = import_kind.StaticSingle
+    static_kind import_kind.OnDemand = import_kind.StaticOnDemand
+    static_kind import_kind.StaticSingle = import_kind.StaticSingle
+    static_kind import_kind.StaticOnDemand = import_kind.StaticOnDemand
+
+abbrev pub with_dot : List ℕ → List ℕ → List ℕ
+with_dot n m = (n ++ codes ".") ++ m
+
+abbrev pub single_or : Option ImportRest → ImportRest
+single_or None n = import_as import_kind.Single n
+single_or (Some rest) n = rest n
+
+abbrev pub deeper_import : List ℕ × Option ImportRest → ImportRest
+deeper_import x = λ n. single_or x.1 (with_dot n x.0)
+
+abbrev pub on_demand : Symbol → ImportRest
+on_demand s = λ n. import_as import_kind.OnDemand n
+
+abbrev pub no_name : Symbol → Option (List ℕ)
+no_name s = None
+
+-- . Name, or . *
+unfoldable pub import_step : Form (Option (List ℕ))
+import_step = behind (sign 8) (either (turn (λ n. Some n) name) (turn no_name (sign 30)))
+
+-- . Name [ImportRest], or . *
+unfoldable pub import_rest_form : Form ImportRest
+import_rest_form = behind (sign 8) (either (turn deeper_import (pair name (maybe (nest import_rest)))) (turn on_demand (sign 30)))
+
+unfoldable pub import_named : Form Import
+import_named = turn (λ x. single_or x.1 x.0) (pair name (maybe (nest import_rest)))
+
+-- static Name ImportRest
+unfoldable pub import_static : Form Import
+import_static = behind (keyword 37) (turn (λ x. static_import (x.1 x.0)) (pair name (nest import_rest)))
+
+unfoldable pub import_form : Form Import
+import_form = behind (keyword 24) (before (either import_named import_static) (sign 6))
+
+unfoldable pub package_form : Form (List ℕ)
+package_form = behind (keyword 31) (before name_chain (sign 6))
+
+abbrev pub top_declared : Option (List ℕ) × (Modifiers × TypeRest) → Option TypeDecl
+top_declared x = Some (declared x.0 x.1.0 x.1.1)
+
+abbrev pub no_type : Symbol → Option TypeDecl
+no_type s = None
+
+-- Modifiers TypeRest
+unfoldable pub modified_type : Form (Modifiers × TypeRest)
+modified_type = pair type_modifiers type_rest
+
+-- a type with its modifiers, or a `;` (JLS 7.6)
+unfoldable pub top_type : Form (Option TypeDecl)
+top_type = either (turn no_type (sign 6)) (turn top_declared (seen first_doc modified_type))
+
+-- what an ordinary file declares: its package, its imports and its types
+abbrev pub Ordinary : Type 0
+Ordinary = Option (List ℕ) × (List Import × List (Option TypeDecl))
+
+unfoldable pub ordinary : Form Ordinary
+ordinary = pair (maybe package_form) (pair (many import_form) (many top_type))
+
+-- Annotations package Name { . Name } ; (JLS 7.4.1)
+unfoldable pub package_part : Form (List AnnotationText × List ℕ)
+package_part = pair annotations package_form
+
+-- the same with its doc comment
+abbrev pub documented_package : Option (List ℕ) × (List AnnotationText × List ℕ) → Option (List ℕ) × (List AnnotationText × List ℕ)
+documented_package x = (doc_of x.0, x.1)
+
+unfoldable pub annotated_package : Form (Option (List ℕ) × (List AnnotationText × List ℕ))
+annotated_package = turn documented_package (seen first_doc package_part)
+
+-- what a file `package-info.java` declares
+abbrev pub Info : Type 0
+Info = Option (Option (List ℕ) × (List AnnotationText × List ℕ)) × (List Import × Unit {0})
+
+unfoldable pub semicolon : Form Symbol
+semicolon = sign 6
+
+-- a package with annotations, imports, and no types
+unfoldable pub package_info : Form Info
+package_info = pair (maybe annotated_package) (pair (many import_form) (turn silently (many semicolon)))
+
+-- ---- forms that hold themselves
+
+abbrev pub rule : (m : Nest) → Form (Of m)
+rule type_arguments = arguments_form
+rule any_value = value_from true
+rule lone_value = value_from false
+rule first_name = named_text
+rule nested_type = type_rest
+rule modifiers = modifiers_form modifier
+rule plain_modifiers = modifiers_form plain_modifier
+rule static_word = keyword 37
+rule array_rest = array_rest_form
+rule import_rest = import_rest_form
+rule enum_rest = enum_rest_form
+rule param_rest = param_rest_form
+rule first_rest = first_rest_form
+
+-- a form that holds itself, where this many more may be open: of one that counts the room is one less within
+abbrev pub enter_if : (m : Nest) → Bool → (ℕ → Readers) → ℕ → List Symbol → Outcome (Of m)
+enter_if m true inner zero ts = if starts (first_of m) ts then deep ts else fault ts
+enter_if m true inner (suc room) ts = read (inner room) (rule m) ts
+enter_if m false inner room ts = read (inner room) (rule m) ts
+
+abbrev pub enter : (ℕ → Readers) → ℕ → Readers
+enter inner room m ts = enter_if m (counts m) inner room ts
+
+-- the same through this many forms that hold themselves; each has a symbol of its own, so that their number is enough
+abbrev pub read_at : ℕ → ℕ → Readers
+read_at zero room m ts = fault ts
+read_at (suc n) room m ts = enter (read_at n) room m ts
+
+unfoldable pub read_nest : ℕ → Readers
+read_nest room m ts = read_at (suc (length ts)) room m ts
+
+-- what is read where this many constructs may still be opened
+abbrev pub reads : {A : Type 0} → ℕ → Form A → List Symbol → Outcome A
+reads room f ts = read (read_nest room) f ts
+
+-- what is such a form, of at most this height, and what begins one
+abbrev pub WholeAt : ℕ → Wholes
+WholeAt zero m ts x = ⊥
+WholeAt (suc h) m ts x = Is (WholeAt h) (rule m) ts x
+
+abbrev pub BegunAt : ℕ → Begun
+BegunAt zero m ts n = ⊥
+BegunAt (suc h) m ts n = Begins (WholeAt h) (BegunAt h) (rule m) ts n

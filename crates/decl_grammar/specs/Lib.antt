@@ -1,0 +1,9 @@
+pub mod Symbols
+pub mod Reading
+pub mod Docs
+pub mod Form
+pub mod Constants
+pub mod Grammar
+pub mod Rows
+pub mod File
+pub mod SymbolList

@@ -1,0 +1,59 @@
+-- The symbols of a list of tokens: one for each token, but a `>>` is two and a `>>>` three (JLS 3.5). Two tokens are of a sort of their own by the token that follows.
+use Rattle.std.specs.Prelude.{ℕ, ◌+◌, ◌==◌, Bool, true, false, List, [], ◌∷◌, ◌++◌, Option, None, Some, if◌then◌else◌, nat_le}
+use Rattle.java_tokens.specs.declared.token.TokenKind.{TokenKind}
+use Rattle.java_tokens.specs.declared.token.TokenKind.TheVariants.{Identifier, Reserved, Integer, Floating, Character, Text, TextBlock, Operator, Truth, Null}
+use Rattle.java_tokens.specs.declared.token.Token.{Token}
+use Rattle.decl_grammar.specs.declared.symbol.Symbol.{Symbol}
+
+-- a sort of which no form has a symbol; no token has a number beyond its table
+abbrev pub no_sort : ℕ
+no_sort = 255
+
+abbrev pub word_sort : ℕ → ℕ
+word_sort n = if nat_le n 50 then 10 + n else no_sort
+
+abbrev pub operator_sort : ℕ → ℕ
+operator_sort n = if nat_le n 49 then 61 + n else no_sort
+
+-- the sort of a token by itself
+abbrev pub sort_of : TokenKind → ℕ
+sort_of Identifier = 0
+sort_of (Reserved n) = word_sort n
+sort_of Integer = 2
+sort_of Floating = 3
+sort_of Character = 4
+sort_of Text = 5
+sort_of TextBlock = 6
+sort_of (Operator n) = operator_sort n
+sort_of Truth = 7
+sort_of Null = 8
+
+-- the next token is of this sort
+abbrev pub is_before : ℕ → List Token → Bool
+is_before n [] = false
+is_before n (t ∷ ts) = sort_of t.kind == n
+
+-- the sort of a token before others: a name before `=` is 1, and `@` before `interface` is 9
+abbrev pub sort_before : ℕ → List Token → ℕ
+sort_before n ts = if n == 0 then (if is_before 73 ts then 1 else 0) else if n == 71 then (if is_before 37 ts then 9 else 71) else n
+
+abbrev pub symbol_of : ℕ → Bool → Token → Symbol
+symbol_of sort further t = record { sort = sort; further = further; start = t.start; line = t.line; text = t.text; doc = t.doc }
+
+-- `>`, behind others of the same token or not
+abbrev pub closing : Bool → Token → Symbol
+closing further t = symbol_of 74 further t
+
+-- the symbols of a token of this sort before others
+abbrev pub symbols_at : ℕ → Token → List Token → List Symbol
+symbols_at n t ts =
+    if n == 98 then closing false t ∷ closing true t ∷ []
+    else if n == 99 then closing false t ∷ closing true t ∷ closing true t ∷ []
+    else symbol_of (sort_before n ts) false t ∷ []
+
+abbrev pub symbols_before : Token → List Token → List Symbol
+symbols_before t ts = symbols_at (sort_of t.kind) t ts
+
+abbrev pub symbols_of : List Token → List Symbol
+symbols_of [] = []
+symbols_of (t ∷ ts) = symbols_before t ts ++ symbols_of ts

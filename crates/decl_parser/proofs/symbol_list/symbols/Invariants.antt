@@ -1,9 +1,0 @@
-use Rattle.std.proofs.Common.{◌≡◌, ◌++◌, length}
-use Rattle.decl_parser.specs.SymbolList.{symbols_of}
-use Rattle.decl_parser.proofs.symbol_list.symbols.Given as goal
-
-abbrev pub invariant-row : goal.invariant-row
-invariant-row l = l.all.items ++ symbols_of l.rest ≡ symbols_of l.fn.tokens
-
-abbrev pub decreases-row : goal.decreases-row
-decreases-row l = length l.rest

@@ -1,0 +1,6 @@
+pub mod Marks
+pub mod ParamFirsts
+pub mod ParamSteps
+pub mod MemberFirsts
+pub mod MemberFolds
+pub mod ParamRows

@@ -1,0 +1,10 @@
+use Rattle.std.proofs.Common.{◌≡◌, length}
+use Rattle.decl_grammar.specs.Form.{many, with_front}
+use Rattle.decl_grammar.specs.Grammar.{reads, next_bound}
+use Rattle.decl_types.proofs.headings.more_bounds_of.Given as goal
+
+abbrev pub invariant-row : goal.invariant-row
+invariant-row l = with_front l.all.items (reads l.room (many next_bound) l.rest) ≡ with_front l.fn.front.items (reads l.room (many next_bound) l.fn.symbols)
+
+abbrev pub decreases-row : goal.decreases-row
+decreases-row l = length l.rest

@@ -1,0 +1,10 @@
+use Rattle.std.proofs.Common.{◌≡◌, length}
+use Rattle.decl_grammar.specs.Form.{many, with_front}
+use Rattle.decl_grammar.specs.Grammar.{reads, next_type_param}
+use Rattle.decl_types.proofs.headings.more_type_params_of.Given as goal
+
+abbrev pub invariant-row : goal.invariant-row
+invariant-row l = with_front l.all.items (reads l.room (many next_type_param) l.rest) ≡ with_front l.fn.front.items (reads l.room (many next_type_param) l.fn.symbols)
+
+abbrev pub decreases-row : goal.decreases-row
+decreases-row l = length l.rest

@@ -1,0 +1,22 @@
+use Rattle.std.proofs.Common.{◌≡◌, ℕ, List, refl, ◌∙◌, sym, ap}
+use Rattle.std.proofs.lemmas.Result.{err_from_is_err_and}
+use Rattle.decl_grammar.specs.Reading.{starts}
+use Rattle.decl_grammar.specs.Grammar.{with_mark, with_marks, modifier}
+use Rattle.decl_grammar.proofs.Firsts.{modifier_first, modifier_full}
+use Rattle.decl_grammar.proofs.Loop.{Folds, fold-falls, folds, fold-ends, fold-stops}
+use Rattle.decl_types.proofs.Marks.{marks}
+use Rattle.decl_types.proofs.modifiers.more_modifiers_of.Goals as goal
+
+pub returns-in_err-next : goal.returns-in_err-next
+returns-in_err-next c =
+    let p = err_from_is_err_and c.from_residual-in_err-next.result c.from_residual-in_err-next.ensures.1 in
+    rw (p.1, p.2) (fold-ends c.args.room modifier with_mark with_marks c.row.all c.row.rest.now _ _ modifier_full (ap (λ (ks : List ℕ). starts ks c.row.rest.now) modifier_first ∙ sym c.starts_modifier.ensures ∙ c.row-test.true) c.in_err-next.ensures c.row.invariant)
+
+pub row-smaller : goal.row-smaller
+row-smaller c = fold-falls c.args.room modifier with_mark c.row.all c.row.rest.now c.in_ok-next.next c.in_ok-next.after.now modifier_full c.in_ok-next.ensures
+
+pub row-preserved : goal.row-preserved
+row-preserved c = folds c.args.room modifier with_mark with_marks marks c.row.all c.row.rest.now c.in_ok-next.next c.in_ok-next.after.now _ modifier_full (ap (λ (ks : List ℕ). starts ks c.row.rest.now) modifier_first ∙ sym c.starts_modifier.ensures ∙ c.row-test.true) c.in_ok-next.ensures c.row.invariant
+
+pub returns : goal.returns
+returns c = fold-stops c.args.room modifier with_mark with_marks marks c.row.all c.row.rest.now _ modifier_full (ap (λ (ks : List ℕ). starts ks c.row.rest.now) modifier_first ∙ sym c.starts_modifier.ensures ∙ c.row-test.false) c.row.invariant

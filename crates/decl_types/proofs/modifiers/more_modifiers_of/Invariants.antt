@@ -1,0 +1,10 @@
+use Rattle.std.proofs.Common.{◌≡◌, length}
+use Rattle.decl_grammar.specs.Form.{many, turned}
+use Rattle.decl_grammar.specs.Grammar.{reads, with_marks, modifier}
+use Rattle.decl_types.proofs.modifiers.more_modifiers_of.Given as goal
+
+abbrev pub invariant-row : goal.invariant-row
+invariant-row l = turned (with_marks l.all) (reads l.room (many modifier) l.rest) ≡ turned (with_marks l.fn.front) (reads l.room (many modifier) l.fn.symbols)
+
+abbrev pub decreases-row : goal.decreases-row
+decreases-row l = length l.rest

@@ -1,0 +1,11 @@
+use Rattle.std.proofs.Common.{◌≡◌, ◌≤◌, length}
+use Rattle.decl_grammar.specs.Form.{param_rest, turned}
+use Rattle.decl_grammar.specs.Grammar.{read_nest}
+use Rattle.decl_types.specs.Params.{with_items}
+use Rattle.decl_types.proofs.params.param_end_of.Given as goal
+
+abbrev pub invariant-row : goal.invariant-row
+invariant-row l = (turned (with_items l.all.items) (read_nest l.room param_rest l.rest) ≡ read_nest l.room param_rest l.fn.symbols) × (length l.rest ≤ length l.fn.symbols)
+
+abbrev pub decreases-row : goal.decreases-row
+decreases-row l = length l.rest

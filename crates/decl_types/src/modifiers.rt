@@ -1,0 +1,355 @@
+// Reads modifiers (JLS 8.1.1, 8.3.1, 8.4.1, 8.4.3).
+ghost use Rattle.std.specs.Prelude.{◌≡◌, ◌++◌, [], ◌∷◌, ℕ, List, length, IfOk, Ok, Some, None, MatchResult};
+ghost use Rattle.decl_grammar.specs.declared.fault.ReadFault.TheVariants as faults;
+ghost use Rattle.decl_grammar.specs.Reading.{Gives, has, starts, one_at};
+ghost use Rattle.decl_grammar.specs.Form.{ats, plain_words, modifier_words, many, maybe, nest, modifiers, plain_modifiers, static_word, turned};
+ghost use Rattle.decl_grammar.specs.Rows.{read_as, marks_behind};
+ghost use Rattle.decl_grammar.specs.Grammar.{reads, read_nest, keyword, bit_of, with_annotation, with_mark, with_marks, no_modifiers, modifier, plain_modifier, modifiers_form, modifiers_or_none, optional_modifiers, type_modifiers, param_modifier, param_modifiers};
+
+use crate::types::modifier_annotation_of;
+use apt_base::List;
+use decl_grammar::{Modifiers, ReadFault, Symbol};
+use decl_tree::AnnotationText;
+use decl_values::{annotation_of, begin, is_next, one, shut, starts_annotation};
+use std::alloc::Global;
+
+// The bit of a modifier.
+fn bit_of_sort(sort: u8) -> u16
+    ensures { result ≡ bit_of sort }
+{
+    if sort == 44 {
+        return 1;
+    }
+    if sort == 43 {
+        return 2;
+    }
+    if sort == 42 {
+        return 4;
+    }
+    if sort == 10 {
+        return 8;
+    }
+    if sort == 21 {
+        return 16;
+    }
+    if sort == 47 {
+        return 32;
+    }
+    if sort == 27 {
+        return 64;
+    }
+    if sort == 55 {
+        return 128;
+    }
+    if sort == 58 {
+        return 256;
+    }
+    if sort == 51 {
+        return 512;
+    }
+    if sort == 39 {
+        return 1024;
+    }
+    2048
+}
+
+/// Whether a modifier but `static` has this sort.
+pub fn is_plain_word(sort: u8) -> bool
+    ensures { result ≡ has plain_words sort }
+{
+    sort == 44
+        || sort == 43
+        || sort == 42
+        || sort == 10
+        || sort == 21
+        || sort == 27
+        || sort == 55
+        || sort == 58
+        || sort == 51
+        || sort == 39
+        || sort == 48
+}
+
+/// Whether a modifier has this sort.
+pub fn is_modifier_word(sort: u8) -> bool
+    ensures { result ≡ has modifier_words sort }
+{
+    sort == 47 || is_plain_word(sort)
+}
+
+// Whether a keyword of a modifier stands here, but `static`.
+fn starts_plain_word(symbols: &[Symbol<'_>]) -> bool
+    ensures { result ≡ starts plain_words symbols.now }
+{
+    match symbols {
+        [] => false,
+        [symbol, ..] => is_plain_word(symbol.sort),
+    }
+}
+
+// Whether a keyword of a modifier stands here.
+fn starts_modifier_word(symbols: &[Symbol<'_>]) -> bool
+    ensures { result ≡ starts modifier_words symbols.now }
+{
+    match symbols {
+        [] => false,
+        [symbol, ..] => is_modifier_word(symbol.sort),
+    }
+}
+
+/// Whether a modifier begins here, but `static`.
+pub fn starts_plain_modifier(symbols: &[Symbol<'_>]) -> bool
+    ensures { result ≡ starts (plain_words ++ (71 ∷ [])) symbols.now }
+{
+    starts_plain_word(symbols) || is_next(symbols, 71)
+}
+
+/// Whether a modifier begins here.
+pub fn starts_modifier(symbols: &[Symbol<'_>]) -> bool
+    ensures { result ≡ starts (modifier_words ++ (71 ∷ [])) symbols.now }
+{
+    starts_modifier_word(symbols) || is_next(symbols, 71)
+}
+
+// Modifiers with one more annotation.
+fn marked(front: Modifiers, annotation: AnnotationText) -> Result<Modifiers, ReadFault>
+    ensures { MatchResult result (λ m. m ≡ with_annotation annotation front) (λ e. e ≡ faults.Memory) }
+{
+    let Modifiers { bits, annotations } = front;
+    let mut annotations = annotations;
+    annotations.push(annotation)?;
+    Ok(Modifiers { bits, annotations })
+}
+
+// One modifier, put behind others.
+#[tactic(auto, using(decl_grammar::proofs::Firsts::modifier_annotation_first), unfolding(decl_grammar::specs::Grammar::modifier, decl_grammar::specs::Reading::one_at))]
+fn modifier_of<'a, 's>(
+    alloc: Global,
+    room: usize,
+    front: Modifiers,
+    symbols: &'s [Symbol<'a>],
+) -> Result<(Modifiers, &'s [Symbol<'a>]), ReadFault>
+    ensures { Gives (λ x. (x.0, x.1.now)) result (read_as (with_mark front) room modifier symbols.now) }
+{
+    if let [symbol, rest @ ..] = symbols {
+        if is_modifier_word(symbol.sort) {
+            let Modifiers { bits, annotations } = front;
+            let bits = bits | bit_of_sort(symbol.sort);
+            return Ok((Modifiers { bits, annotations }, rest));
+        }
+    }
+    let (annotation, rest) = modifier_annotation_of(alloc, room, symbols)?;
+    Ok((marked(front, annotation)?, rest))
+}
+
+// One modifier that is not `static`, put behind others.
+#[tactic(auto, using(decl_grammar::proofs::Firsts::modifier_annotation_first), unfolding(decl_grammar::specs::Grammar::plain_modifier, decl_grammar::specs::Reading::one_at))]
+fn plain_modifier_of<'a, 's>(
+    alloc: Global,
+    room: usize,
+    front: Modifiers,
+    symbols: &'s [Symbol<'a>],
+) -> Result<(Modifiers, &'s [Symbol<'a>]), ReadFault>
+    ensures { Gives (λ x. (x.0, x.1.now)) result (read_as (with_mark front) room plain_modifier symbols.now) }
+{
+    if let [symbol, rest @ ..] = symbols {
+        if is_plain_word(symbol.sort) {
+            let Modifiers { bits, annotations } = front;
+            let bits = bits | bit_of_sort(symbol.sort);
+            return Ok((Modifiers { bits, annotations }, rest));
+        }
+    }
+    let (annotation, rest) = modifier_annotation_of(alloc, room, symbols)?;
+    Ok((marked(front, annotation)?, rest))
+}
+
+// One modifier of a parameter, put behind others.
+#[tactic(auto, unfolding(decl_grammar::specs::Grammar::param_modifier, decl_grammar::specs::Reading::one_at))]
+fn param_modifier_of<'a, 's>(
+    alloc: Global,
+    room: usize,
+    front: Modifiers,
+    symbols: &'s [Symbol<'a>],
+) -> Result<(Modifiers, &'s [Symbol<'a>]), ReadFault>
+    ensures { Gives (λ x. (x.0, x.1.now)) result (read_as (with_mark front) room param_modifier symbols.now) }
+{
+    if let [symbol, rest @ ..] = symbols {
+        if symbol.sort == 27 {
+            let Modifiers { bits, annotations } = front;
+            let bits = bits | bit_of_sort(symbol.sort);
+            return Ok((Modifiers { bits, annotations }, rest));
+        }
+    }
+    let (annotation, rest) = annotation_of(alloc, room, symbols)?;
+    Ok((marked(front, annotation)?, rest))
+}
+
+/// The modifiers that stand here, put behind others.
+pub fn more_modifiers_of<'a, 's>(
+    alloc: Global,
+    room: usize,
+    front: Modifiers,
+    symbols: &'s [Symbol<'a>],
+) -> Result<(Modifiers, &'s [Symbol<'a>]), ReadFault>
+    ensures { Gives (λ x. (x.0, x.1.now)) result (marks_behind front room modifier symbols.now) }
+{
+    let mut all = front;
+    let mut rest = begin(symbols)?;
+    'row: while starts_modifier(rest) {
+        let (next, after) = modifier_of(alloc, room, all, rest)?;
+        all = next;
+        rest = after;
+    }
+    Ok((all, rest))
+}
+
+// Whether a modifier of a parameter begins here.
+fn starts_param_modifier(symbols: &[Symbol<'_>]) -> bool
+    ensures { result ≡ starts (27 ∷ ats) symbols.now }
+{
+    is_next(symbols, 27) || starts_annotation(symbols)
+}
+
+/// The modifiers of a parameter that stand here, put behind others.
+pub fn more_param_modifiers_of<'a, 's>(
+    alloc: Global,
+    room: usize,
+    front: Modifiers,
+    symbols: &'s [Symbol<'a>],
+) -> Result<(Modifiers, &'s [Symbol<'a>]), ReadFault>
+    ensures { Gives (λ x. (x.0, x.1.now)) result (marks_behind front room param_modifier symbols.now) }
+{
+    let mut all = front;
+    let mut rest = begin(symbols)?;
+    'row: while starts_param_modifier(rest) {
+        let (next, after) = param_modifier_of(alloc, room, all, rest)?;
+        all = next;
+        rest = after;
+    }
+    Ok((all, rest))
+}
+
+/// No modifiers.
+pub fn none(alloc: Global) -> Modifiers
+    ensures { result ≡ no_modifiers }
+{
+    let annotations = List::new(alloc);
+    Modifiers {
+        bits: 0,
+        annotations,
+    }
+}
+
+/// The modifiers of a type that is not nested.
+#[tactic(auto, unfolding(decl_grammar::specs::Grammar::type_modifiers))]
+pub fn type_modifiers_of<'a, 's>(
+    alloc: Global,
+    room: usize,
+    symbols: &'s [Symbol<'a>],
+) -> Result<(Modifiers, &'s [Symbol<'a>]), ReadFault>
+    ensures { Gives (λ x. (x.0, x.1.now)) result (reads room type_modifiers symbols.now) }
+{
+    more_modifiers_of(alloc, room, none(alloc), symbols)
+}
+
+/// The modifiers of a parameter.
+#[tactic(auto, unfolding(decl_grammar::specs::Grammar::param_modifiers))]
+pub fn param_modifiers_of<'a, 's>(
+    alloc: Global,
+    room: usize,
+    symbols: &'s [Symbol<'a>],
+) -> Result<(Modifiers, &'s [Symbol<'a>]), ReadFault>
+    ensures { Gives (λ x. (x.0, x.1.now)) result (reads room param_modifiers symbols.now) }
+{
+    more_param_modifiers_of(alloc, room, none(alloc), symbols)
+}
+
+// Modifiers, of which there is one, where so much may be open in them.
+fn modifiers_in<'a, 's>(
+    alloc: Global,
+    room: usize,
+    symbols: &'s [Symbol<'a>],
+) -> Result<(Modifiers, &'s [Symbol<'a>]), ReadFault>
+    ensures { Gives (λ x. (x.0, x.1.now)) result (reads room (modifiers_form modifier) symbols.now) }
+{
+    let (first, rest) = modifier_of(alloc, room, none(alloc), symbols)?;
+    more_modifiers_of(alloc, room, first, rest)
+}
+
+// The same where the first one is not `static`.
+fn plain_modifiers_in<'a, 's>(
+    alloc: Global,
+    room: usize,
+    symbols: &'s [Symbol<'a>],
+) -> Result<(Modifiers, &'s [Symbol<'a>]), ReadFault>
+    ensures { Gives (λ x. (x.0, x.1.now)) result (reads room (modifiers_form plain_modifier) symbols.now) }
+{
+    let (first, rest) = plain_modifier_of(alloc, room, none(alloc), symbols)?;
+    more_modifiers_of(alloc, room, first, rest)
+}
+
+/// The modifiers of a member, which might still be those of a nested type.
+pub fn modifiers_of<'a, 's>(
+    alloc: Global,
+    room: usize,
+    symbols: &'s [Symbol<'a>],
+) -> Result<(Modifiers, &'s [Symbol<'a>]), ReadFault>
+    ensures { Gives (λ x. (x.0, x.1.now)) result (read_nest room modifiers symbols.now) }
+{
+    if room > 0 {
+        return modifiers_in(alloc, room - 1, symbols);
+    }
+    Err(shut(starts_modifier(symbols), symbols))
+}
+
+/// The same where the first one is not `static`.
+pub fn plain_modifiers_of<'a, 's>(
+    alloc: Global,
+    room: usize,
+    symbols: &'s [Symbol<'a>],
+) -> Result<(Modifiers, &'s [Symbol<'a>]), ReadFault>
+    ensures { Gives (λ x. (x.0, x.1.now)) result (read_nest room plain_modifiers symbols.now) }
+{
+    if room > 0 {
+        return plain_modifiers_in(alloc, room - 1, symbols);
+    }
+    Err(shut(starts_plain_modifier(symbols), symbols))
+}
+
+// `static`, where so much may be open in it.
+fn word_in<'a, 's>(
+    room: usize,
+    symbols: &'s [Symbol<'a>],
+) -> Result<(Symbol<'a>, &'s [Symbol<'a>]), ReadFault>
+    ensures { Gives (λ x. (x.0, x.1.now)) result (reads room (keyword 37) symbols.now) }
+{
+    one(symbols, 47)
+}
+
+/// A first `static`.
+pub fn static_word_of<'a, 's>(
+    room: usize,
+    symbols: &'s [Symbol<'a>],
+) -> Result<(Symbol<'a>, &'s [Symbol<'a>]), ReadFault>
+    ensures { Gives (λ x. (x.0, x.1.now)) result (read_nest room static_word symbols.now) }
+{
+    if room > 0 {
+        return word_in(room - 1, symbols);
+    }
+    Err(shut(is_next(symbols, 47), symbols))
+}
+
+/// The modifiers of a member, where there are any.
+#[tactic(auto, unfolding(decl_grammar::specs::Grammar::optional_modifiers))]
+pub fn optional_modifiers_of<'a, 's>(
+    alloc: Global,
+    room: usize,
+    symbols: &'s [Symbol<'a>],
+) -> Result<(Modifiers, &'s [Symbol<'a>]), ReadFault>
+    ensures { Gives (λ x. (x.0, x.1.now)) result (reads room optional_modifiers symbols.now) }
+{
+    if starts_modifier(symbols) {
+        return modifiers_of(alloc, room, symbols);
+    }
+    Ok((none(alloc), symbols))
+}

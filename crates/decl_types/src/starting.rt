@@ -1,0 +1,173 @@
+// Which symbols begin members.
+ghost use Rattle.std.specs.Prelude.{◌≡◌, ◌++◌, [], ◌∷◌, List};
+ghost use Rattle.decl_grammar.specs.Reading.{has, starts};
+ghost use Rattle.decl_grammar.specs.Form.{names, plain_words, modifier_words, first_of, nested_type};
+ghost use Rattle.decl_grammar.specs.Grammar.{primitive_sorts};
+ghost use Rattle.decl_types.specs.Members.{unmodified_firsts, element_firsts, modifier_firsts, plain_firsts, modified_firsts, block_or, member_firsts};
+
+use crate::modifiers::{is_modifier_word, is_plain_word};
+use crate::types::is_primitive;
+use decl_grammar::Symbol;
+use decl_tree::TypeKind;
+use decl_values::is_name_sort;
+
+// Whether a type may begin with this sort, its modifiers aside.
+fn is_type_word(sort: u8) -> bool
+    ensures { result ≡ has (first_of nested_type) sort }
+{
+    sort == 18 || sort == 37 || sort == 9 || sort == 25
+}
+
+/// Whether a type begins here, its modifiers aside.
+pub fn starts_type_word(symbols: &[Symbol<'_>]) -> bool
+    ensures { result ≡ starts (first_of nested_type) symbols.now }
+{
+    match symbols {
+        [] => false,
+        [symbol, ..] => is_type_word(symbol.sort),
+    }
+}
+
+// Whether a name or a `<` has this sort.
+#[tactic(auto, using(decl_grammar::proofs::Ranges::has_then, decl_grammar::proofs::Ranges::has_else))]
+fn is_name_or_less(sort: u8) -> bool
+    ensures { result ≡ has (names ++ (75 ∷ [])) sort }
+{
+    is_name_sort(sort) || sort == 75
+}
+
+// The same, or a primitive type.
+#[tactic(auto, using(decl_grammar::proofs::Ranges::has_then, decl_grammar::proofs::Ranges::has_else))]
+fn is_primitive_or_more(sort: u8) -> bool
+    ensures { result ≡ has (primitive_sorts ++ (names ++ (75 ∷ []))) sort }
+{
+    is_primitive(sort) || is_name_or_less(sort)
+}
+
+// The same, or `void`.
+#[tactic(auto, using(decl_grammar::proofs::Ranges::has_then, decl_grammar::proofs::Ranges::has_else))]
+fn is_void_or_more(sort: u8) -> bool
+    ensures { result ≡ has ((57 ∷ []) ++ (primitive_sorts ++ (names ++ (75 ∷ [])))) sort }
+{
+    sort == 57 || is_primitive_or_more(sort)
+}
+
+// Whether a member of a class or of an interface may begin with this sort, its modifiers aside.
+#[tactic(auto, using(decl_grammar::proofs::Ranges::has_then, decl_grammar::proofs::Ranges::has_else))]
+fn begins_unmodified(sort: u8) -> bool
+    ensures { result ≡ has unmodified_firsts sort }
+{
+    is_type_word(sort) || is_void_or_more(sort)
+}
+
+/// Whether a member of a class or of an interface begins here, its modifiers aside.
+pub fn starts_unmodified(symbols: &[Symbol<'_>]) -> bool
+    ensures { result ≡ starts unmodified_firsts symbols.now }
+{
+    match symbols {
+        [] => false,
+        [symbol, ..] => begins_unmodified(symbol.sort),
+    }
+}
+
+/// Whether a primitive type or a name has this sort.
+#[tactic(auto, using(decl_grammar::proofs::Ranges::has_then, decl_grammar::proofs::Ranges::has_else))]
+pub fn is_primitive_or_name(sort: u8) -> bool
+    ensures { result ≡ has (primitive_sorts ++ names) sort }
+{
+    is_primitive(sort) || is_name_sort(sort)
+}
+
+// Whether a member of an annotation interface may begin with this sort, its modifiers aside.
+#[tactic(auto, using(decl_grammar::proofs::Ranges::has_then, decl_grammar::proofs::Ranges::has_else))]
+fn begins_element(sort: u8) -> bool
+    ensures { result ≡ has element_firsts sort }
+{
+    is_type_word(sort) || is_primitive_or_name(sort)
+}
+
+// Whether a modifier may begin with this sort, but `static`.
+#[tactic(auto, using(decl_grammar::proofs::Ranges::has_then, decl_grammar::proofs::Ranges::has_else))]
+fn is_plain(sort: u8) -> bool
+    ensures { result ≡ has plain_firsts sort }
+{
+    is_plain_word(sort) || sort == 71
+}
+
+// The same, or `static`.
+#[tactic(auto, using(decl_grammar::proofs::Ranges::has_then, decl_grammar::proofs::Ranges::has_else))]
+fn is_plain_or_static(sort: u8) -> bool
+    ensures { result ≡ has (plain_firsts ++ (47 ∷ [])) sort }
+{
+    is_plain(sort) || sort == 47
+}
+
+// Whether a member of a class may begin with this sort.
+#[tactic(auto, using(decl_grammar::proofs::Ranges::has_then, decl_grammar::proofs::Ranges::has_else))]
+fn begins_of_class(sort: u8) -> bool
+    ensures { result ≡ has (unmodified_firsts ++ (plain_firsts ++ (47 ∷ []))) sort }
+{
+    begins_unmodified(sort) || is_plain_or_static(sort)
+}
+
+// The same, or an initialiser.
+#[tactic(auto, using(decl_grammar::proofs::Ranges::has_then, decl_grammar::proofs::Ranges::has_else))]
+fn begins_block_or_more(sort: u8) -> bool
+    ensures { result ≡ has ((63 ∷ []) ++ (unmodified_firsts ++ (plain_firsts ++ (47 ∷ [])))) sort }
+{
+    sort == 63 || begins_of_class(sort)
+}
+
+// Whether a modifier may begin with this sort.
+#[tactic(auto, using(decl_grammar::proofs::Ranges::has_then, decl_grammar::proofs::Ranges::has_else))]
+fn is_modifier(sort: u8) -> bool
+    ensures { result ≡ has modifier_firsts sort }
+{
+    is_modifier_word(sort) || sort == 71
+}
+
+// Whether a member of an interface may begin with this sort.
+#[tactic(auto, using(decl_grammar::proofs::Ranges::has_then, decl_grammar::proofs::Ranges::has_else))]
+fn begins_of_interface(sort: u8) -> bool
+    ensures { result ≡ has (modifier_firsts ++ unmodified_firsts) sort }
+{
+    is_modifier(sort) || begins_unmodified(sort)
+}
+
+// Whether a member of an annotation interface may begin with this sort.
+#[tactic(auto, using(decl_grammar::proofs::Ranges::has_then, decl_grammar::proofs::Ranges::has_else))]
+fn begins_of_annotation(sort: u8) -> bool
+    ensures { result ≡ has (modifier_firsts ++ element_firsts) sort }
+{
+    is_modifier(sort) || begins_element(sort)
+}
+
+// Whether a member of such a type may begin with this sort, but a `;`.
+fn begins_more(kind: TypeKind, sort: u8) -> bool
+    ensures { result ≡ has (block_or kind (modified_firsts kind)) sort }
+{
+    match kind {
+        TypeKind::Enum => begins_block_or_more(sort),
+        TypeKind::Class => begins_block_or_more(sort),
+        TypeKind::AnnotationType => begins_of_annotation(sort),
+        TypeKind::Interface => begins_of_interface(sort),
+    }
+}
+
+// Whether a member of such a type may begin with this sort.
+#[tactic(auto, using(decl_grammar::proofs::Ranges::has_then, decl_grammar::proofs::Ranges::has_else))]
+fn begins_member(kind: TypeKind, sort: u8) -> bool
+    ensures { result ≡ has ((67 ∷ []) ++ block_or kind (modified_firsts kind)) sort }
+{
+    sort == 67 || begins_more(kind, sort)
+}
+
+/// Whether a member of such a type begins here.
+pub fn starts_member(kind: TypeKind, symbols: &[Symbol<'_>]) -> bool
+    ensures { result ≡ starts (member_firsts kind) symbols.now }
+{
+    match symbols {
+        [] => false,
+        [symbol, ..] => begins_member(kind, symbol.sort),
+    }
+}

@@ -1,0 +1,160 @@
+// The texts of doc comments.
+ghost use Rattle.std.specs.Prelude.{◌≡◌, ◌++◌, [], ◌∷◌, if◌then◌else◌, false, List, IfOk, MatchResult, string_bytes};
+ghost use Rattle.std.specs.Str.{chars, encode_utf8_all};
+ghost use Rattle.decl_grammar.specs.declared.line_place.LinePlace.TheVariants as places;
+ghost use Rattle.decl_grammar.specs.declared.fault.ReadFault.TheVariants as faults;
+ghost use Rattle.decl_grammar.specs.Docs.{is_blank, line_fed, with_line_feeds, place_after, kept_at, kept_bytes, unmargined, unmarked, doc_text};
+ghost use Rattle.decl_grammar.specs.Grammar.{doc_of, first_doc};
+
+use apt_base::{Name, NoMemory};
+use decl_grammar::{LinePlace, ReadFault, Symbol};
+use std::alloc::Global;
+
+// Whether a character is white space within a line (JLS 3.6).
+fn is_blank_char(c: char) -> bool
+    ensures { result ≡ is_blank c }
+{
+    c == ' ' || c == '\t' || c == '\x0c'
+}
+
+// Puts what stands for a character where line ends are LF behind others.
+fn add_line_fed(all: &mut Vec<char>, after_return: bool, c: char) -> Result<(), NoMemory>
+    ensures { IfOk result (λ u. all.new.items ≡ all.old.items ++ line_fed after_return c) }
+{
+    if c == '\r' {
+        all.push('\n')?;
+        return Ok(());
+    }
+    if after_return && c == '\n' {
+        return Ok(());
+    }
+    all.push(c)?;
+    Ok(())
+}
+
+// The same text with a LF for each line end.
+fn line_fed_of(alloc: Global, text: &[char]) -> Result<Vec<char>, NoMemory>
+    ensures { IfOk result (λ v. v.items ≡ with_line_feeds false text.now) }
+{
+    let mut all = Vec::new(alloc);
+    let mut after_return = false;
+    let mut rest = text;
+    'row: while let [c, after @ ..] = rest {
+        add_line_fed(&mut all, after_return, *c)?;
+        after_return = *c == '\r';
+        rest = after;
+    }
+    Ok(all)
+}
+
+// Where the character behind this one stands in its line.
+fn next_place(place: LinePlace, c: char) -> LinePlace
+    ensures { result ≡ place_after place c }
+{
+    if c == '\n' {
+        return LinePlace::Margin;
+    }
+    match place {
+        LinePlace::Inside => LinePlace::Inside,
+        LinePlace::Asterisks => {
+            if c == '*' {
+                return LinePlace::Asterisks;
+            }
+            LinePlace::Inside
+        }
+        LinePlace::Margin => {
+            if is_blank_char(c) {
+                return LinePlace::Margin;
+            }
+            if c == '*' {
+                return LinePlace::Asterisks;
+            }
+            LinePlace::Inside
+        }
+    }
+}
+
+// Whether a character at this place is kept.
+fn is_kept(place: LinePlace, c: char) -> bool
+    ensures { (if result then c ∷ [] else []) ≡ kept_at place c }
+{
+    match place {
+        LinePlace::Inside => true,
+        LinePlace::Asterisks => c != '*',
+        LinePlace::Margin => {
+            if is_blank_char(c) {
+                return false;
+            }
+            c != '*'
+        }
+    }
+}
+
+// Puts a character behind a text, where it is kept.
+fn add_kept(all: &mut String, place: LinePlace, c: char) -> Result<(), NoMemory>
+    ensures { IfOk result (λ u. string_bytes all.new ≡ string_bytes all.old ++ kept_bytes place c) }
+{
+    if is_kept(place, c) {
+        all.push(c)?;
+        return Ok(());
+    }
+    Ok(())
+}
+
+// What is kept of a text.
+fn unmargined_of(alloc: Global, text: &[char]) -> Result<String, NoMemory>
+    ensures { IfOk result (λ t. string_bytes t ≡ encode_utf8_all (unmargined places.Inside text.now)) }
+{
+    let mut all = String::new(alloc);
+    let mut place = LinePlace::Inside;
+    let mut rest = text;
+    'row: while let [c, after @ ..] = rest {
+        add_kept(&mut all, place, *c)?;
+        place = next_place(place, *c);
+        rest = after;
+    }
+    Ok(all)
+}
+
+// What stands between the markers.
+fn unmarked_of(text: &[char]) -> &[char]
+    ensures { result.now ≡ unmarked text.now }
+{
+    if text.len() < 5 {
+        return &[];
+    }
+    &text[3..text.len() - 2]
+}
+
+// The characters of a text.
+fn chars_of(alloc: Global, text: &str) -> Result<Vec<char>, NoMemory>
+    ensures { IfOk result (λ v. v.items ≡ chars text.now) }
+{
+    Ok(text.chars().collect(alloc)?)
+}
+
+// The text of a doc comment with its markers.
+fn text_of(alloc: Global, comment: &str) -> Result<Name, NoMemory>
+    ensures { IfOk result (λ text. text ≡ doc_text comment.now) }
+{
+    let all = chars_of(alloc, comment)?;
+    let lines = line_fed_of(alloc, unmarked_of(all.as_slice()))?;
+    let text = unmargined_of(alloc, lines.as_slice())?;
+    Ok(Name::from_string(alloc, text))
+}
+
+/// The text of the doc comment before the first of some symbols, where there is one.
+pub fn doc_before<'a>(alloc: Global, symbols: &[Symbol<'a>]) -> Result<Option<Name>, ReadFault>
+    ensures { MatchResult result (λ doc. doc ≡ doc_of (first_doc symbols.now)) (λ e. e ≡ faults.Memory) }
+{
+    match symbols {
+        [] => Ok(None),
+        [symbol, ..] => match symbol.doc {
+            None => Ok(None),
+            Some(comment) => match text_of(alloc, comment) {
+                Ok(text) => Ok(Some(text)),
+                Err(_) => Err(ReadFault::Memory),
+            },
+        },
+    }
+}

@@ -1,0 +1,95 @@
+// Reads names.
+ghost use Rattle.std.specs.Prelude.{◌≡◌, [], ◌∷◌, List, length, IfOk, Ok, string_bytes, ◌++◌, codes};
+ghost use Rattle.decl_grammar.specs.Reading.{Gives, has, one_at, starts};
+ghost use Rattle.decl_grammar.specs.Form.{names, many, turned};
+ghost use Rattle.decl_grammar.specs.Constants.{more_dotted};
+ghost use Rattle.decl_grammar.specs.Rows.{names_behind};
+ghost use Rattle.decl_grammar.specs.Grammar.{reads, name, dot_name, name_chain};
+
+use crate::steps::{begin, is_next, one};
+use apt_base::Name;
+use decl_grammar::{ReadFault, Symbol};
+use std::alloc::Global;
+
+/// Whether a name has this sort.
+pub fn is_name_sort(sort: u8) -> bool
+    ensures { result ≡ has names sort }
+{
+    sort == 0 || sort == 1
+}
+
+/// Whether a name begins here.
+pub fn starts_name(symbols: &[Symbol<'_>]) -> bool
+    ensures { result ≡ starts names symbols.now }
+{
+    match symbols {
+        [] => false,
+        [symbol, ..] => symbol.sort == 0 || symbol.sort == 1,
+    }
+}
+
+/// A name (JLS 3.8).
+#[tactic(auto, unfolding(decl_grammar::specs::Reading::one_at, decl_grammar::specs::Grammar::name))]
+pub fn read_name<'a, 's>(
+    room: usize,
+    symbols: &'s [Symbol<'a>],
+) -> Result<(&'a str, &'s [Symbol<'a>]), ReadFault>
+    ensures { Gives (λ x. (x.0.now, x.1.now)) result (reads room name symbols.now) }
+{
+    match symbols {
+        [] => Err(ReadFault::Bad(0)),
+        [symbol, rest @ ..] => {
+            if symbol.sort == 0 || symbol.sort == 1 {
+                Ok((symbol.text, rest))
+            } else {
+                Err(ReadFault::Bad(symbols.len()))
+            }
+        }
+    }
+}
+
+// A `.` and a name.
+#[tactic(auto, unfolding(decl_grammar::specs::Grammar::dot_name))]
+fn read_dot_name<'a, 's>(
+    room: usize,
+    symbols: &'s [Symbol<'a>],
+) -> Result<(&'a str, &'s [Symbol<'a>]), ReadFault>
+    ensures { Gives (λ x. (x.0.now, x.1.now)) result (reads room dot_name symbols.now) }
+{
+    let (_, rest) = one(symbols, 69)?;
+    read_name(room, rest)
+}
+
+/// Names that dots join, as one text (JLS 6.5).
+#[tactic(auto, unfolding(decl_grammar::specs::Grammar::name_chain))]
+pub fn read_chain<'a, 's>(
+    alloc: Global,
+    room: usize,
+    symbols: &'s [Symbol<'a>],
+) -> Result<(Name, &'s [Symbol<'a>]), ReadFault>
+    ensures { Gives (λ x. (x.0, x.1.now)) result (reads room name_chain symbols.now) }
+{
+    let (first, rest) = read_name(room, symbols)?;
+    let front = String::from_str(alloc, first)?;
+    more_names_of(alloc, room, front, rest)
+}
+
+// The names behind dots, put behind a text.
+fn more_names_of<'a, 's>(
+    alloc: Global,
+    room: usize,
+    front: String,
+    symbols: &'s [Symbol<'a>],
+) -> Result<(Name, &'s [Symbol<'a>]), ReadFault>
+    ensures { Gives (λ x. (x.0, x.1.now)) result (names_behind (string_bytes front) room symbols.now) }
+{
+    let mut text = front;
+    let mut rest = begin(symbols)?;
+    'row: while is_next(rest, 69) {
+        let (next, after) = read_dot_name(room, rest)?;
+        text.push('.')?;
+        text.push_str(next)?;
+        rest = after;
+    }
+    Ok((Name::from_string(alloc, text), rest))
+}
