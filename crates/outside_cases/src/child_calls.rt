@@ -6,6 +6,7 @@ use case_lines::{CaseFault, escaped, joined, text, text_bytes, texts};
 use std::alloc::Global;
 
 impl Outside {
+    /// A call on the children, whose words stand behind its name: what it gives, or `NotACase` where there is no such call.
     pub fn call_children(&mut self, alloc: Global, words: &[&str]) -> Result<String, CaseFault> {
         match words {
             ["new", name, answers @ ..] => self.new_children(alloc, name, answers),

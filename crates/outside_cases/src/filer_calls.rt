@@ -59,6 +59,7 @@ fn created_word(created: Created) -> &'static str {
 }
 
 impl Outside {
+    /// A call on the filer, whose words stand behind its name: what it gives, or `NotACase` where there is no such call.
     pub fn call_filer(&mut self, alloc: Global, words: &[&str]) -> Result<String, CaseFault> {
         match words {
             ["new", initial] => self.new_filer(alloc, initial),

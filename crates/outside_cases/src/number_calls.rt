@@ -20,6 +20,7 @@ fn made_word(alloc: Global, files: &List<Made>) -> Result<String, CaseFault> {
 }
 
 impl Outside {
+    /// A call on the numbers of files, whose words stand behind its name: what it gives, or `NotACase` where there is no such call.
     pub fn call_numbers(&mut self, alloc: Global, words: &[&str]) -> Result<String, CaseFault> {
         match words {
             ["put", path, bytes] => self.put_made(alloc, path, bytes),

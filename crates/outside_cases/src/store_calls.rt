@@ -48,6 +48,7 @@ fn numbers_word(alloc: Global, numbers: &[u32]) -> Result<String, CaseFault> {
 }
 
 impl Outside {
+    /// A call on the store in the tree, whose words stand behind its name: what it gives, or `NotACase` where there is no such call.
     pub fn call_store(&mut self, alloc: Global, words: &[&str]) -> Result<String, CaseFault> {
         match *words {
             ["read_sources", limit] => self.read_sources(alloc, limit),

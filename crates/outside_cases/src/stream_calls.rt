@@ -6,6 +6,7 @@ use case_lines::{CaseFault, escaped, numbers, text_bytes};
 use std::alloc::Global;
 
 impl Outside {
+    /// A call on the source, whose words stand behind its name: what it gives, or `NotACase` where there is no such call.
     pub fn call_source(&mut self, alloc: Global, words: &[&str]) -> Result<String, CaseFault> {
         match words {
             ["new", bytes, failing @ ..] => self.new_source(alloc, bytes, failing),
@@ -25,6 +26,7 @@ impl Outside {
         ok(alloc)
     }
 
+    /// A call on the sink, whose words stand behind its name: what it gives, or `NotACase` where there is no such call.
     pub fn call_sink(&mut self, alloc: Global, words: &[&str]) -> Result<String, CaseFault> {
         match words {
             ["new", failing @ ..] => self.new_sink(alloc, failing),
@@ -39,6 +41,7 @@ impl Outside {
         ok(alloc)
     }
 
+    /// A call on the room that a read of the source fills, whose words stand behind its name: what it gives, or `NotACase` where there is no such call.
     pub fn call_room(&mut self, alloc: Global, words: &[&str]) -> Result<String, CaseFault> {
         match words {
             ["new", size] => self.new_room(alloc, size),

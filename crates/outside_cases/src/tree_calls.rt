@@ -15,6 +15,7 @@ fn paths_word(alloc: Global, paths: &[String]) -> Result<String, CaseFault> {
 }
 
 impl Outside {
+    /// A call on the tree, whose words stand behind its name: what it gives, or `NotACase` where there is no such call.
     pub fn call_tree(&mut self, alloc: Global, words: &[&str]) -> Result<String, CaseFault> {
         match words {
             ["new", failing @ ..] => self.new_tree(alloc, failing),
