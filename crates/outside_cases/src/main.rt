@@ -10,6 +10,7 @@
 mod answers;
 mod base;
 mod child_calls;
+mod config_calls;
 mod filer_calls;
 mod number_calls;
 mod store_calls;

@@ -51,6 +51,8 @@ impl Outside {
     /// A call on the store in the tree, whose words stand behind its name: what it gives, or `NotACase` where there is no such call.
     pub fn call_store(&mut self, alloc: Global, words: &[&str]) -> Result<String, CaseFault> {
         match *words {
+            ["read_config"] => self.read_config(alloc),
+            ["read_lists", services] => self.read_lists(alloc, services),
             ["read_sources", limit] => self.read_sources(alloc, limit),
             ["taken_numbers"] => self.taken_numbers(alloc),
             [

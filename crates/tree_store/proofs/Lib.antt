@@ -4,4 +4,5 @@ pub mod RecordFormatLemmas
 pub mod OutputLemmas
 pub mod StoringLemmas
 pub mod Reading
+pub mod ConfigLemmas
 pub mod Publishing

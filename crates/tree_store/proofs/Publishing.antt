@@ -1,14 +1,9 @@
 -- From what a build made to what it publishes.
-use Rattle.std.proofs.Common.{◌≡◌, ℕ, ◌<◌, ◌^◌, T, List, [], ◌∷◌, length, map, Contains, Option, Some, None, IsSome, refl, sym, subst, ◌∙◌}
+use Rattle.std.proofs.Common.{◌≡◌, ℕ, ◌<◌, ◌^◌, List, [], ◌∷◌, length, map, Contains, Option, Some, None, IsSome, refl, sym, subst}
 use Rattle.std.specs.List.{AllZip}
-use Rattle.std.specs.Ordering.{nat_cmp}
-use Rattle.std.specs.Cmp.Lexicographic.{slice_cmp, nat_list_cmp_total}
 use Rattle.std.specs.FinMap as fin
-use Rattle.std.specs.FinMap.{is_sorted, get-from_entries, get-entries, entries_sorted}
-use Rattle.std.specs.FinMap.Entries.{same_entries}
 use Rattle.std.proofs.lemmas.List.Elements.{All-head, All-tail}
 use Rattle.apt_outside.specs.Files.{Files, file_at}
-use Rattle.apt_outside.proofs.HeldLemmas.{exact_paths}
 use Rattle.tree_store.specs.declared.record.StoredFile.{StoredFile}
 use Rattle.tree_store.specs.Output.{store_path}
 use Rattle.tree_store.specs.Storing.{AreTaken, AreWritten, IsEntryOf, Holds}

@@ -1,6 +1,6 @@
 -- The record of a published output: `APTR`, the format 0 in two bytes, and a list of the files, ascending by path.
 -- A list is its count in four bytes and its items. Numbers have their big end first.
-use Rattle.std.specs.Prelude.{◌≡◌, ◌==◌, ℕ, ◌<◌, ◌^◌, zero, suc, Bool, true, ◌&&◌, List, [], ◌∷◌, ◌++◌, length, map, codes, bytes_eq, Option, Some, None, if◌then◌else◌, All}
+use Rattle.std.specs.Prelude.{◌≡◌, ◌==◌, ℕ, ◌<◌, ◌^◌, zero, suc, Bool, true, ◌&&◌, List, [], ◌∷◌, ◌++◌, length, map, codes, bytes_eq, slice_index, Option, Some, None, if◌then◌else◌, All}
 use Rattle.std.specs.List.{flat_map}
 use Rattle.std.specs.Int.{w16, w32, to_be_bytes}
 use Rattle.std.specs.Ordering.{nat_cmp}
@@ -54,6 +54,10 @@ read_record bytes = do
   count ← u32_next head.1
   files ← entries_next count.0 count.1
   if bytes_eq head.0 record_head && (length files.1 == 0) && ascends files.0 then Some files.0 else None
+
+-- no other bytes are read as these files
+abbrev pub IsOnlySpelling : List StoredFile → List ℕ → Type 0
+IsOnlySpelling files bytes = (other : List ℕ) → ((i : ℕ) → slice_index other i < 256) → read_record other ≡ Some files → other ≡ bytes
 
 -- an entry that is read again: it has room in its fields, and its path is a text in UTF-8
 pub record IsEntry (file : StoredFile) : Type 0 where

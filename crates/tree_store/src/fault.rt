@@ -1,8 +1,9 @@
-// Why a call of the store was refused.
+// Why a call of the store was refused, and why a file of the configuration was not read.
 ghost use Rattle.std.specs.Prelude.{◌≡◌};
 ghost use Rattle.tree_store.specs.declared.fault.StoreFault.TheVariants.{Memory};
-ghost use Rattle.tree_store.specs.Cause.{as_store_fault};
+ghost use Rattle.tree_store.specs.Cause.{as_store_fault, as_config_fault};
 
+use crate::ConfigFile;
 use apt_base::NoMemory;
 use apt_outside::Fault;
 use std::alloc::{AllocError, AllocFailed};
@@ -48,5 +49,27 @@ impl<T: Drop> From<AllocFailed<T>> for StoreFault {
 
     fn from(_: AllocFailed<T>) -> StoreFault {
         StoreFault::Memory
+    }
+}
+
+/// Why a file of the configuration was not read.
+#[derive(Clone, Copy, Debug, PartialEq, Eq)]
+pub enum ConfigReadFault {
+    /// The tree failed. It comes only where the tree's count of faults rose in the call.
+    Failed,
+    /// This file is longer than 1,048,576 bytes, the limit `ConfigBytes` of a build.
+    TooLarge(ConfigFile),
+    /// There was no memory.
+    Memory,
+}
+
+impl From<Fault> for ConfigReadFault {
+    ghost from_gives = { λ fault e. e ≡ as_config_fault fault };
+
+    fn from(fault: Fault) -> ConfigReadFault {
+        match fault {
+            Fault::Failed => ConfigReadFault::Failed,
+            Fault::Memory => ConfigReadFault::Memory,
+        }
     }
 }

@@ -1,12 +1,14 @@
-//! The files of a project in its tree: the sources that a build reads, the store of what was made, and the record that publishes it.
+//! The files of a project in its tree: the configuration and the sources that a build reads, the store of what was made, and the record that publishes it.
 #![tactic(auto)]
 
+mod config;
 mod fault;
 mod record;
 mod sources;
 mod store;
 
-pub use fault::StoreFault;
+pub use config::{ConfigFile, RawLists, read_config, read_lists};
+pub use fault::{ConfigReadFault, StoreFault};
 pub use record::{StoredFile, encode_record};
 pub use sources::{RawSource, read_sources};
 pub use store::{commit, put_files, taken_numbers};

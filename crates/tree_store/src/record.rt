@@ -1,7 +1,7 @@
 // The record of a published output.
 ghost use Rattle.std.specs.Prelude.{◌≡◌, ◌++◌, ◌<◌, ◌^◌, length, IsTrue, IfOk, OnOk, Some};
 ghost use Rattle.std.specs.Int.{w32, to_be_bytes};
-ghost use Rattle.tree_store.specs.RecordFormat.{Fits, IsEntry, ascends, record_head, entry_form, record_form, read_record};
+ghost use Rattle.tree_store.specs.RecordFormat.{Fits, IsEntry, ascends, record_head, entry_form, record_form, read_record, IsOnlySpelling};
 
 use apt_base::{FieldWriter, List, Name, NoMemory};
 use std::alloc::Global;
@@ -58,11 +58,13 @@ fn put_entry(writer: &mut FieldWriter, file: &StoredFile) -> Result<(), NoMemory
 
 /// The bytes of the record that names these files.
 ///
-/// They are read again as these files, where the paths ascend strictly. It fails only for want of memory.
+/// They are read again as these files, where the paths ascend strictly, and no other bytes are. It fails only for want of
+/// memory.
 pub fn encode_record(alloc: Global, files: &List<StoredFile>) -> Result<List<u8>, NoMemory>
     requires { Fits files.now }
     ensures form { IfOk result (λ bytes. bytes ≡ record_form files.now) }
     ensures again { IfOk result (λ bytes. IsTrue (ascends files.now) → read_record bytes ≡ Some files.now) }
+    ensures only { IfOk result (IsOnlySpelling files.now) }
 {
     let mut writer = FieldWriter::new(alloc);
     put_head(&mut writer, files.len() as u32)?;

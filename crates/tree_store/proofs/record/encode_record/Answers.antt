@@ -5,7 +5,7 @@ use Rattle.std.proofs.lemmas.List.{take_more, take_all, flat_map_more}
 use Rattle.std.proofs.lemmas.List.Elements.{All-more}
 use Rattle.tree_store.specs.declared.record.StoredFile.{StoredFile}
 use Rattle.tree_store.specs.RecordFormat.{record_head, entry_form, record_form, read_record, IsEntry}
-use Rattle.tree_store.proofs.RecordFormatLemmas.{read_record-record_form}
+use Rattle.tree_store.proofs.RecordFormatLemmas.{read_record-spelled, read_record-record_form}
 use Rattle.tree_store.proofs.record.encode_record.Goals as goal
 
 pub loop-file-preserved : goal.loop-file-preserved
@@ -30,3 +30,6 @@ pub returns-clause-again : goal.returns-clause-again
 returns-clause-again c = λ ascending.
     let all : take c.loop-file.file-index c.as_slice-file-items.result.now ≡ c.args.files.now = take_all _ _ c.loop-file-test.false ∙ c.as_slice-file-items.ensures in
     ap read_record (returns-clause-form c) ∙ read_record-record_form c.args.files.now (record { count = c.requires.count; entries = rw all at c.loop-file.invariant.entries; ascending = ascending })
+
+pub returns-clause-only : goal.returns-clause-only
+returns-clause-only c = λ other fits reads. (read_record-spelled other c.args.files.now fits reads).0 ∙ sym (returns-clause-form c)
