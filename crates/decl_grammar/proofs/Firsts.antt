@@ -1,7 +1,10 @@
 -- The sorts of symbol that begin the forms between which reading chooses.
-use Rattle.std.proofs.Common.{◌≡◌, true, false, List, [], ◌∷◌, ◌++◌, refl}
+use Rattle.std.proofs.Common.{◌≡◌, true, false, [], ◌∷◌, ◌++◌, refl}
 use Rattle.decl_grammar.specs.Form.{first, nullable, first_of, nested_type, names, modifier_words, plain_words, ats, value_firsts}
-use Rattle.decl_grammar.specs.Grammar.{array, annotation, some_values, array_values, pairs, pairs_or_value, first_pair, next_pair, annotation_arguments, name, annotations, primitive_sorts, primitive_type, named_part, next_part, class_type, dim, wildcard_bound, wildcard, next_argument, class_array, modifier_annotation, modifier, plain_modifier, param_modifier, bounds, next_bound, type_params, next_type_param, next_class, package_form, import_named, import_form, top_type, modified_type, type_modifiers, type_rest, class_form, interface_form, annotation_form, enum_form, package_part, annotated_package, constant_part, constant, some_constants, constant_list}
+use Rattle.decl_grammar.specs.Types.{annotation, pairs, pairs_or_value, first_pair, next_pair, annotation_arguments, name, annotations, primitive_sorts, primitive_type, named_part, next_part, class_type, dim, wildcard_bound, wildcard, next_argument, class_array, modifier_annotation, modifier, plain_modifier, bounds, next_bound, type_params, next_type_param, next_class, type_modifiers}
+use Rattle.decl_grammar.specs.Expressions.{array, some_values, array_values}
+use Rattle.decl_grammar.specs.Members.{param_modifier}
+use Rattle.decl_grammar.specs.Grammar.{package_form, import_named, import_form, top_type, modified_type, type_rest, class_form, interface_form, annotation_form, enum_form, package_part, annotated_package, constant_part, constant, some_constants, constant_list}
 
 pub array_first : first array ≡ 63 ∷ []
 unfolding array

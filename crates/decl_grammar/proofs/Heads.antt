@@ -1,9 +1,9 @@
 -- The first token of a form, and what a whole form and an empty list of tokens begin.
-use Rattle.std.proofs.Common.{◌≡◌, ℕ, suc, Bool, true, false, cond, List, [], ◌∷◌, ◌++◌, ◌⊎◌, Some, None, refl, sym, ap, subst, ◌∙◌, inl, inr, Option}
+use Rattle.std.proofs.Common.{◌≡◌, ℕ, suc, Bool, true, false, cond, List, [], ◌∷◌, ◌++◌, ◌⊎◌, Some, None, refl, sym, ap, subst, ◌∙◌, inl, inr}
 use Rattle.std.proofs.lemmas.List.{append-nil}
 use Rattle.decl_grammar.specs.declared.symbol.Symbol.{Symbol}
-use Rattle.decl_grammar.specs.Reading.{has, done, fault, ◌>>=◌, one_at, pass, skip, read_of}
-use Rattle.decl_grammar.specs.Form.{Nest, Of, first_of, Form, terminal, pair, turn, maybe, many, either, nest, over, seen, nullable, first, Each, Wholes, Begun, Is, Begins, opened}
+use Rattle.decl_grammar.specs.Reading.{has, done, fault, ◌>>=◌, one_at, pass, skip}
+use Rattle.decl_grammar.specs.Form.{Nest, Of, first_of, Form, terminal, pair, turn, maybe, many, either, nest, over, seen, attempt, nullable, first, Each, Wholes, Begun, Is, Begins, opened}
 use Rattle.decl_grammar.proofs.Progress.{choice_done, bind_done}
 use Rattle.decl_grammar.proofs.OneToken.{or_left, or_right, has-append}
 
@@ -43,6 +43,8 @@ Is-nil w full (either f g) ts x z (inl is) = or_left (nullable f) (nullable g) (
 Is-nil w full (either f g) ts x z (inr is) = or_right (nullable f) (nullable g) (Is-nil w full g ts x z is)
 Is-nil w full (nest m) ts x z is = absurd (full m x (subst (λ (u : List Symbol). w m u x) z is))
 Is-nil w full (over opens) ts x z is = absurd (skip_not_empty opens tt [] (ap (skip opens) (sym z) ∙ is))
+Is-nil w full (attempt f g) ts x z (inl is) = or_left (nullable f) (nullable g) (Is-nil w full f ts x z is)
+Is-nil w full (attempt f g) ts x z (inr is) = or_right (nullable f) (nullable g) (Is-nil w full g ts x z is)
 
 pub word_head : (k : List ℕ) (t : Symbol) (ts : List Symbol) (x : Symbol) (rest : List Symbol) → one_at k (t ∷ ts) ≡ done x rest → has k t.sort ≡ true
 unfolding one_at
@@ -105,6 +107,8 @@ Is-head w full heads (either f g) t us x ts z (inl is) = has-append (first f) (f
 Is-head w full heads (either f g) t us x ts z (inr is) = has-append (first f) (first g) t.sort ∙ or_right (has (first f) t.sort) _ (Is-head w full heads g t us x ts z is)
 Is-head w full heads (nest m) t us x ts z is = heads m t us x (subst (λ (u : List Symbol). w m u x) z is)
 Is-head w full heads (over opens) t us x ts z is = skip_head opens t us tt [] (ap (skip opens) (sym z) ∙ is)
+Is-head w full heads (attempt f g) t us x ts z (inl is) = has-append (first f) (first g) t.sort ∙ or_left _ _ (Is-head w full heads f t us x ts z is)
+Is-head w full heads (attempt f g) t us x ts z (inr is) = has-append (first f) (first g) t.sort ∙ or_right (has (first f) t.sort) _ (Is-head w full heads g t us x ts z is)
 
 -- the first token of a form that is begun
 pub Begins-head : (w : Wholes) (b : Begun) → Full w → WholeHeads w → BegunHeads b → {A : Type 0} (f : Form A) (t : Symbol) (us : List Symbol) (n : ℕ) (ts : List Symbol) → ts ≡ t ∷ us → Begins w b f ts n → has (first f) t.sort ≡ true
@@ -134,6 +138,8 @@ Begins-head w b full wh bh (nest m) t us n ts z (inr q) =
     rw same (bh m q.0 q.1 q.2 (subst (λ (u : List Symbol). b m u q.2) q.3 q.5))
 Begins-head w b full wh bh (over opens) t us n ts z (p, inl e) = skip_begun opens t us (ap (skip opens) (sym z) ∙ e)
 Begins-head w b full wh bh (over opens) t us n ts z (p, inr e) = skip_head opens t us tt [] (ap (skip opens) (sym z) ∙ e)
+Begins-head w b full wh bh (attempt f g) t us n ts z (inl p) = has-append (first f) (first g) t.sort ∙ or_left _ _ (Begins-head w b full wh bh f t us n ts z p)
+Begins-head w b full wh bh (attempt f g) t us n ts z (inr p) = has-append (first f) (first g) t.sort ∙ or_right (has (first f) t.sort) _ (Begins-head w b full wh bh g t us n ts z p)
 
 -- no tokens begin every form, and nothing is open in it
 skip_nil : (opens : List ℕ) → skip opens [] ≡ fault []
@@ -150,6 +156,7 @@ Begins-nil w b (many f) = ([], [], [], refl, refl, Begins-nil w b f)
 Begins-nil w b (either f g) = inl (Begins-nil w b f)
 Begins-nil w b (nest m) = inl (refl, refl)
 Begins-nil w b (over opens) = (refl, inl (skip_nil opens))
+Begins-nil w b (attempt f g) = inl (Begins-nil w b f)
 
 pub nil-open : (w : Wholes) (b : Begun) {A : Type 0} (f : Form A) (ts : List Symbol) (n : ℕ) → ts ≡ [] → Begins w b f ts n → n ≡ 0
 nil-open w b (terminal k) ts n z p = p.0
@@ -164,6 +171,8 @@ nil-open w b (either f g) ts n z (inr p) = nil-open w b g ts n z p
 nil-open w b (nest m) ts n z (inl p) = p.1
 nil-open w b (nest m) ts n z (inr q) = absurd cc
 nil-open w b (over opens) ts n z p = p.0
+nil-open w b (attempt f g) ts n z (inl p) = nil-open w b f ts n z p
+nil-open w b (attempt f g) ts n z (inr p) = nil-open w b g ts n z p
 
 -- what is whole is begun
 abbrev pub WholeBegins : Wholes → Begun → Type 0
@@ -184,3 +193,5 @@ Is-begins w b full wb (either f g) ts x (inr is) = let p = Is-begins w b full wb
 Is-begins w b full wb (nest m) [] x is = absurd (full m x is)
 Is-begins w b full wb (nest m) (t ∷ ts) x is = let p = wb m (t ∷ ts) x is in (opened m p.0, inr (t, ts, p.0, refl, refl, p.1))
 Is-begins w b full wb (over opens) ts x is = (0, (refl, inr is))
+Is-begins w b full wb (attempt f g) ts x (inl is) = let p = Is-begins w b full wb f ts x is in (p.0, inl p.1)
+Is-begins w b full wb (attempt f g) ts x (inr is) = let p = Is-begins w b full wb g ts x is in (p.0, inr p.1)

@@ -5,11 +5,16 @@ pub mod Progress
 pub mod Fuel
 pub mod Heads
 pub mod Told
+pub mod Fronts
+pub mod Rivals
+pub mod Attempts
+pub mod Open
 pub mod Complete
 pub mod Passes
 pub mod Knot
 pub mod Law
 pub mod Prefixes
+pub mod Wins
 pub mod Loop
 pub mod Ranges
 pub mod Firsts

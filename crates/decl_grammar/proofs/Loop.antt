@@ -1,13 +1,12 @@
 -- Reading parts one after another, as a loop does.
-use Rattle.std.proofs.Common.{◌≡◌, ℕ, zero, suc, ◌+◌, ◌<◌, ◌≤◌, true, false, cond, List, [], ◌∷◌, ◌++◌, length, refl, sym, ap, ◌∙◌, append_assoc, add-one, arith}
-use Rattle.std.specs.Prelude.{replicate}
+use Rattle.std.proofs.Common.{◌≡◌, ℕ, zero, suc, ◌+◌, ◌<◌, ◌≤◌, true, false, cond, List, [], ◌∷◌, ◌++◌, length, refl, sym, ap, ◌∙◌, append_assoc, arith}
 use Rattle.std.proofs.lemmas.List.{append-nil}
 use Rattle.decl_grammar.specs.declared.symbol.Symbol.{Symbol}
 use Rattle.decl_grammar.specs.declared.fault.ReadFault.{ReadFault}
 use Rattle.decl_grammar.specs.declared.fault.ReadFault.TheVariants as errors
-use Rattle.decl_grammar.specs.Reading.{starts, Outcome, done, fault, deep, ◌>>=◌, Fails, has, skip, read_of, pass, one_at}
+use Rattle.decl_grammar.specs.Reading.{starts, Outcome, done, fault, deep, ◌>>=◌, Fails}
 use Rattle.decl_grammar.specs.Form.{Form, pair, turn, many, nullable, first, repeat, with_front, turned}
-use Rattle.decl_grammar.specs.Grammar.{read_nest, reads}
+use Rattle.decl_grammar.specs.Rule.{read_nest, reads}
 use Rattle.decl_grammar.proofs.Progress.{least, shorter}
 use Rattle.decl_grammar.proofs.Fuel.{nest-shorter}
 

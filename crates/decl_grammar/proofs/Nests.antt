@@ -1,12 +1,15 @@
 -- How forms that hold themselves are read.
-use Rattle.std.proofs.Common.{◌≡◌, ℕ, zero, suc, ◌+◌, ◌-◌, ◌<◌, ◌≤◌, Bool, true, false, cond, List, [], ◌∷◌, ◌++◌, length, Option, Some, None, refl, sym, ap, ◌∙◌, arith, subst}
+use Rattle.std.proofs.Common.{◌≡◌, ℕ, zero, suc, ◌-◌, ◌<◌, ◌≤◌, Bool, true, false, cond, List, [], ◌∷◌, ◌++◌, length, Option, Some, None, refl, sym, ap, ◌∙◌, arith, subst}
 use Rattle.decl_grammar.specs.declared.symbol.Symbol.{Symbol}
 use Rattle.decl_grammar.specs.declared.fault.ReadFault.{ReadFault}
 use Rattle.decl_grammar.specs.declared.fault.ReadFault.TheVariants as faults
 use Rattle.decl_grammar.specs.Symbols.{operator}
 use Rattle.decl_grammar.specs.Reading.{starts, Outcome, done, fault, deep, left, ◌>>=◌, Fails, one_at}
-use Rattle.decl_grammar.specs.Form.{Nest, any_value, array_rest, enum_rest, counts, Of, first_of, Form, terminal, pair, turn, maybe, nest, first, with_front, turned}
-use Rattle.decl_grammar.specs.Grammar.{comma_item, rule, enter_if, read_nest, reads, sign, behind, list_or_none, one_and_rest, array_rest_form, some_values, enum_rest_form, some_constants, constant, constant_part, annotations, annotation, name}
+use Rattle.decl_grammar.specs.Form.{Nest, any_value, array_rest, enum_rest, counts, Of, first_of, Form, pair, turn, maybe, nest, first, with_front, turned}
+use Rattle.decl_grammar.specs.Types.{comma_item, sign, behind, list_or_none, one_and_rest, annotations, annotation, name}
+use Rattle.decl_grammar.specs.Expressions.{array_rest_form, some_values}
+use Rattle.decl_grammar.specs.Grammar.{enum_rest_form, some_constants, constant, constant_part}
+use Rattle.decl_grammar.specs.Rule.{rule, enter_if, read_nest, reads}
 use Rattle.decl_grammar.proofs.Loop.{falls}
 use Rattle.decl_grammar.proofs.Passes.{bounded}
 use Rattle.decl_grammar.proofs.Knot.{bounded-at}

@@ -1,12 +1,12 @@
 -- Sets of sorts, and the test that a form can be read by looking at the next symbol alone.
-use Rattle.std.proofs.Common.{◌≡◌, ℕ, Bool, true, false, cond, eqb, List, [], ◌∷◌, ◌++◌, ◌⊎◌, refl, sym, ap, ◌∙◌, inl, inr}
-use Rattle.std.specs.Prelude.{◌||◌, ◌&&◌}
+use Rattle.std.proofs.Common.{◌≡◌, ℕ, ◌<◌, ◌≤◌, Bool, true, false, cond, eqb, List, [], ◌∷◌, ◌++◌, ◌⊎◌, refl, sym, ap, ◌∙◌, arith, inl, inr}
+use Rattle.std.specs.Prelude.{◌||◌, ◌&&◌, nat_lt}
 use Rattle.std.proofs.Math.Bool.{or-false}
 use Rattle.std.proofs.lemmas.Bool.{eqb-true}
-use Rattle.decl_grammar.specs.Symbols.{operator, word, numbers, named}
+use Rattle.decl_grammar.specs.Symbols.{operator, numbers}
 use Rattle.decl_grammar.specs.declared.symbol.Symbol.{Symbol}
 use Rattle.decl_grammar.specs.Reading.{has, starts}
-use Rattle.decl_grammar.specs.Form.{Nest, type_arguments, any_value, lone_value, first_name, nested_type, modifiers, plain_modifiers, static_word, array_rest, import_rest, enum_rest, param_rest, first_rest, first_of, expression_signs, names, ats, Form, terminal, pair, turn, maybe, many, either, seen, nest, over, nullable, first}
+use Rattle.decl_grammar.specs.Form.{Nest, type_arguments, any_value, lone_value, first_name, nested_type, modifiers, plain_modifiers, static_word, array_rest, import_rest, enum_rest, param_rest, first_rest, first_of, expression_signs, names, ats, Form, terminal, pair, turn, maybe, many, either, seen, nest, over, attempt, nullable, first}
 
 abbrev pub no : Bool → Bool
 no true = false
@@ -19,6 +19,10 @@ no_true false e = refl
 pub both : (a b : Bool) → (a && b) ≡ true → (a ≡ true) × (b ≡ true)
 both true b e = (refl, e)
 both false b e = absurd cc
+
+pub both_true : (a b : Bool) → a ≡ true → b ≡ true → (a && b) ≡ true
+both_true true b e d = d
+both_true false b e d = absurd cc
 
 pub neither : (a b : Bool) → (a || b) ≡ false → (a ≡ false) × (b ≡ false)
 neither true b e = absurd cc
@@ -122,8 +126,9 @@ more (either f g) = more f ++ more g
 more (seen h f) = more f
 more (nest m) = more_of m
 more (over opens) = []
+more (attempt f g) = more f ++ more g
 
--- the next symbol always tells how to go on
+-- the next symbol always tells how to go on, but between two readings
 abbrev pub ok : {A : Type 0} → Form A → Bool
 ok (terminal k) = true
 ok (pair f g) = ok f && (ok g && disjoint (first g) (more f))
@@ -134,15 +139,40 @@ ok (either f g) = ok f && (ok g && (no (nullable f) && (no (nullable g) && disjo
 ok (seen h f) = ok f
 ok (nest m) = true
 ok (over opens) = true
+ok (attempt f g) = ok f && ok g
 
--- the first symbol is read before any form that holds itself
-abbrev pub guarded : {A : Type 0} → Form A → Bool
-guarded (terminal k) = true
-guarded (pair f g) = guarded f && (no (nullable f) || guarded g)
-guarded (turn h f) = guarded f
-guarded (maybe f) = guarded f
-guarded (many f) = guarded f
-guarded (either f g) = guarded f && guarded g
-guarded (seen h f) = guarded f
-guarded (nest m) = false
-guarded (over opens) = true
+-- The rank of a form that holds itself: those that it may begin with, before its first symbol, are of smaller ranks.
+abbrev pub rank : Nest → ℕ
+rank m = 0
+
+pub rank-bound : (m : Nest) → rank m ≤ 2
+rank-bound m = omega arith
+
+pub rank-below : (m : Nest) (k : ℕ) → nat_lt (rank m) k ≡ true → rank m < k
+rank-below m k e = grind arith
+
+-- the forms that hold themselves and stand before the first symbol are of smaller ranks than this
+abbrev pub guarded : ℕ → {A : Type 0} → Form A → Bool
+guarded k (terminal ks) = true
+guarded k (pair f g) = guarded k f && (no (nullable f) || guarded k g)
+guarded k (turn h f) = guarded k f
+guarded k (maybe f) = guarded k f
+guarded k (many f) = guarded k f
+guarded k (either f g) = guarded k f && guarded k g
+guarded k (seen h f) = guarded k f
+guarded k (nest m) = nat_lt (rank m) k
+guarded k (over opens) = true
+guarded k (attempt f g) = guarded k f && guarded k g
+
+-- all ranks are smaller than three
+pub any-guarded : {A : Type 0} (f : Form A) → guarded 3 f ≡ true
+any-guarded (terminal ks) = refl
+any-guarded (pair f g) = both_true (guarded 3 f) (no (nullable f) || guarded 3 g) (any-guarded f) (or_right (no (nullable f)) (guarded 3 g) (any-guarded g))
+any-guarded (turn h f) = any-guarded f
+any-guarded (maybe f) = any-guarded f
+any-guarded (many f) = any-guarded f
+any-guarded (either f g) = both_true (guarded 3 f) (guarded 3 g) (any-guarded f) (any-guarded g)
+any-guarded (seen h f) = any-guarded f
+any-guarded (nest m) = refl
+any-guarded (over opens) = refl
+any-guarded (attempt f g) = both_true (guarded 3 f) (guarded 3 g) (any-guarded f) (any-guarded g)

@@ -1,10 +1,10 @@
 -- Reading leaves no more tokens than there were, and fewer where the form is not empty.
-use Rattle.std.proofs.Common.{◌≡◌, ℕ, zero, suc, ◌+◌, ◌≤◌, Bool, true, false, cond, List, [], ◌∷◌, length, Option, Some, None, ◌⊎◌, refl, ap, arith, inl, inr, subst}
+use Rattle.std.proofs.Common.{◌≡◌, ℕ, zero, suc, ◌+◌, ◌≤◌, Bool, true, false, cond, List, [], ◌∷◌, length, Option, Some, None, ◌⊎◌, refl, ap, arith, inl, inr}
 use Rattle.std.specs.Prelude.{◌||◌, ◌&&◌}
 use Rattle.decl_grammar.specs.declared.symbol.Symbol.{Symbol}
 use Rattle.std.specs.Option.{option_map_or}
 use Rattle.decl_grammar.specs.Reading.{starts, Outcome, done, fault, deep, ◌>>=◌, one_at, after, pass, has, skip, read_of}
-use Rattle.decl_grammar.specs.Form.{Nest, Of, first_of, Form, terminal, pair, turn, maybe, many, either, nest, over, seen, nullable, first, repeat, read, opened}
+use Rattle.decl_grammar.specs.Form.{Nest, Of, Form, terminal, pair, turn, maybe, many, either, nest, over, seen, attempt, nullable, first, repeat, attempted, read}
 
 -- the steps of a reading that did not fail
 pub bind_done : {A B : Type 0} (r : Outcome A) (f : A → List Symbol → Outcome B) (y : B) (rest : List Symbol) → (r >>= f) ≡ done y rest → (x : A) × (at : List Symbol) × (r ≡ done x at) × (f x at ≡ done y rest)
@@ -18,6 +18,14 @@ choice_done false p q y rest e = inr (refl, e)
 
 pub done_rest : {A : Type 0} (x y : A) (a b : List Symbol) → done x a ≡ done y b → a ≡ b
 done_rest x y a b e = cc
+
+-- two readings that did not fail
+attempt_done : {A : Type 0} (o p : Outcome A) (x : A) (rest : List Symbol) → attempted o p ≡ done x rest → (o ≡ done x rest) ⊎ (p ≡ done x rest)
+attempt_done (done y at) p x rest e = inl e
+attempt_done (fault at) (done y to) x rest e = inr e
+attempt_done (fault at) (fault to) x rest e = absurd cc
+attempt_done (fault at) (deep to) x rest e = absurd cc
+attempt_done (deep at) p x rest e = absurd cc
 
 -- one token at least, where there is no empty form
 abbrev pub least : Bool → ℕ
@@ -101,3 +109,8 @@ shorter inner h (either f g) ts x rest e =
     ]
 shorter inner h (nest m) ts x rest e = h m ts x rest e
 shorter inner h (over opens) ts x rest e = skip-shorter opens ts x rest e
+shorter inner h (attempt f g) ts x rest e =
+    elim (attempt_done (read inner f ts) (read inner g ts) x rest e) [
+      | inl p ↦ omega (arith, least-or (nullable f) (nullable g), shorter inner h f ts x rest p)
+      | inr p ↦ omega (arith, least-or (nullable f) (nullable g), shorter inner h g ts x rest p)
+    ]

@@ -1,9 +1,14 @@
 -- What is tested of the forms that hold themselves.
-use Rattle.std.proofs.Common.{◌≡◌, ℕ, Bool, true, false, List, refl}
+use Rattle.std.proofs.Common.{◌≡◌, true, false, refl}
 use Rattle.decl_grammar.specs.Symbols.{numbers}
 use Rattle.decl_grammar.specs.Form.{Nest, type_arguments, any_value, lone_value, first_name, nested_type, modifiers, plain_modifiers, static_word, array_rest, import_rest, enum_rest, param_rest, first_rest, first_of, nullable, first}
-use Rattle.decl_grammar.specs.Grammar.{rule, name, named_text, dot_name, name_chain, first_pair, next_pair, pairs, pairs_or_value, annotation_arguments, annotation_body, first_item, expression, value_from, annotation, modifier_annotation, annotations, some_values, array_rest_form, array_values, array, later_item, primitive_type, named_part, next_part, class_type, dim, base_type, type_form, class_array, primitive_array, reference, annotated_reference, wildcard_bound, wildcard, type_argument, next_argument, arguments_form, annotated_class, next_bound, bounds, type_param, next_type_param, type_params, optional_params, next_class, classes, modifier, plain_modifier, optional_modifiers, type_modifiers, param_modifier, param_modifiers, params_from, next_params, varargs, named_end, param_rest_form, receiver, some_dims, dot_this, with_dims, behind_first_name, first_rest_form, behind_annotations, first_params, params, thrown, body, method_signature, constructor_signature, element_default, element_signature, next_declarator, field_rest, typed_member, constructed_or, void_method, primitive_member, named_member, generic_method, annotated_method, generic_rest, generic, static_rest, plain_modified, nested_member, unmodified_of, annotation_unmodified, modified_form, member_form, superclass, implemented, extended, class_form, interface_form, annotation_form, optional_over, constant_part, constant, some_constants, enum_rest_form, constant_list, constants, enum_members, enum_form, type_rest, import_rest_form, import_step, import_named, import_static, import_form, package_form, modified_type, top_type, ordinary, package_part, annotated_package, semicolon, package_info}
-use Rattle.decl_grammar.proofs.OneToken.{within, more_of, more, ok, guarded}
+use Rattle.decl_grammar.specs.Types.{name, named_text, dot_name, name_chain, first_pair, next_pair, pairs, pairs_or_value, annotation_arguments, annotation_body, annotation, modifier_annotation, annotations, primitive_type, named_part, next_part, class_type, dim, base_type, type_form, class_array, primitive_array, reference, annotated_reference, wildcard_bound, wildcard, type_argument, next_argument, arguments_form, annotated_class, next_bound, bounds, type_param, next_type_param, type_params, optional_params, next_class, classes, modifier, plain_modifier, optional_modifiers, type_modifiers}
+use Rattle.decl_grammar.specs.Expressions.{first_item, expression, value_from, some_values, array_rest_form, array_values, array, later_item}
+use Rattle.decl_grammar.specs.Members.{param_modifier, param_modifiers, params_from, next_params, varargs, named_end, param_rest_form, receiver, some_dims, dot_this, with_dims, behind_first_name, first_rest_form, behind_annotations, first_params, params, thrown, body, method_signature, constructor_signature, element_default, element_signature, next_declarator, field_rest, typed_member, constructed_or, void_method, primitive_member, named_member, generic_method, annotated_method, generic_rest, generic}
+use Rattle.decl_grammar.specs.Grammar.{static_rest, plain_modified, nested_member, unmodified_of, annotation_unmodified, modified_form, member_form, superclass, implemented, extended, class_form, interface_form, annotation_form, optional_over, constant_part, constant, some_constants, enum_rest_form, constant_list, constants, enum_members, enum_form, type_rest, import_rest_form, import_step, import_named, import_static, import_form, package_form, modified_type, top_type, ordinary, package_part, annotated_package, semicolon, package_info}
+use Rattle.decl_grammar.specs.Rule.{rule}
+use Rattle.decl_grammar.proofs.Rivals.{plain}
+use Rattle.decl_grammar.proofs.OneToken.{within, more_of, more, ok, rank, guarded}
 
 pub rule-first : (m : Nest) → first (rule m) ≡ first_of m
 unfolding numbers name named_text dot_name name_chain first_pair next_pair pairs pairs_or_value annotation_arguments annotation_body first_item expression value_from annotation modifier_annotation annotations some_values array_rest_form array_values array later_item primitive_type named_part next_part class_type dim base_type type_form class_array primitive_array reference annotated_reference wildcard_bound wildcard type_argument next_argument arguments_form annotated_class next_bound bounds type_param next_type_param type_params optional_params next_class classes modifier plain_modifier optional_modifiers type_modifiers param_modifier param_modifiers params_from next_params varargs named_end param_rest_form receiver some_dims dot_this with_dims behind_first_name first_rest_form behind_annotations first_params params thrown body method_signature constructor_signature element_default element_signature next_declarator field_rest typed_member constructed_or void_method primitive_member named_member generic_method annotated_method generic_rest generic static_rest plain_modified nested_member unmodified_of annotation_unmodified modified_form member_form superclass implemented extended class_form interface_form annotation_form optional_over constant_part constant some_constants enum_rest_form constant_list constants enum_members enum_form type_rest import_rest_form import_step import_named import_static import_form package_form modified_type top_type ordinary package_part annotated_package semicolon package_info
@@ -69,7 +74,23 @@ rule-full enum_rest = refl
 rule-full param_rest = refl
 rule-full first_rest = refl
 
-pub rule-guarded : (m : Nest) → guarded (rule m) ≡ true
+pub rule-plain : (m : Nest) → plain (rule m) ≡ true
+unfolding numbers name named_text dot_name name_chain first_pair next_pair pairs pairs_or_value annotation_arguments annotation_body first_item expression value_from annotation modifier_annotation annotations some_values array_rest_form array_values array later_item primitive_type named_part next_part class_type dim base_type type_form class_array primitive_array reference annotated_reference wildcard_bound wildcard type_argument next_argument arguments_form annotated_class next_bound bounds type_param next_type_param type_params optional_params next_class classes modifier plain_modifier optional_modifiers type_modifiers param_modifier param_modifiers params_from next_params varargs named_end param_rest_form receiver some_dims dot_this with_dims behind_first_name first_rest_form behind_annotations first_params params thrown body method_signature constructor_signature element_default element_signature next_declarator field_rest typed_member constructed_or void_method primitive_member named_member generic_method annotated_method generic_rest generic static_rest plain_modified nested_member unmodified_of annotation_unmodified modified_form member_form superclass implemented extended class_form interface_form annotation_form optional_over constant_part constant some_constants enum_rest_form constant_list constants enum_members enum_form type_rest import_rest_form import_step import_named import_static import_form package_form modified_type top_type ordinary package_part annotated_package semicolon package_info
+rule-plain type_arguments = refl
+rule-plain any_value = refl
+rule-plain lone_value = refl
+rule-plain first_name = refl
+rule-plain nested_type = refl
+rule-plain modifiers = refl
+rule-plain plain_modifiers = refl
+rule-plain static_word = refl
+rule-plain array_rest = refl
+rule-plain import_rest = refl
+rule-plain enum_rest = refl
+rule-plain param_rest = refl
+rule-plain first_rest = refl
+
+pub rule-guarded : (m : Nest) → guarded (rank m) (rule m) ≡ true
 unfolding numbers name named_text dot_name name_chain first_pair next_pair pairs pairs_or_value annotation_arguments annotation_body first_item expression value_from annotation modifier_annotation annotations some_values array_rest_form array_values array later_item primitive_type named_part next_part class_type dim base_type type_form class_array primitive_array reference annotated_reference wildcard_bound wildcard type_argument next_argument arguments_form annotated_class next_bound bounds type_param next_type_param type_params optional_params next_class classes modifier plain_modifier optional_modifiers type_modifiers param_modifier param_modifiers params_from next_params varargs named_end param_rest_form receiver some_dims dot_this with_dims behind_first_name first_rest_form behind_annotations first_params params thrown body method_signature constructor_signature element_default element_signature next_declarator field_rest typed_member constructed_or void_method primitive_member named_member generic_method annotated_method generic_rest generic static_rest plain_modified nested_member unmodified_of annotation_unmodified modified_form member_form superclass implemented extended class_form interface_form annotation_form optional_over constant_part constant some_constants enum_rest_form constant_list constants enum_members enum_form type_rest import_rest_form import_step import_named import_static import_form package_form modified_type top_type ordinary package_part annotated_package semicolon package_info
 rule-guarded type_arguments = refl
 rule-guarded any_value = refl
@@ -89,6 +110,14 @@ pub ordinary-ok : ok ordinary ≡ true
 unfolding numbers name named_text dot_name name_chain first_pair next_pair pairs pairs_or_value annotation_arguments annotation_body first_item expression value_from annotation modifier_annotation annotations some_values array_rest_form array_values array later_item primitive_type named_part next_part class_type dim base_type type_form class_array primitive_array reference annotated_reference wildcard_bound wildcard type_argument next_argument arguments_form annotated_class next_bound bounds type_param next_type_param type_params optional_params next_class classes modifier plain_modifier optional_modifiers type_modifiers param_modifier param_modifiers params_from next_params varargs named_end param_rest_form receiver some_dims dot_this with_dims behind_first_name first_rest_form behind_annotations first_params params thrown body method_signature constructor_signature element_default element_signature next_declarator field_rest typed_member constructed_or void_method primitive_member named_member generic_method annotated_method generic_rest generic static_rest plain_modified nested_member unmodified_of annotation_unmodified modified_form member_form superclass implemented extended class_form interface_form annotation_form optional_over constant_part constant some_constants enum_rest_form constant_list constants enum_members enum_form type_rest import_rest_form import_step import_named import_static import_form package_form modified_type top_type ordinary package_part annotated_package semicolon package_info
 ordinary-ok = refl
 
+pub ordinary-plain : plain ordinary ≡ true
+unfolding numbers name named_text dot_name name_chain first_pair next_pair pairs pairs_or_value annotation_arguments annotation_body first_item expression value_from annotation modifier_annotation annotations some_values array_rest_form array_values array later_item primitive_type named_part next_part class_type dim base_type type_form class_array primitive_array reference annotated_reference wildcard_bound wildcard type_argument next_argument arguments_form annotated_class next_bound bounds type_param next_type_param type_params optional_params next_class classes modifier plain_modifier optional_modifiers type_modifiers param_modifier param_modifiers params_from next_params varargs named_end param_rest_form receiver some_dims dot_this with_dims behind_first_name first_rest_form behind_annotations first_params params thrown body method_signature constructor_signature element_default element_signature next_declarator field_rest typed_member constructed_or void_method primitive_member named_member generic_method annotated_method generic_rest generic static_rest plain_modified nested_member unmodified_of annotation_unmodified modified_form member_form superclass implemented extended class_form interface_form annotation_form optional_over constant_part constant some_constants enum_rest_form constant_list constants enum_members enum_form type_rest import_rest_form import_step import_named import_static import_form package_form modified_type top_type ordinary package_part annotated_package semicolon package_info
+ordinary-plain = refl
+
 pub package_info-ok : ok package_info ≡ true
 unfolding numbers name named_text dot_name name_chain first_pair next_pair pairs pairs_or_value annotation_arguments annotation_body first_item expression value_from annotation modifier_annotation annotations some_values array_rest_form array_values array later_item primitive_type named_part next_part class_type dim base_type type_form class_array primitive_array reference annotated_reference wildcard_bound wildcard type_argument next_argument arguments_form annotated_class next_bound bounds type_param next_type_param type_params optional_params next_class classes modifier plain_modifier optional_modifiers type_modifiers param_modifier param_modifiers params_from next_params varargs named_end param_rest_form receiver some_dims dot_this with_dims behind_first_name first_rest_form behind_annotations first_params params thrown body method_signature constructor_signature element_default element_signature next_declarator field_rest typed_member constructed_or void_method primitive_member named_member generic_method annotated_method generic_rest generic static_rest plain_modified nested_member unmodified_of annotation_unmodified modified_form member_form superclass implemented extended class_form interface_form annotation_form optional_over constant_part constant some_constants enum_rest_form constant_list constants enum_members enum_form type_rest import_rest_form import_step import_named import_static import_form package_form modified_type top_type ordinary package_part annotated_package semicolon package_info
 package_info-ok = refl
+
+pub package_info-plain : plain package_info ≡ true
+unfolding numbers name named_text dot_name name_chain first_pair next_pair pairs pairs_or_value annotation_arguments annotation_body first_item expression value_from annotation modifier_annotation annotations some_values array_rest_form array_values array later_item primitive_type named_part next_part class_type dim base_type type_form class_array primitive_array reference annotated_reference wildcard_bound wildcard type_argument next_argument arguments_form annotated_class next_bound bounds type_param next_type_param type_params optional_params next_class classes modifier plain_modifier optional_modifiers type_modifiers param_modifier param_modifiers params_from next_params varargs named_end param_rest_form receiver some_dims dot_this with_dims behind_first_name first_rest_form behind_annotations first_params params thrown body method_signature constructor_signature element_default element_signature next_declarator field_rest typed_member constructed_or void_method primitive_member named_member generic_method annotated_method generic_rest generic static_rest plain_modified nested_member unmodified_of annotation_unmodified modified_form member_form superclass implemented extended class_form interface_form annotation_form optional_over constant_part constant some_constants enum_rest_form constant_list constants enum_members enum_form type_rest import_rest_form import_step import_named import_static import_form package_form modified_type top_type ordinary package_part annotated_package semicolon package_info
+package_info-plain = refl

@@ -1,11 +1,11 @@
 -- What reading tells: what is read is the form, the tokens before a fault begin it, and where it is too deep the tokens up to
 -- there begin it with more open forms than are allowed.
-use Rattle.std.specs.Prelude.{take}
+use Rattle.std.specs.Prelude.{take, nat_le}
 use Rattle.std.proofs.Common.{◌-◌, length-append, arith, ◌≡◌, ℕ, zero, suc, ◌<◌, Bool, true, false, cond, List, [], ◌∷◌, ◌++◌, length, Option, Some, None, refl, sym, ap, ◌∙◌, append_assoc, inl, inr}
 use Rattle.std.specs.Option.{option_map_or}
 use Rattle.decl_grammar.specs.declared.symbol.Symbol.{Symbol}
 use Rattle.decl_grammar.specs.Reading.{starts, Outcome, done, fault, deep, ◌>>=◌, one_at, after, pass, has, skip, read_of}
-use Rattle.decl_grammar.specs.Form.{Nest, Form, terminal, pair, turn, maybe, many, either, nest, over, seen, first, Wholes, Begun, Readers, Is, Begins, repeat, read, opened}
+use Rattle.decl_grammar.specs.Form.{Nest, Form, terminal, pair, turn, maybe, many, either, nest, over, seen, attempt, first, Wholes, Begun, Readers, Is, Begins, repeat, attempted, read}
 
 -- two parts in front of a rest
 pub parts : {A : Type 0} (ts us rest vs after : List A) → ts ≡ us ++ rest → rest ≡ vs ++ after → ts ≡ (us ++ vs) ++ after
@@ -108,6 +108,17 @@ told-either room w b f g ts o (done x rest) h k false = (k.0, k.1, inr k.2)
 told-either room w b f g ts o (fault at) h k false = (k.0, k.1, k.2, inr k.3)
 told-either room w b f g ts o (deep at) h k false = (k.0, k.1, k.2, k.3, k.4, k.5, k.6, inr k.7)
 
+told-attempt : (room : ℕ) (w : Wholes) (b : Begun) {A : Type 0} (f g : Form A) (ts : List Symbol) (o q : Outcome A) → Told room w b f ts o → Told room w b g ts q → Told room w b (attempt f g) ts (attempted o q)
+told-attempt room w b f g ts (done x rest) q h k = (h.0, h.1, inl h.2)
+told-attempt room w b f g ts (fault at) (done x rest) h k = (k.0, k.1, inr k.2)
+told-attempt room w b f g ts (fault at) (fault to) h k = go (nat_le (length at) (length to))
+  where
+    go : (c : Bool) → Told room w b (attempt f g) ts (fault (cond c at to))
+    go true = (h.0, h.1, h.2, inl h.3)
+    go false = (k.0, k.1, k.2, inr k.3)
+told-attempt room w b f g ts (fault at) (deep to) h k = (k.0, k.1, k.2, k.3, k.4, k.5, k.6, inr k.7)
+told-attempt room w b f g ts (deep at) q h k = (h.0, h.1, h.2, h.3, h.4, h.5, h.6, inl h.7)
+
 -- one part and then a row
 told-next : (room : ℕ) (w : Wholes) (b : Begun) {A : Type 0} (f : Form A) (ts : List Symbol) (row : List Symbol → Outcome (List A)) → ((rest : List Symbol) → Told room w b (many f) rest (row rest))
     → (o : Outcome A) → Told room w b f ts o → Told room w b (many f) ts (o >>= λ x rest. row rest >>= λ xs after. done (x ∷ xs) after)
@@ -148,3 +159,4 @@ told room w b r h (many f) ts = told-repeat room w b f (starts (first f)) (read 
 told room w b r h (either f g) ts = told-either room w b f g ts (read r f ts) (read r g ts) (told room w b r h f ts) (told room w b r h g ts) (starts (first f) ts)
 told room w b r h (nest m) ts = h m ts
 told room w b r h (over opens) ts = told-over room w b opens ts
+told room w b r h (attempt f g) ts = told-attempt room w b f g ts (read r f ts) (read r g ts) (told room w b r h f ts) (told room w b r h g ts)

@@ -1,5 +1,5 @@
 -- The value of an annotation's element that some symbols spell (JLS 9.7.1, 15.28): the constant forms, and the text of any other.
-use Rattle.std.specs.Prelude.{◌≡◌, ℕ, ◌==◌, ◌&&◌, ◌||◌, ◌≤◌, nat_le, nat_lt, not, Bool, true, false, List, [], ◌∷◌, ◌++◌, length, Option, None, Some, if◌then◌else◌, codes, map, option_map, option_and_then}
+use Rattle.std.specs.Prelude.{◌≡◌, ℕ, ◌==◌, ◌&&◌, ◌||◌, nat_le, Bool, false, List, [], ◌∷◌, ◌++◌, Option, None, Some, if◌then◌else◌, codes, map, option_map, option_and_then}
 use Rattle.std.specs.List.{slice_split}
 use Rattle.std.specs.Option.{option_or, option_map_or}
 use Rattle.decl_tree.specs.declared.type_text.PrimitiveKind.{PrimitiveKind}
@@ -13,7 +13,7 @@ use Rattle.decl_tree.specs.declared.type_text.NamedPart.{NamedPart, roll-NamedPa
 use Rattle.decl_tree.specs.declared.annotation.ValueText.{ValueText}
 use Rattle.decl_tree.specs.declared.annotation.ValueText.TheVariants as value
 use Rattle.decl_grammar.specs.declared.symbol.Symbol.{Symbol}
-use Rattle.decl_grammar.specs.Symbols.{identifier, named, integer, floating, null, word, operator}
+use Rattle.decl_grammar.specs.Symbols.{integer, floating, null, word, operator}
 
 -- ---- symbols
 

@@ -5,7 +5,7 @@ use Rattle.decl_grammar.specs.declared.fault.ParseFault.{ParseFault}
 use Rattle.decl_grammar.specs.declared.fault.ParseFault.TheVariants as faults
 use Rattle.decl_grammar.specs.Reading.{Outcome, done, fault, ◌>>=◌}
 use Rattle.decl_grammar.specs.Form.{Form, Is, Begins}
-use Rattle.decl_grammar.specs.Grammar.{WholeAt, BegunAt, reads}
+use Rattle.decl_grammar.specs.Rule.{WholeAt, BegunAt, reads}
 
 -- these symbols are a phrase of the form, and this is what it means
 abbrev pub IsPhrase : {A : Type 0} → Form A → List Symbol → A → Type 0

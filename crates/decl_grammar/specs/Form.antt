@@ -1,5 +1,5 @@
 -- Forms of a grammar: which symbols are a form, which begin it, and how it is read from left to right.
-use Rattle.std.specs.Prelude.{◌≡◌, ℕ, zero, suc, Bool, true, false, List, [], ◌∷◌, ◌++◌, length, Option, Some, None, if◌then◌else◌, ◌||◌, ◌&&◌, ◌⊎◌}
+use Rattle.std.specs.Prelude.{◌≡◌, ℕ, zero, suc, Bool, true, false, List, [], ◌∷◌, ◌++◌, length, nat_le, Option, Some, None, if◌then◌else◌, ◌||◌, ◌&&◌, ◌⊎◌}
 use Rattle.decl_tree.specs.declared.type_text.TypeText.{TypeText}
 use Rattle.decl_tree.specs.declared.annotation.ValueText.{ValueText}
 use Rattle.decl_tree.specs.declared.type_text.Around.{Around}
@@ -12,7 +12,7 @@ use Rattle.decl_grammar.specs.declared.written.TypeRest.{TypeRest}
 use Rattle.decl_grammar.specs.declared.written.ParamEnd.{ParamEnd}
 use Rattle.decl_grammar.specs.declared.symbol.Symbol.{Symbol}
 use Rattle.decl_grammar.specs.Symbols.{identifier, named, at_interface, word, operator, numbers}
-use Rattle.decl_grammar.specs.Reading.{has, starts, Outcome, done, fault, ◌>>=◌, one_at, read_of, skip}
+use Rattle.decl_grammar.specs.Reading.{has, starts, Outcome, done, fault, deep, ◌>>=◌, one_at, read_of, skip}
 
 -- The forms that hold themselves.
 pub data Nest : Type 0 where
@@ -87,6 +87,8 @@ pub data Form : Type 0 → Type 1 where
   nest : (m : Nest) → Form (Of m)
   -- a bracket of one of these sorts, and all up to where it is closed
   over : List ℕ → Form (Unit {0})
+  -- Two readings of which no next symbol tells: while both may still be, both are begun.
+  attempt : {A : Type 0} → Form A → Form A → Form A
 
 -- ---- what is a form
 
@@ -121,6 +123,7 @@ Is inner (either f g) ts x = Is inner f ts x ⊎ Is inner g ts x
 Is inner (seen h f) ts x = Is inner f ts x.1 × (x.0 ≡ h ts)
 Is inner (nest m) ts x = inner m ts x
 Is inner (over opens) ts x = skip opens ts ≡ done tt []
+Is inner (attempt f g) ts x = Is inner f ts x ⊎ Is inner g ts x
 
 -- These symbols begin this form: of its parts the first ones are whole and the next one is begun. This many nested
 -- forms are begun around the end, each with at least its first symbol.
@@ -134,6 +137,7 @@ Begins whole begun (either f g) ts n = Begins whole begun f ts n ⊎ Begins whol
 Begins whole begun (seen h f) ts n = Begins whole begun f ts n
 Begins whole begun (nest m) ts n = ((ts ≡ []) × (n ≡ 0)) ⊎ ((t : Symbol) × (us : List Symbol) × (k : ℕ) × (ts ≡ t ∷ us) × (n ≡ opened m k) × begun m ts k)
 Begins whole begun (over opens) ts n = (n ≡ 0) × ((skip opens ts ≡ fault []) ⊎ (skip opens ts ≡ done tt []))
+Begins whole begun (attempt f g) ts n = Begins whole begun f ts n ⊎ Begins whole begun g ts n
 
 -- ---- reading from left to right
 
@@ -147,6 +151,7 @@ nullable (either f g) = nullable f || nullable g
 nullable (seen h f) = nullable f
 nullable (nest m) = false
 nullable (over opens) = false
+nullable (attempt f g) = nullable f || nullable g
 
 -- ---- what begins nested forms
 
@@ -210,10 +215,27 @@ first (either f g) = first f ++ first g
 first (seen h f) = first f
 first (nest m) = first_of m
 first (over opens) = opens
+first (attempt f g) = first f ++ first g
 
 abbrev pub repeat : {A : Type 0} → (List Symbol → Bool) → (List Symbol → Outcome A) → ℕ → List Symbol → Outcome (List A)
 repeat more one zero ts = done [] ts
 repeat more one (suc n) ts = if more ts then (one ts >>= λ x rest. repeat more one n rest >>= λ xs after. done (x ∷ xs) after) else done [] ts
+
+-- of two lists of symbols that are left the one that is further on
+abbrev pub further_of : List Symbol → List Symbol → List Symbol
+further_of at to = if nat_le (length at) (length to) then at else to
+
+-- What two readings give of which the first one failed here: the place of a fault is the further one.
+abbrev pub failed_at : {A : Type 0} → List Symbol → Outcome A → Outcome A
+failed_at at (done x rest) = done x rest
+failed_at at (fault to) = fault (further_of at to)
+failed_at at (deep to) = deep to
+
+-- What two readings give: the first one, and where that fails, the other one.
+abbrev pub attempted : {A : Type 0} → Outcome A → Outcome A → Outcome A
+attempted (done x rest) other = done x rest
+attempted (fault at) other = failed_at at other
+attempted (deep at) other = deep at
 
 abbrev pub read : Readers → {A : Type 0} → Form A → List Symbol → Outcome A
 read inner (terminal k) ts = one_at k ts
@@ -225,6 +247,7 @@ read inner (either f g) ts = if starts (first f) ts then read inner f ts else re
 read inner (seen h f) ts = read inner f ts >>= λ x rest. done (h (read_of ts rest), x) rest
 read inner (nest m) ts = inner m ts
 read inner (over opens) ts = skip opens ts
+read inner (attempt f g) ts = attempted (read inner f ts) (read inner g ts)
 
 -- what was read, with another meaning
 abbrev pub turned : {A B : Type 0} → (A → B) → Outcome A → Outcome B

@@ -3,7 +3,11 @@ pub mod Reading
 pub mod Docs
 pub mod Form
 pub mod Constants
+pub mod Types
+pub mod Expressions
+pub mod Members
 pub mod Grammar
+pub mod Rule
 pub mod Rows
 pub mod File
 pub mod SymbolList

@@ -9,7 +9,9 @@ use Rattle.decl_grammar.specs.declared.written.Modifiers.{Modifiers}
 use Rattle.decl_grammar.specs.Reading.{Outcome}
 use Rattle.decl_grammar.specs.Form.{Form, maybe, many, nest, array_rest, enum_rest, import_rest, turned, with_front}
 use Rattle.decl_grammar.specs.Constants.{more_dotted}
-use Rattle.decl_grammar.specs.Grammar.{Mark, reads, read_nest, list_or_none, with_marks, dot_name, single_or}
+use Rattle.decl_grammar.specs.Types.{Mark, list_or_none, with_marks, dot_name}
+use Rattle.decl_grammar.specs.Grammar.{single_or}
+use Rattle.decl_grammar.specs.Rule.{reads, read_nest}
 
 -- a name, where there is one, and none for `*`
 abbrev pub name_seen : Option (Bor (List ℕ)) → Option (List ℕ)

@@ -1,10 +1,11 @@
 //! The grammar of declarations (JLS 4, 7.3 to 9.7) without the initialisers of fields, as data, and its laws.
 //!
-//! `specs/Grammar` has the grammar, over the symbols of tokens (`symbols`). What is a phrase of a form and what
-//! begins one with so much open is defined by cases on forms (`specs/Form`), and so are the first fault and the first
-//! symbol at which too much is open (`specs/File`). How forms are read from left to right, and what a function that reads
-//! must return, is in `specs/Reading`. A file has at most one reading (`one_reading`), and each front of
-//! what begins one begins one (`fronts_begin`), be it an ordinary compilation unit or a file `package-info.java`.
+//! `specs/Types`, `Expressions`, `Members` and `Grammar` have the grammar, over the symbols of tokens (`symbols`), and
+//! `Rule` the forms that hold themselves. What is a phrase of a form and what begins one with so much open is defined by
+//! cases on forms (`specs/Form`), and so are the first fault and the first symbol at which too much is open
+//! (`specs/File`). How forms are read from left to right, and what a function that reads must return, is in
+//! `specs/Reading`. A file has at most one reading (`one_reading`), and each front of what begins one begins one
+//! (`fronts_begin`), be it an ordinary compilation unit or a file `package-info.java`.
 //!
 //! The types here are the values of the grammar and of reading. No function here reads a form.
 #![tactic(auto)]

@@ -9,7 +9,8 @@ use Rattle.decl_grammar.specs.declared.symbol.Symbol.{Symbol}
 use Rattle.decl_grammar.specs.declared.fault.ReadFault.{ReadFault}
 use Rattle.decl_grammar.specs.Reading.{starts, Outcome, done, ◌>>=◌, Fails, one_at, skip}
 use Rattle.decl_grammar.specs.Form.{with_front}
-use Rattle.decl_grammar.specs.Grammar.{reads, no_member, member_from, modified_form, member_form}
+use Rattle.decl_grammar.specs.Grammar.{no_member, member_from, modified_form, member_form}
+use Rattle.decl_grammar.specs.Rule.{reads}
 use Rattle.decl_types.specs.Members.{has_blocks, behind_members}
 use Rattle.decl_grammar.proofs.Loop.{turned_fails}
 

@@ -11,7 +11,9 @@ use Rattle.decl_grammar.specs.declared.written.MemberRest.{MemberRest}
 use Rattle.decl_grammar.specs.Reading.{Outcome, done, fault, deep, ◌>>=◌, Gives}
 use Rattle.decl_grammar.specs.Form.{type_arguments, maybe, many, nest, turned, with_front}
 use Rattle.decl_grammar.specs.Constants.{named_part_of, type_of}
-use Rattle.decl_grammar.specs.Grammar.{reads, next_part, dim, name, Named, rest_form, typed_as, typed_member}
+use Rattle.decl_grammar.specs.Types.{next_part, dim, name}
+use Rattle.decl_grammar.specs.Members.{Named, rest_form, typed_as, typed_member}
+use Rattle.decl_grammar.specs.Rule.{reads}
 use Rattle.decl_types.specs.Members.{named_as, named_at}
 use Rattle.decl_grammar.proofs.Loop.{turned_done}
 

@@ -10,7 +10,9 @@ use Rattle.decl_grammar.specs.declared.written.Unmodified.{Unmodified}
 use Rattle.decl_grammar.specs.declared.written.MemberRest.{MemberRest}
 use Rattle.decl_grammar.specs.Reading.{Outcome}
 use Rattle.decl_grammar.specs.Form.{Form, many, turned, with_front, modifier_words, first_of, nested_type}
-use Rattle.decl_grammar.specs.Grammar.{reads, typed_member, constructed_or, enum_members, unmodified_of, plain_modified, class_modified, modified_form, member_from, member_form, field_of}
+use Rattle.decl_grammar.specs.Members.{typed_member, constructed_or}
+use Rattle.decl_grammar.specs.Grammar.{enum_members, unmodified_of, plain_modified, class_modified, modified_form, member_from, member_form, field_of}
+use Rattle.decl_grammar.specs.Rule.{reads}
 use Rattle.decl_types.specs.Members.{named_at, with_members}
 
 -- a member of a class whose first modifier is not `static`

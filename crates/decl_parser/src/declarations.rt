@@ -3,7 +3,9 @@ ghost use Rattle.std.specs.Prelude.{◌≡◌, ◌++◌, ◌<◌, ◌&&◌, true
 ghost use Rattle.decl_grammar.specs.declared.written.Unmodified.TheVariants as unmodified;
 ghost use Rattle.decl_grammar.specs.Reading.{Gives, starts};
 ghost use Rattle.decl_grammar.specs.Form.{many, maybe, nest, nested_type, turned, with_front};
-ghost use Rattle.decl_grammar.specs.Grammar.{list_or_none, reads, read_nest, superclass, implemented, extended, nested_member, unmodified_of, annotation_unmodified, with_static, static_rest, plain_modified, class_modified, modified, modified_form, member_from, member_form, members_in, class_form, interface_form, annotation_form, enum_members, enum_form, type_rest};
+ghost use Rattle.decl_grammar.specs.Types.{list_or_none};
+ghost use Rattle.decl_grammar.specs.Grammar.{superclass, implemented, extended, nested_member, unmodified_of, annotation_unmodified, with_static, static_rest, plain_modified, class_modified, modified, modified_form, member_from, member_form, members_in, class_form, interface_form, annotation_form, enum_members, enum_form, type_rest};
+ghost use Rattle.decl_grammar.specs.Rule.{reads, read_nest};
 ghost use Rattle.decl_types.specs.Members.{has_blocks};
 ghost use Rattle.decl_parser.specs.MemberRows.{enum_behind, plain_of_class, modified_of_class, declared_behind, member_behind, members_behind};
 

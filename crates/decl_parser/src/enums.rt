@@ -3,7 +3,9 @@ ghost use Rattle.std.specs.Prelude.{◌≡◌, ◌++◌, ◌<◌, [], ◌∷◌,
 ghost use Rattle.decl_grammar.specs.Reading.{Gives, starts};
 ghost use Rattle.decl_grammar.specs.Form.{ats, names, many, maybe, nest, enum_rest, turned, with_front};
 ghost use Rattle.decl_grammar.specs.Rows.{constants_behind};
-ghost use Rattle.decl_grammar.specs.Grammar.{list_or_none, comma_item, reads, optional_over, constant_part, constant, some_constants, constant_list, constants};
+ghost use Rattle.decl_grammar.specs.Types.{list_or_none, comma_item};
+ghost use Rattle.decl_grammar.specs.Grammar.{optional_over, constant_part, constant, some_constants, constant_list, constants};
+ghost use Rattle.decl_grammar.specs.Rule.{reads};
 
 use apt_base::{List, Name};
 use decl_grammar::{ReadFault, Symbol};

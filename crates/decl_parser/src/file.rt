@@ -2,7 +2,8 @@
 ghost use Rattle.std.specs.Prelude.{◌≡◌, ℕ, [], ◌∷◌, ◌++◌, List, length, IfOk, Ok};
 ghost use Rattle.decl_grammar.specs.Reading.{Gives};
 ghost use Rattle.decl_grammar.specs.Form.{many, maybe, with_front};
-ghost use Rattle.decl_grammar.specs.Grammar.{reads, import_form, package_form, top_type, ordinary, Ordinary};
+ghost use Rattle.decl_grammar.specs.Grammar.{import_form, package_form, top_type, ordinary, Ordinary};
+ghost use Rattle.decl_grammar.specs.Rule.{reads};
 ghost use Rattle.decl_parser.specs.FileShown.{ordinary_view};
 ghost use Rattle.decl_grammar.specs.File.{IsPhrase, IsShallow, phrase_at, Found, Missed, BadAt, DeepAt};
 

@@ -2,7 +2,9 @@
 ghost use Rattle.std.specs.Prelude.{◌≡◌, ℕ, [], ◌∷◌, ◌++◌, List, length, IfOk, Ok};
 ghost use Rattle.decl_grammar.specs.Reading.{Gives, starts};
 ghost use Rattle.decl_grammar.specs.Form.{ats, many, maybe, turned};
-ghost use Rattle.decl_grammar.specs.Grammar.{silently, reads, package_part, annotated_package, semicolon, package_info, Info};
+ghost use Rattle.decl_grammar.specs.Types.{silently};
+ghost use Rattle.decl_grammar.specs.Grammar.{package_part, annotated_package, semicolon, package_info, Info};
+ghost use Rattle.decl_grammar.specs.Rule.{reads};
 ghost use Rattle.decl_parser.specs.FileShown.{package_view, package_seen, package_or_none, info_view};
 ghost use Rattle.decl_grammar.specs.File.{IsPhrase, IsShallow, phrase_at, Found, Missed, BadAt, DeepAt};
 

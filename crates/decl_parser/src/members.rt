@@ -2,7 +2,9 @@
 ghost use Rattle.std.specs.Prelude.{◌≡◌, ◌++◌, [], ◌∷◌, ℕ, Bool, List, length, IfOk, Ok, Some, None};
 ghost use Rattle.decl_grammar.specs.Reading.{Gives, has, starts};
 ghost use Rattle.decl_grammar.specs.Form.{ats, names, many, maybe, nest, type_arguments, turned};
-ghost use Rattle.decl_grammar.specs.Grammar.{reads, typed_member, constructed_or, typed_form, void_method, primitive_member, named_member, generic_method, annotated_method, generic_rest, generic, with_type_params, primitive_sorts};
+ghost use Rattle.decl_grammar.specs.Types.{primitive_sorts};
+ghost use Rattle.decl_grammar.specs.Members.{typed_member, constructed_or, typed_form, void_method, primitive_member, named_member, generic_method, annotated_method, generic_rest, generic, with_type_params};
+ghost use Rattle.decl_grammar.specs.Rule.{reads};
 ghost use Rattle.decl_parser.specs.MemberRows.{typed_at, constructed_at};
 
 use apt_base::{List, Name};
@@ -33,7 +35,7 @@ fn optional_arguments_of<'a, 's>(
 }
 
 // A member of a class type behind the first name of the type.
-#[tactic(auto, unfolding(decl_grammar::specs::Grammar::typed_member))]
+#[tactic(auto, unfolding(decl_grammar::specs::Members::typed_member))]
 fn typed_member_of<'a, 's>(
     alloc: Global,
     room: usize,
@@ -57,7 +59,7 @@ fn typed_member_of<'a, 's>(
 }
 
 // A constructor, or a member of a class type, behind its first name.
-#[tactic(auto, using(decl_types::proofs::MemberFirsts::constructor_signature_first), unfolding(decl_grammar::specs::Grammar::constructed_or))]
+#[tactic(auto, using(decl_types::proofs::MemberFirsts::constructor_signature_first), unfolding(decl_grammar::specs::Members::constructed_or))]
 fn constructed_or_of<'a, 's>(
     alloc: Global,
     room: usize,
@@ -76,7 +78,7 @@ fn constructed_or_of<'a, 's>(
 }
 
 /// A member that begins with a name.
-#[tactic(auto, unfolding(decl_grammar::specs::Grammar::named_member))]
+#[tactic(auto, unfolding(decl_grammar::specs::Members::named_member))]
 pub fn named_member_of<'a, 's>(
     alloc: Global,
     room: usize,
@@ -94,7 +96,7 @@ pub fn named_member_of<'a, 's>(
 }
 
 /// A method without a result.
-#[tactic(auto, unfolding(decl_grammar::specs::Grammar::void_method))]
+#[tactic(auto, unfolding(decl_grammar::specs::Members::void_method))]
 pub fn void_method_of<'a, 's>(
     alloc: Global,
     room: usize,
@@ -116,7 +118,7 @@ pub fn void_method_of<'a, 's>(
 }
 
 /// A member of a primitive type, or of an array of one.
-#[tactic(auto, unfolding(decl_grammar::specs::Grammar::primitive_member))]
+#[tactic(auto, unfolding(decl_grammar::specs::Members::primitive_member))]
 pub fn primitive_member_of<'a, 's>(
     alloc: Global,
     room: usize,
@@ -135,7 +137,7 @@ pub fn primitive_member_of<'a, 's>(
 }
 
 // A method behind type parameters and annotations.
-#[tactic(auto, using(decl_types::proofs::MemberFirsts::void_method_first, decl_types::proofs::MemberFirsts::primitive_method_first), unfolding(decl_grammar::specs::Grammar::generic_method))]
+#[tactic(auto, using(decl_types::proofs::MemberFirsts::void_method_first, decl_types::proofs::MemberFirsts::primitive_method_first), unfolding(decl_grammar::specs::Members::generic_method))]
 fn generic_method_of<'a, 's>(
     alloc: Global,
     room: usize,
@@ -153,7 +155,7 @@ fn generic_method_of<'a, 's>(
 }
 
 // A method behind type parameters, with annotations, of which there is one.
-#[tactic(auto, unfolding(decl_grammar::specs::Grammar::annotated_method))]
+#[tactic(auto, unfolding(decl_grammar::specs::Members::annotated_method))]
 fn annotated_method_of<'a, 's>(
     alloc: Global,
     room: usize,
@@ -167,7 +169,7 @@ fn annotated_method_of<'a, 's>(
 }
 
 // A method or a constructor behind type parameters.
-#[tactic(auto, using(decl_types::proofs::MemberFirsts::annotated_method_first, decl_types::proofs::MemberFirsts::void_method_first, decl_types::proofs::MemberFirsts::primitive_method_first), unfolding(decl_grammar::specs::Grammar::generic_rest))]
+#[tactic(auto, using(decl_types::proofs::MemberFirsts::annotated_method_first, decl_types::proofs::MemberFirsts::void_method_first, decl_types::proofs::MemberFirsts::primitive_method_first), unfolding(decl_grammar::specs::Members::generic_rest))]
 fn generic_rest_of<'a, 's>(
     alloc: Global,
     room: usize,
@@ -204,7 +206,7 @@ fn with_params(parameters: List<TypeParam>, unmodified: Unmodified) -> Unmodifie
 }
 
 /// A method or a constructor with type parameters (JLS 8.4.4, 8.8.4).
-#[tactic(auto, unfolding(decl_grammar::specs::Grammar::generic))]
+#[tactic(auto, unfolding(decl_grammar::specs::Members::generic))]
 pub fn generic_member_of<'a, 's>(
     alloc: Global,
     room: usize,

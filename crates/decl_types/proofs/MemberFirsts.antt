@@ -5,7 +5,9 @@ use Rattle.decl_tree.specs.declared.declaration.TypeKind.TheVariants as kind
 use Rattle.decl_grammar.specs.declared.written.MemberRest.{MemberRest}
 use Rattle.decl_grammar.specs.declared.written.MemberRest.TheVariants as rest_kind
 use Rattle.decl_grammar.specs.Form.{first, nullable, names, ats, first_of, nested_type}
-use Rattle.decl_grammar.specs.Grammar.{name, annotation, primitive_sorts, primitive_type, params, method_signature, constructor_signature, element_signature, next_declarator, void_method, primitive_member, named_member, annotated_method, type_params, generic, nested_member, unmodified_of, annotation_unmodified, optional_modifiers, plain_modified, modified_form, member_form}
+use Rattle.decl_grammar.specs.Types.{name, annotation, primitive_sorts, primitive_type, type_params, optional_modifiers}
+use Rattle.decl_grammar.specs.Members.{params, method_signature, constructor_signature, element_signature, next_declarator, void_method, primitive_member, named_member, annotated_method, generic}
+use Rattle.decl_grammar.specs.Grammar.{nested_member, unmodified_of, annotation_unmodified, plain_modified, modified_form, member_form}
 use Rattle.decl_types.specs.Members.{unmodified_firsts, element_firsts, modified_firsts, member_firsts, plain_firsts}
 
 pub method_signature_first : first method_signature ≡ 61 ∷ []

@@ -13,7 +13,10 @@ use Rattle.decl_grammar.specs.declared.written.Declarator.{Declarator}
 use Rattle.decl_tree.specs.declared.declaration.TypeKind.{TypeKind}
 use Rattle.decl_tree.specs.declared.declaration.TypeKind.TheVariants as kind
 use Rattle.decl_grammar.specs.Form.{Form, turned, first_of, nested_type, names, plain_words, modifier_words}
-use Rattle.decl_grammar.specs.Grammar.{Named, Typed, reads, rest_form, field_rest, next_declarator, next_type_param, next_argument, declarator_of, fields_named, method_named, joined_lists, primitive_sorts}
+use Rattle.decl_grammar.specs.Types.{next_type_param, next_argument, primitive_sorts}
+use Rattle.decl_grammar.specs.Members.{Named, Typed, rest_form, field_rest, next_declarator, declarator_of, fields_named, method_named}
+use Rattle.decl_grammar.specs.Grammar.{joined_lists}
+use Rattle.decl_grammar.specs.Rule.{reads}
 
 -- the member with this type and this name
 abbrev pub named_as : TypeText → List ℕ → Named → Unmodified

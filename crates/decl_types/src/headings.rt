@@ -4,7 +4,9 @@ ghost use Rattle.decl_grammar.specs.Reading.{Gives, has, starts, one_at};
 ghost use Rattle.decl_grammar.specs.Form.{ats, many, maybe, nest, import_rest, turned, with_front};
 ghost use Rattle.decl_types.specs.Members.{type_params_behind};
 ghost use Rattle.decl_grammar.specs.Rows.{row_behind, list_at};
-ghost use Rattle.decl_grammar.specs.Grammar.{list_or_none, reads, read_nest, annotated_class, next_bound, bounds, type_param, next_type_param, type_params, optional_params, next_class, classes, single_or, import_step, import_named, import_static, import_form, package_form, with_dot};
+ghost use Rattle.decl_grammar.specs.Types.{list_or_none, annotated_class, next_bound, bounds, type_param, next_type_param, type_params, optional_params, next_class, classes};
+ghost use Rattle.decl_grammar.specs.Grammar.{single_or, import_step, import_named, import_static, import_form, package_form, with_dot};
+ghost use Rattle.decl_grammar.specs.Rule.{reads, read_nest};
 
 use crate::types::annotated_class_of;
 use apt_base::{List, Name};
@@ -14,7 +16,7 @@ use decl_values::{annotations_of, begin, is_next, one, read_chain, read_name, st
 use std::alloc::Global;
 
 // A `&` and a further bound.
-#[tactic(auto, unfolding(decl_grammar::specs::Grammar::next_bound))]
+#[tactic(auto, unfolding(decl_grammar::specs::Types::next_bound))]
 fn next_bound_of<'a, 's>(
     alloc: Global,
     room: usize,
@@ -46,7 +48,7 @@ fn more_bounds_of<'a, 's>(
 }
 
 // The bounds of a type parameter.
-#[tactic(auto, unfolding(decl_grammar::specs::Grammar::bounds))]
+#[tactic(auto, unfolding(decl_grammar::specs::Types::bounds))]
 fn bounds_of<'a, 's>(
     alloc: Global,
     room: usize,
@@ -77,7 +79,7 @@ fn optional_bounds_of<'a, 's>(
 }
 
 // A type parameter.
-#[tactic(auto, unfolding(decl_grammar::specs::Grammar::type_param))]
+#[tactic(auto, unfolding(decl_grammar::specs::Types::type_param))]
 fn type_param_of<'a, 's>(
     alloc: Global,
     room: usize,
@@ -102,7 +104,7 @@ fn type_param_of<'a, 's>(
 }
 
 // A comma and a type parameter.
-#[tactic(auto, unfolding(decl_grammar::specs::Grammar::next_type_param))]
+#[tactic(auto, unfolding(decl_grammar::specs::Types::next_type_param))]
 fn next_type_param_of<'a, 's>(
     alloc: Global,
     room: usize,
@@ -134,7 +136,7 @@ fn more_type_params_of<'a, 's>(
 }
 
 /// Type parameters (JLS 8.1.2).
-#[tactic(auto, unfolding(decl_grammar::specs::Grammar::type_params))]
+#[tactic(auto, unfolding(decl_grammar::specs::Types::type_params))]
 pub fn type_params_of<'a, 's>(
     alloc: Global,
     room: usize,
@@ -152,7 +154,7 @@ pub fn type_params_of<'a, 's>(
 }
 
 /// Type parameters, where there are any.
-#[tactic(auto, using(decl_grammar::proofs::Firsts::type_params_first), unfolding(decl_grammar::specs::Grammar::optional_params))]
+#[tactic(auto, using(decl_grammar::proofs::Firsts::type_params_first), unfolding(decl_grammar::specs::Types::optional_params))]
 pub fn optional_params_of<'a, 's>(
     alloc: Global,
     room: usize,
@@ -167,7 +169,7 @@ pub fn optional_params_of<'a, 's>(
 }
 
 // A comma and a class type.
-#[tactic(auto, unfolding(decl_grammar::specs::Grammar::next_class))]
+#[tactic(auto, unfolding(decl_grammar::specs::Types::next_class))]
 fn next_class_of<'a, 's>(
     alloc: Global,
     room: usize,
@@ -199,7 +201,7 @@ fn more_classes_of<'a, 's>(
 }
 
 /// Class types with commas between them.
-#[tactic(auto, unfolding(decl_grammar::specs::Grammar::classes))]
+#[tactic(auto, unfolding(decl_grammar::specs::Types::classes))]
 pub fn classes_of<'a, 's>(
     alloc: Global,
     room: usize,

@@ -4,7 +4,9 @@ ghost use Rattle.decl_grammar.specs.declared.fault.ReadFault.TheVariants as faul
 ghost use Rattle.decl_grammar.specs.Reading.{Gives, has, starts, one_at};
 ghost use Rattle.decl_grammar.specs.Form.{ats, plain_words, modifier_words, many, maybe, nest, modifiers, plain_modifiers, static_word, turned};
 ghost use Rattle.decl_grammar.specs.Rows.{read_as, marks_behind};
-ghost use Rattle.decl_grammar.specs.Grammar.{reads, read_nest, keyword, bit_of, with_annotation, with_mark, with_marks, no_modifiers, modifier, plain_modifier, modifiers_form, modifiers_or_none, optional_modifiers, type_modifiers, param_modifier, param_modifiers};
+ghost use Rattle.decl_grammar.specs.Types.{keyword, bit_of, with_annotation, with_mark, with_marks, no_modifiers, modifier, plain_modifier, modifiers_form, modifiers_or_none, optional_modifiers, type_modifiers};
+ghost use Rattle.decl_grammar.specs.Members.{param_modifier, param_modifiers};
+ghost use Rattle.decl_grammar.specs.Rule.{reads, read_nest};
 
 use crate::types::modifier_annotation_of;
 use apt_base::List;
@@ -122,7 +124,7 @@ fn marked(front: Modifiers, annotation: AnnotationText) -> Result<Modifiers, Rea
 }
 
 // One modifier, put behind others.
-#[tactic(auto, using(decl_grammar::proofs::Firsts::modifier_annotation_first), unfolding(decl_grammar::specs::Grammar::modifier, decl_grammar::specs::Reading::one_at))]
+#[tactic(auto, using(decl_grammar::proofs::Firsts::modifier_annotation_first), unfolding(decl_grammar::specs::Types::modifier, decl_grammar::specs::Reading::one_at))]
 fn modifier_of<'a, 's>(
     alloc: Global,
     room: usize,
@@ -143,7 +145,7 @@ fn modifier_of<'a, 's>(
 }
 
 // One modifier that is not `static`, put behind others.
-#[tactic(auto, using(decl_grammar::proofs::Firsts::modifier_annotation_first), unfolding(decl_grammar::specs::Grammar::plain_modifier, decl_grammar::specs::Reading::one_at))]
+#[tactic(auto, using(decl_grammar::proofs::Firsts::modifier_annotation_first), unfolding(decl_grammar::specs::Types::plain_modifier, decl_grammar::specs::Reading::one_at))]
 fn plain_modifier_of<'a, 's>(
     alloc: Global,
     room: usize,
@@ -164,7 +166,7 @@ fn plain_modifier_of<'a, 's>(
 }
 
 // One modifier of a parameter, put behind others.
-#[tactic(auto, unfolding(decl_grammar::specs::Grammar::param_modifier, decl_grammar::specs::Reading::one_at))]
+#[tactic(auto, unfolding(decl_grammar::specs::Members::param_modifier, decl_grammar::specs::Reading::one_at))]
 fn param_modifier_of<'a, 's>(
     alloc: Global,
     room: usize,
@@ -241,7 +243,7 @@ pub fn none(alloc: Global) -> Modifiers
 }
 
 /// The modifiers of a type that is not nested.
-#[tactic(auto, unfolding(decl_grammar::specs::Grammar::type_modifiers))]
+#[tactic(auto, unfolding(decl_grammar::specs::Types::type_modifiers))]
 pub fn type_modifiers_of<'a, 's>(
     alloc: Global,
     room: usize,
@@ -253,7 +255,7 @@ pub fn type_modifiers_of<'a, 's>(
 }
 
 /// The modifiers of a parameter.
-#[tactic(auto, unfolding(decl_grammar::specs::Grammar::param_modifiers))]
+#[tactic(auto, unfolding(decl_grammar::specs::Members::param_modifiers))]
 pub fn param_modifiers_of<'a, 's>(
     alloc: Global,
     room: usize,
@@ -340,7 +342,7 @@ pub fn static_word_of<'a, 's>(
 }
 
 /// The modifiers of a member, where there are any.
-#[tactic(auto, unfolding(decl_grammar::specs::Grammar::optional_modifiers))]
+#[tactic(auto, unfolding(decl_grammar::specs::Types::optional_modifiers))]
 pub fn optional_modifiers_of<'a, 's>(
     alloc: Global,
     room: usize,

@@ -3,7 +3,9 @@ ghost use Rattle.std.specs.Prelude.{◌≡◌, ◌++◌, [], ◌∷◌, ℕ, Lis
 ghost use Rattle.decl_grammar.specs.declared.fault.ReadFault.TheVariants as faults;
 ghost use Rattle.decl_grammar.specs.Reading.{Gives, UnlessMemory, has, starts};
 ghost use Rattle.decl_grammar.specs.Form.{ats, names, many, maybe, nest, either, turn, param_rest, first_rest, turned};
-ghost use Rattle.decl_grammar.specs.Grammar.{reads, read_nest, param_of, named_end, receiver, dot_this, with_dims, some_dims, end_named, varargs, based, params_from, next_params, primitive_sorts, behind_annotations, first_params, params};
+ghost use Rattle.decl_grammar.specs.Types.{primitive_sorts};
+ghost use Rattle.decl_grammar.specs.Members.{param_of, named_end, receiver, dot_this, with_dims, some_dims, end_named, varargs, based, params_from, next_params, behind_annotations, first_params, params};
+ghost use Rattle.decl_grammar.specs.Rule.{reads, read_nest};
 ghost use Rattle.decl_types.specs.Params.{some_end, one_or_none, bracket_step, varargs_step, annotated_step, param_step, first_end, first_step, finished, params_behind, more_params, this_or_name, ReadsEndOf, ReadsParam, ReadsBased, ReadsFound};
 
 use crate::modifiers::{more_param_modifiers_of, param_modifiers_of};
@@ -31,7 +33,7 @@ fn bracket_step_of<'a, 's>(
 }
 
 // `...` and the name of a parameter.
-#[tactic(auto, unfolding(crate::specs::Params::varargs_step, decl_grammar::specs::Grammar::varargs))]
+#[tactic(auto, unfolding(crate::specs::Params::varargs_step, decl_grammar::specs::Members::varargs))]
 fn varargs_step_of<'a, 's>(
     alloc: Global,
     room: usize,
@@ -75,7 +77,7 @@ fn annotated_step_of<'a, 's>(
 }
 
 // A name and the brackets behind it.
-#[tactic(auto, unfolding(decl_grammar::specs::Grammar::named_end))]
+#[tactic(auto, unfolding(decl_grammar::specs::Members::named_end))]
 fn named_end_of<'a, 's>(
     alloc: Global,
     room: usize,
@@ -112,7 +114,7 @@ fn param_step_of<'a, 's>(
 }
 
 // `.` and `this`.
-#[tactic(auto, unfolding(decl_grammar::specs::Grammar::dot_this))]
+#[tactic(auto, unfolding(decl_grammar::specs::Members::dot_this))]
 fn dot_this_of<'a, 's>(
     room: usize,
     symbols: &'s [Symbol<'a>],
@@ -125,7 +127,7 @@ fn dot_this_of<'a, 's>(
 }
 
 // Pairs of brackets, of which there is one.
-#[tactic(auto, unfolding(decl_grammar::specs::Grammar::with_dims, decl_grammar::specs::Grammar::some_dims))]
+#[tactic(auto, unfolding(decl_grammar::specs::Members::with_dims, decl_grammar::specs::Members::some_dims))]
 fn some_dims_of<'a, 's>(
     alloc: Global,
     room: usize,
@@ -162,7 +164,7 @@ fn first_end_of<'a, 's>(
 }
 
 // `this`.
-#[tactic(auto, unfolding(decl_grammar::specs::Grammar::receiver))]
+#[tactic(auto, unfolding(decl_grammar::specs::Members::receiver))]
 fn receiver_of<'a, 's>(
     room: usize,
     symbols: &'s [Symbol<'a>],
@@ -460,7 +462,7 @@ fn starts_params(symbols: &[Symbol<'_>]) -> bool
 }
 
 /// Parameters in their brackets.
-#[tactic(auto, using(crate::proofs::ParamFirsts::first_params_first), unfolding(decl_grammar::specs::Grammar::params))]
+#[tactic(auto, using(crate::proofs::ParamFirsts::first_params_first), unfolding(decl_grammar::specs::Members::params))]
 pub fn params_of<'a, 's>(
     alloc: Global,
     room: usize,

@@ -2,7 +2,9 @@
 ghost use Rattle.std.specs.Prelude.{◌≡◌, ◌++◌, [], ◌∷◌, ℕ, List, length, IfOk, Ok, Some, None};
 ghost use Rattle.decl_grammar.specs.Reading.{Gives, starts};
 ghost use Rattle.decl_grammar.specs.Form.{many, maybe, nest, turned, with_front};
-ghost use Rattle.decl_grammar.specs.Grammar.{reads, dim, name, thrown, body, method_signature, constructor_signature, element_default, element_signature, next_declarator, field_rest, declarator_of, fields_named, method_named, rest_form};
+ghost use Rattle.decl_grammar.specs.Types.{dim, name};
+ghost use Rattle.decl_grammar.specs.Members.{thrown, body, method_signature, constructor_signature, element_default, element_signature, next_declarator, field_rest, declarator_of, fields_named, method_named, rest_form};
+ghost use Rattle.decl_grammar.specs.Rule.{reads};
 ghost use Rattle.decl_types.specs.Members.{declarators_behind, declarators_at, fields_at, method_at, rest_at};
 
 use crate::headings::classes_of;
@@ -15,7 +17,7 @@ use decl_values::{any_value_of, begin, is_next, one, read_name, read_over};
 use std::alloc::Global;
 
 // The types behind `throws`.
-#[tactic(auto, unfolding(decl_grammar::specs::Grammar::thrown))]
+#[tactic(auto, unfolding(decl_grammar::specs::Members::thrown))]
 fn thrown_of<'a, 's>(
     alloc: Global,
     room: usize,
@@ -31,7 +33,7 @@ fn thrown_of<'a, 's>(
 }
 
 // What is behind the body of a method, or behind the `;` in place of it.
-#[tactic(auto, unfolding(decl_grammar::specs::Grammar::body))]
+#[tactic(auto, unfolding(decl_grammar::specs::Members::body))]
 fn body_of<'a, 's>(
     alloc: Global,
     room: usize,
@@ -47,7 +49,7 @@ fn body_of<'a, 's>(
 }
 
 /// What stands behind the name of a method.
-#[tactic(auto, unfolding(decl_grammar::specs::Grammar::method_signature))]
+#[tactic(auto, unfolding(decl_grammar::specs::Members::method_signature))]
 pub fn method_signature_of<'a, 's>(
     alloc: Global,
     room: usize,
@@ -74,7 +76,7 @@ pub fn method_signature_of<'a, 's>(
 }
 
 /// What stands behind the name of a constructor.
-#[tactic(auto, unfolding(decl_grammar::specs::Grammar::constructor_signature))]
+#[tactic(auto, unfolding(decl_grammar::specs::Members::constructor_signature))]
 pub fn constructor_signature_of<'a, 's>(
     alloc: Global,
     room: usize,
@@ -100,7 +102,7 @@ pub fn constructor_signature_of<'a, 's>(
 }
 
 // The value behind `default`, where there is one.
-#[tactic(auto, unfolding(decl_grammar::specs::Grammar::element_default))]
+#[tactic(auto, unfolding(decl_grammar::specs::Members::element_default))]
 fn element_default_of<'a, 's>(
     alloc: Global,
     room: usize,
@@ -117,7 +119,7 @@ fn element_default_of<'a, 's>(
 }
 
 // What stands behind the name of an element of an annotation interface.
-#[tactic(auto, unfolding(decl_grammar::specs::Grammar::element_signature))]
+#[tactic(auto, unfolding(decl_grammar::specs::Members::element_signature))]
 fn element_signature_of<'a, 's>(
     alloc: Global,
     room: usize,
@@ -148,7 +150,7 @@ fn element_signature_of<'a, 's>(
 }
 
 // A comma, and a name with its brackets.
-#[tactic(auto, unfolding(decl_grammar::specs::Grammar::next_declarator))]
+#[tactic(auto, unfolding(decl_grammar::specs::Members::next_declarator))]
 fn next_declarator_of<'a, 's>(
     alloc: Global,
     room: usize,
@@ -184,7 +186,7 @@ fn more_declarators_of<'a, 's>(
 }
 
 // The names of fields, of which the first is known.
-#[tactic(auto, unfolding(decl_grammar::specs::Grammar::field_rest))]
+#[tactic(auto, unfolding(decl_grammar::specs::Members::field_rest))]
 fn field_rest_of<'a, 's>(
     alloc: Global,
     room: usize,

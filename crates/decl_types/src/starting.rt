@@ -2,7 +2,7 @@
 ghost use Rattle.std.specs.Prelude.{◌≡◌, ◌++◌, [], ◌∷◌, List};
 ghost use Rattle.decl_grammar.specs.Reading.{has, starts};
 ghost use Rattle.decl_grammar.specs.Form.{names, plain_words, modifier_words, first_of, nested_type};
-ghost use Rattle.decl_grammar.specs.Grammar.{primitive_sorts};
+ghost use Rattle.decl_grammar.specs.Types.{primitive_sorts};
 ghost use Rattle.decl_types.specs.Members.{unmodified_firsts, element_firsts, modifier_firsts, plain_firsts, modified_firsts, block_or, member_firsts};
 
 use crate::modifiers::{is_modifier_word, is_plain_word};

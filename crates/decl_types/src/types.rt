@@ -4,7 +4,8 @@ ghost use Rattle.decl_grammar.specs.Reading.{Gives, has, starts, one_at};
 ghost use Rattle.decl_grammar.specs.Form.{ats, many, maybe, nest, pair, type_arguments, turned, with_front};
 ghost use Rattle.decl_types.specs.Members.{arguments_behind};
 ghost use Rattle.decl_grammar.specs.Rows.{read_as, row_behind};
-ghost use Rattle.decl_grammar.specs.Grammar.{list_or_none, reads, read_nest, annotation, annotations, modifier_annotation, primitive_sorts, primitive_type, named_part, next_part, class_type, dim, base_type, type_form, reference, wildcard_bound, type_argument, next_argument, arguments_form, annotated_class, annotated_reference, class_array, primitive_array, wildcard, bounded_text, type_in, kind_of_word};
+ghost use Rattle.decl_grammar.specs.Types.{list_or_none, annotation, annotations, modifier_annotation, primitive_sorts, primitive_type, named_part, next_part, class_type, dim, base_type, type_form, reference, wildcard_bound, type_argument, next_argument, arguments_form, annotated_class, annotated_reference, class_array, primitive_array, wildcard, bounded_text, type_in, kind_of_word};
+ghost use Rattle.decl_grammar.specs.Rule.{reads, read_nest};
 ghost use Rattle.decl_grammar.specs.declared.fault.ReadFault.TheVariants as faults;
 
 use apt_base::{List, Name};
@@ -17,7 +18,7 @@ use decl_values::{
 use std::alloc::Global;
 
 /// An annotation where the `@` of an annotation interface begins none.
-#[tactic(auto, unfolding(decl_grammar::specs::Grammar::modifier_annotation))]
+#[tactic(auto, unfolding(decl_grammar::specs::Types::modifier_annotation))]
 pub fn modifier_annotation_of<'a, 's>(
     alloc: Global,
     room: usize,
@@ -64,7 +65,7 @@ fn kind_of_sort(sort: u8) -> PrimitiveKind
 }
 
 /// A primitive type (JLS 4.2).
-#[tactic(auto, unfolding(decl_grammar::specs::Grammar::primitive_type, decl_grammar::specs::Reading::one_at))]
+#[tactic(auto, unfolding(decl_grammar::specs::Types::primitive_type, decl_grammar::specs::Reading::one_at))]
 pub fn primitive_type_of<'a, 's>(
     room: usize,
     symbols: &'s [Symbol<'a>],
@@ -84,7 +85,7 @@ pub fn primitive_type_of<'a, 's>(
 
 // A name of a class type, and its type arguments.
 #[cycle(types)]
-#[tactic(auto, unfolding(decl_grammar::specs::Grammar::named_part))]
+#[tactic(auto, unfolding(decl_grammar::specs::Types::named_part))]
 fn named_part_of<'a, 's>(
     alloc: Global,
     room: usize,
@@ -105,7 +106,7 @@ fn named_part_of<'a, 's>(
 
 // A dot, annotations, and a name with its type arguments.
 #[cycle(types)]
-#[tactic(auto, unfolding(decl_grammar::specs::Grammar::next_part))]
+#[tactic(auto, unfolding(decl_grammar::specs::Types::next_part))]
 fn next_part_of<'a, 's>(
     alloc: Global,
     room: usize,
@@ -140,7 +141,7 @@ pub fn more_parts_of<'a, 's>(
 
 /// A class type (JLS 4.3): its names, which dots join.
 #[cycle(types)]
-#[tactic(auto, unfolding(decl_grammar::specs::Grammar::class_type))]
+#[tactic(auto, unfolding(decl_grammar::specs::Types::class_type))]
 pub fn class_type_of<'a, 's>(
     alloc: Global,
     room: usize,
@@ -155,7 +156,7 @@ pub fn class_type_of<'a, 's>(
 }
 
 /// A pair of brackets, and annotations before it.
-#[tactic(auto, unfolding(decl_grammar::specs::Grammar::dim))]
+#[tactic(auto, unfolding(decl_grammar::specs::Types::dim))]
 pub fn dim_of<'a, 's>(
     alloc: Global,
     room: usize,
@@ -209,7 +210,7 @@ pub fn dims_of<'a, 's>(
 }
 
 /// A type without what stands around it.
-#[tactic(auto, using(decl_grammar::proofs::Firsts::primitive_type_first), unfolding(decl_grammar::specs::Grammar::base_type))]
+#[tactic(auto, using(decl_grammar::proofs::Firsts::primitive_type_first), unfolding(decl_grammar::specs::Types::base_type))]
 pub fn base_type_of<'a, 's>(
     alloc: Global,
     room: usize,
@@ -226,7 +227,7 @@ pub fn base_type_of<'a, 's>(
 }
 
 // An array of a primitive type.
-#[tactic(auto, unfolding(decl_grammar::specs::Grammar::primitive_array))]
+#[tactic(auto, unfolding(decl_grammar::specs::Types::primitive_array))]
 fn primitive_array_of<'a, 's>(
     alloc: Global,
     room: usize,
@@ -246,7 +247,7 @@ fn primitive_array_of<'a, 's>(
 
 // A class type, or an array of one.
 #[cycle(types)]
-#[tactic(auto, unfolding(decl_grammar::specs::Grammar::class_array))]
+#[tactic(auto, unfolding(decl_grammar::specs::Types::class_array))]
 fn class_array_of<'a, 's>(
     alloc: Global,
     room: usize,
@@ -263,7 +264,7 @@ fn class_array_of<'a, 's>(
 
 // A class type or an array, as its base and what stands around it.
 #[cycle(types)]
-#[tactic(auto, using(decl_grammar::proofs::Firsts::class_array_first), unfolding(decl_grammar::specs::Grammar::reference))]
+#[tactic(auto, using(decl_grammar::proofs::Firsts::class_array_first), unfolding(decl_grammar::specs::Types::reference))]
 fn reference_of<'a, 's>(
     alloc: Global,
     room: usize,
@@ -279,7 +280,7 @@ fn reference_of<'a, 's>(
 
 // Annotations, and a class type or an array.
 #[cycle(types)]
-#[tactic(auto, unfolding(decl_grammar::specs::Grammar::annotated_reference))]
+#[tactic(auto, unfolding(decl_grammar::specs::Types::annotated_reference))]
 fn annotated_reference_of<'a, 's>(
     alloc: Global,
     room: usize,
@@ -305,7 +306,7 @@ fn within(alloc: Global, item: Around, text: TypeText) -> Result<TypeText, ReadF
 
 // The bound of a wildcard.
 #[cycle(types)]
-#[tactic(auto, unfolding(decl_grammar::specs::Grammar::wildcard_bound))]
+#[tactic(auto, unfolding(decl_grammar::specs::Types::wildcard_bound))]
 fn wildcard_bound_of<'a, 's>(
     alloc: Global,
     room: usize,
@@ -332,7 +333,7 @@ fn starts_bound(symbols: &[Symbol<'_>]) -> bool
 
 // A wildcard (JLS 4.5.1).
 #[cycle(types)]
-#[tactic(auto, using(decl_grammar::proofs::Firsts::wildcard_bound_first), unfolding(decl_grammar::specs::Grammar::wildcard))]
+#[tactic(auto, using(decl_grammar::proofs::Firsts::wildcard_bound_first), unfolding(decl_grammar::specs::Types::wildcard))]
 fn wildcard_of<'a, 's>(
     alloc: Global,
     room: usize,
@@ -351,7 +352,7 @@ fn wildcard_of<'a, 's>(
 
 // A type argument.
 #[cycle(types)]
-#[tactic(auto, using(decl_grammar::proofs::Firsts::wildcard_first), unfolding(decl_grammar::specs::Grammar::type_argument))]
+#[tactic(auto, using(decl_grammar::proofs::Firsts::wildcard_first), unfolding(decl_grammar::specs::Types::type_argument))]
 fn type_argument_of<'a, 's>(
     alloc: Global,
     room: usize,
@@ -368,7 +369,7 @@ fn type_argument_of<'a, 's>(
 
 // A comma and a type argument.
 #[cycle(types)]
-#[tactic(auto, unfolding(decl_grammar::specs::Grammar::next_argument))]
+#[tactic(auto, unfolding(decl_grammar::specs::Types::next_argument))]
 fn next_argument_of<'a, 's>(
     alloc: Global,
     room: usize,
@@ -402,7 +403,7 @@ fn more_arguments_of<'a, 's>(
 
 // A list of type arguments, where so much may be open in it.
 #[cycle(types)]
-#[tactic(auto, unfolding(decl_grammar::specs::Grammar::arguments_form))]
+#[tactic(auto, unfolding(decl_grammar::specs::Types::arguments_form))]
 fn arguments_in<'a, 's>(
     alloc: Global,
     room: usize,
@@ -435,7 +436,7 @@ pub fn type_arguments_of<'a, 's>(
 }
 
 /// A type (JLS 8.3).
-#[tactic(auto, unfolding(decl_grammar::specs::Grammar::type_form))]
+#[tactic(auto, unfolding(decl_grammar::specs::Types::type_form))]
 pub fn type_of<'a, 's>(
     alloc: Global,
     room: usize,
@@ -450,7 +451,7 @@ pub fn type_of<'a, 's>(
 }
 
 /// Annotations, which are passed over, and a class type.
-#[tactic(auto, unfolding(decl_grammar::specs::Grammar::annotated_class))]
+#[tactic(auto, unfolding(decl_grammar::specs::Types::annotated_class))]
 pub fn annotated_class_of<'a, 's>(
     alloc: Global,
     room: usize,

@@ -9,7 +9,9 @@ use Rattle.decl_grammar.specs.declared.fault.ReadFault.{ReadFault}
 use Rattle.decl_grammar.specs.declared.fault.ReadFault.TheVariants as faults
 use Rattle.decl_grammar.specs.Reading.{starts, Outcome, done, fault, deep, ◌>>=◌, Fails, one_at}
 use Rattle.decl_grammar.specs.Form.{names, ImportRest, import_rest, maybe, nest, turned}
-use Rattle.decl_grammar.specs.Grammar.{reads, read_nest, name, no_name, single_or, with_dot, import_as, deeper_import, on_demand, import_step, import_rest_form}
+use Rattle.decl_grammar.specs.Types.{name}
+use Rattle.decl_grammar.specs.Grammar.{no_name, single_or, with_dot, import_as, deeper_import, on_demand, import_step, import_rest_form}
+use Rattle.decl_grammar.specs.Rule.{reads, read_nest}
 use Rattle.decl_grammar.proofs.Nests.{free-is}
 use Rattle.decl_grammar.proofs.Loop.{falls}
 

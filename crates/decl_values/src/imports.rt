@@ -3,7 +3,9 @@ ghost use Rattle.std.specs.Prelude.{◌≡◌, ◌++◌, [], ◌∷◌, ℕ, Lis
 ghost use Rattle.decl_grammar.specs.Reading.{Gives, has, starts, one_at};
 ghost use Rattle.decl_grammar.specs.Form.{names, many, maybe, nest, import_rest, turned, with_front};
 ghost use Rattle.decl_grammar.specs.Rows.{name_seen, row_behind, import_behind, deeper_behind};
-ghost use Rattle.decl_grammar.specs.Grammar.{list_or_none, reads, read_nest, single_or, import_step, import_named, import_static, static_import, import_form, with_dot};
+ghost use Rattle.decl_grammar.specs.Types.{list_or_none};
+ghost use Rattle.decl_grammar.specs.Grammar.{single_or, import_step, import_named, import_static, static_import, import_form, with_dot};
+ghost use Rattle.decl_grammar.specs.Rule.{reads, read_nest};
 
 use crate::names::{read_name, starts_name};
 use crate::steps::{begin, is_next, one};

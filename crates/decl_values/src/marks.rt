@@ -3,7 +3,8 @@ ghost use Rattle.std.specs.Prelude.{◌≡◌, ◌++◌, [], ◌∷◌, List, le
 ghost use Rattle.decl_grammar.specs.Reading.{Gives};
 ghost use Rattle.decl_grammar.specs.Form.{many, with_front};
 ghost use Rattle.decl_grammar.specs.Rows.{row_behind};
-ghost use Rattle.decl_grammar.specs.Grammar.{reads, annotation, annotations};
+ghost use Rattle.decl_grammar.specs.Types.{annotation, annotations};
+ghost use Rattle.decl_grammar.specs.Rule.{reads};
 
 use crate::steps::begin;
 use crate::values::{annotation_of, starts_annotation};
@@ -31,7 +32,7 @@ fn more_annotations_of<'a, 's>(
 }
 
 /// The annotations that stand here.
-#[tactic(auto, using(decl_grammar::proofs::Loop::starts_with), unfolding(decl_grammar::specs::Grammar::annotations))]
+#[tactic(auto, using(decl_grammar::proofs::Loop::starts_with), unfolding(decl_grammar::specs::Types::annotations))]
 pub fn annotations_of<'a, 's>(
     alloc: Global,
     room: usize,

@@ -4,7 +4,8 @@ ghost use Rattle.decl_grammar.specs.Reading.{Gives, has, one_at, starts};
 ghost use Rattle.decl_grammar.specs.Form.{names, many, turned};
 ghost use Rattle.decl_grammar.specs.Constants.{more_dotted};
 ghost use Rattle.decl_grammar.specs.Rows.{names_behind};
-ghost use Rattle.decl_grammar.specs.Grammar.{reads, name, dot_name, name_chain};
+ghost use Rattle.decl_grammar.specs.Types.{name, dot_name, name_chain};
+ghost use Rattle.decl_grammar.specs.Rule.{reads};
 
 use crate::steps::{begin, is_next, one};
 use apt_base::Name;
@@ -29,7 +30,7 @@ pub fn starts_name(symbols: &[Symbol<'_>]) -> bool
 }
 
 /// A name (JLS 3.8).
-#[tactic(auto, unfolding(decl_grammar::specs::Reading::one_at, decl_grammar::specs::Grammar::name))]
+#[tactic(auto, unfolding(decl_grammar::specs::Reading::one_at, decl_grammar::specs::Types::name))]
 pub fn read_name<'a, 's>(
     room: usize,
     symbols: &'s [Symbol<'a>],
@@ -49,7 +50,7 @@ pub fn read_name<'a, 's>(
 }
 
 // A `.` and a name.
-#[tactic(auto, unfolding(decl_grammar::specs::Grammar::dot_name))]
+#[tactic(auto, unfolding(decl_grammar::specs::Types::dot_name))]
 fn read_dot_name<'a, 's>(
     room: usize,
     symbols: &'s [Symbol<'a>],
@@ -61,7 +62,7 @@ fn read_dot_name<'a, 's>(
 }
 
 /// Names that dots join, as one text (JLS 6.5).
-#[tactic(auto, unfolding(decl_grammar::specs::Grammar::name_chain))]
+#[tactic(auto, unfolding(decl_grammar::specs::Types::name_chain))]
 pub fn read_chain<'a, 's>(
     alloc: Global,
     room: usize,

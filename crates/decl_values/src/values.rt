@@ -5,7 +5,9 @@ ghost use Rattle.decl_grammar.specs.Symbols.{numbers, operator};
 ghost use Rattle.decl_grammar.specs.Reading.{Gives, Fails, has, starts, openers, skip, deep, fault, one_at, Outcome};
 ghost use Rattle.decl_grammar.specs.Form.{ats, dots, value_names, value_firsts, any_value, lone_value, first_name, array_rest, expression_signs, expression_firsts, many, maybe, nest, turned, with_front};
 ghost use Rattle.decl_grammar.specs.Rows.{row_behind, list_at, values_behind};
-ghost use Rattle.decl_grammar.specs.Grammar.{silently, named_text, list_or_none, comma_item, reads, read_nest, later_sorts, later_item, first_item, expression, value_from, array, array_values, some_values, annotation, annotation_body, annotation_arguments, pairs_or_value, pairs, first_pair, next_pair};
+ghost use Rattle.decl_grammar.specs.Types.{silently, named_text, list_or_none, comma_item, annotation, annotation_body, annotation_arguments, pairs_or_value, pairs, first_pair, next_pair};
+ghost use Rattle.decl_grammar.specs.Expressions.{later_sorts, later_item, first_item, expression, value_from, array, array_values, some_values};
+ghost use Rattle.decl_grammar.specs.Rule.{reads, read_nest};
 
 use crate::constants::expression_value;
 use crate::names::{read_chain, read_name};
@@ -137,7 +139,7 @@ fn starts_later(symbols: &[Symbol<'_>]) -> bool
 }
 
 // What is behind the first item of an expression.
-#[tactic(auto, unfolding(decl_grammar::specs::Reading::one_at, decl_grammar::specs::Grammar::first_item))]
+#[tactic(auto, unfolding(decl_grammar::specs::Reading::one_at, decl_grammar::specs::Expressions::first_item))]
 fn first_item_of<'a, 's>(
     alloc: Global,
     room: usize,
@@ -155,7 +157,7 @@ fn first_item_of<'a, 's>(
 }
 
 // What is behind a further item of an expression.
-#[tactic(auto, unfolding(decl_grammar::specs::Reading::one_at, decl_grammar::specs::Grammar::later_item))]
+#[tactic(auto, unfolding(decl_grammar::specs::Reading::one_at, decl_grammar::specs::Expressions::later_item))]
 fn later_item_of<'a, 's>(
     alloc: Global,
     room: usize,
@@ -262,7 +264,7 @@ fn starts_item(symbols: &[Symbol<'_>]) -> bool
 }
 
 // An expression.
-#[tactic(auto, unfolding(decl_grammar::specs::Grammar::expression))]
+#[tactic(auto, unfolding(decl_grammar::specs::Expressions::expression))]
 fn expression_in<'a, 's>(
     alloc: Global,
     room: usize,
@@ -279,7 +281,7 @@ fn expression_in<'a, 's>(
 
 // A value, where so much may be open in it.
 #[cycle(values)]
-#[tactic(auto, using(decl_grammar::proofs::Firsts::array_first, decl_grammar::proofs::Firsts::annotation_first), unfolding(decl_grammar::specs::Grammar::value_from))]
+#[tactic(auto, using(decl_grammar::proofs::Firsts::array_first, decl_grammar::proofs::Firsts::annotation_first), unfolding(decl_grammar::specs::Expressions::value_from))]
 fn value_in<'a, 's>(
     alloc: Global,
     room: usize,
@@ -329,7 +331,7 @@ fn lone_value_of<'a, 's>(
 }
 
 // A name as a text of its own.
-#[tactic(auto, unfolding(decl_grammar::specs::Grammar::named_text))]
+#[tactic(auto, unfolding(decl_grammar::specs::Types::named_text))]
 fn named_text_of<'a, 's>(
     room: usize,
     symbols: &'s [Symbol<'a>],
@@ -395,7 +397,7 @@ fn more_values_of<'a, 's>(
 
 // Values with commas between them, and maybe one behind the last.
 #[cycle(values)]
-#[tactic(auto, unfolding(decl_grammar::specs::Grammar::some_values))]
+#[tactic(auto, unfolding(decl_grammar::specs::Expressions::some_values))]
 fn some_values_of<'a, 's>(
     alloc: Global,
     room: usize,
@@ -411,7 +413,7 @@ fn some_values_of<'a, 's>(
 
 // An array of values.
 #[cycle(values)]
-#[tactic(auto, using(decl_grammar::proofs::Firsts::array_values_first), unfolding(decl_grammar::specs::Grammar::array))]
+#[tactic(auto, using(decl_grammar::proofs::Firsts::array_values_first), unfolding(decl_grammar::specs::Expressions::array))]
 fn array_of<'a, 's>(
     alloc: Global,
     room: usize,
@@ -438,7 +440,7 @@ fn starts_array_values(symbols: &[Symbol<'_>]) -> bool
 
 // The values of an array, of which there is one, or a comma alone.
 #[cycle(values)]
-#[tactic(auto, using(decl_grammar::proofs::Firsts::some_values_first), unfolding(decl_grammar::specs::Grammar::array_values))]
+#[tactic(auto, using(decl_grammar::proofs::Firsts::some_values_first), unfolding(decl_grammar::specs::Expressions::array_values))]
 fn array_values_of<'a, 's>(
     alloc: Global,
     room: usize,
@@ -456,7 +458,7 @@ fn array_values_of<'a, 's>(
 /// An annotation behind its `@` (JLS 9.7): its name and its values. `Bad` where the symbols stop being one, `Deep` where more than 200 values are
 /// open at once, `Memory` for want of memory.
 #[cycle(values)]
-#[tactic(auto, unfolding(decl_grammar::specs::Grammar::annotation_body, decl_grammar::specs::Grammar::annotation_arguments))]
+#[tactic(auto, unfolding(decl_grammar::specs::Types::annotation_body, decl_grammar::specs::Types::annotation_arguments))]
 pub fn annotation_body_of<'a, 's>(
     alloc: Global,
     room: usize,
@@ -476,7 +478,7 @@ pub fn annotation_body_of<'a, 's>(
 
 /// An annotation (JLS 9.7).
 #[cycle(values)]
-#[tactic(auto, unfolding(decl_grammar::specs::Grammar::annotation, decl_grammar::specs::Reading::one_at))]
+#[tactic(auto, unfolding(decl_grammar::specs::Types::annotation, decl_grammar::specs::Reading::one_at))]
 pub fn annotation_of<'a, 's>(
     alloc: Global,
     room: usize,
@@ -494,7 +496,7 @@ pub fn annotation_of<'a, 's>(
 
 // The values of an annotation, in their brackets.
 #[cycle(values)]
-#[tactic(auto, unfolding(decl_grammar::specs::Grammar::annotation_arguments))]
+#[tactic(auto, unfolding(decl_grammar::specs::Types::annotation_arguments))]
 fn arguments_of<'a, 's>(
     alloc: Global,
     room: usize,
@@ -510,7 +512,7 @@ fn arguments_of<'a, 's>(
 
 // Pairs, or a value alone, or nothing.
 #[cycle(values)]
-#[tactic(auto, unfolding(decl_grammar::specs::Grammar::pairs_or_value, decl_grammar::specs::Grammar::pairs, decl_grammar::specs::Grammar::first_pair))]
+#[tactic(auto, unfolding(decl_grammar::specs::Types::pairs_or_value, decl_grammar::specs::Types::pairs, decl_grammar::specs::Types::first_pair))]
 fn pairs_or_value_of<'a, 's>(
     alloc: Global,
     room: usize,
@@ -533,7 +535,7 @@ fn pairs_or_value_of<'a, 's>(
 
 // Pairs with commas between them.
 #[cycle(values)]
-#[tactic(auto, unfolding(decl_grammar::specs::Grammar::pairs))]
+#[tactic(auto, unfolding(decl_grammar::specs::Types::pairs))]
 fn pairs_of<'a, 's>(
     alloc: Global,
     room: usize,
@@ -549,7 +551,7 @@ fn pairs_of<'a, 's>(
 
 // The first pair.
 #[cycle(values)]
-#[tactic(auto, unfolding(decl_grammar::specs::Grammar::first_pair))]
+#[tactic(auto, unfolding(decl_grammar::specs::Types::first_pair))]
 fn first_pair_of<'a, 's>(
     alloc: Global,
     room: usize,
@@ -566,7 +568,7 @@ fn first_pair_of<'a, 's>(
 
 // A comma and a pair.
 #[cycle(values)]
-#[tactic(auto, unfolding(decl_grammar::specs::Grammar::next_pair))]
+#[tactic(auto, unfolding(decl_grammar::specs::Types::next_pair))]
 fn next_pair_of<'a, 's>(
     alloc: Global,
     room: usize,

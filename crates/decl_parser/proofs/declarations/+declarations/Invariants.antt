@@ -1,6 +1,7 @@
 use Rattle.std.proofs.Common.{◌≡◌, ◌+◌, ◌*◌, length}
 use Rattle.decl_grammar.specs.Form.{many, turned}
-use Rattle.decl_grammar.specs.Grammar.{reads, member_form}
+use Rattle.decl_grammar.specs.Grammar.{member_form}
+use Rattle.decl_grammar.specs.Rule.{reads}
 use Rattle.decl_types.specs.Members.{with_members}
 use Rattle.decl_parser.proofs.declarations.+declarations.Given as goal
 

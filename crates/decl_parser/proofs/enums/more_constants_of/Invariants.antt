@@ -1,6 +1,7 @@
 use Rattle.std.proofs.Common.{◌≡◌, length}
 use Rattle.decl_grammar.specs.Form.{maybe, nest, enum_rest, turned, with_front}
-use Rattle.decl_grammar.specs.Grammar.{reads, list_or_none}
+use Rattle.decl_grammar.specs.Types.{list_or_none}
+use Rattle.decl_grammar.specs.Rule.{reads}
 use Rattle.decl_parser.proofs.enums.more_constants_of.Given as goal
 
 abbrev pub invariant-row : goal.invariant-row

@@ -1,6 +1,7 @@
 use Rattle.std.proofs.Common.{refl, ◌∙◌, sym}
 use Rattle.std.proofs.lemmas.Result.{err_from_is_err_and}
-use Rattle.decl_grammar.specs.Grammar.{silently, semicolon}
+use Rattle.decl_grammar.specs.Types.{silently}
+use Rattle.decl_grammar.specs.Grammar.{semicolon}
 use Rattle.decl_grammar.proofs.Loop.{falls, goes_on, ends, stops}
 use Rattle.decl_parser.proofs.info.semicolons_of.Goals as goal
 

@@ -1,6 +1,8 @@
 use Rattle.std.proofs.Common.{◌≡◌, length}
 use Rattle.decl_grammar.specs.Form.{many, turned}
-use Rattle.decl_grammar.specs.Grammar.{silently, reads, semicolon}
+use Rattle.decl_grammar.specs.Types.{silently}
+use Rattle.decl_grammar.specs.Grammar.{semicolon}
+use Rattle.decl_grammar.specs.Rule.{reads}
 use Rattle.decl_parser.proofs.info.semicolons_of.Given as goal
 
 abbrev pub invariant-row : goal.invariant-row

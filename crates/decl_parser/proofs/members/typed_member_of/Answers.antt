@@ -3,7 +3,8 @@ use Rattle.decl_tree.specs.declared.type_text.BaseType.TheVariants as base
 use Rattle.decl_grammar.specs.Reading.{done}
 use Rattle.decl_grammar.specs.Form.{turned}
 use Rattle.decl_grammar.specs.Constants.{named_part_of, type_of}
-use Rattle.decl_grammar.specs.Grammar.{reads, rest_form}
+use Rattle.decl_grammar.specs.Members.{rest_form}
+use Rattle.decl_grammar.specs.Rule.{reads}
 use Rattle.decl_types.specs.Members.{named_as}
 use Rattle.decl_parser.proofs.TypedMembers.{typed-joined, gives-moved}
 use Rattle.decl_parser.proofs.members.typed_member_of.Goals as goal

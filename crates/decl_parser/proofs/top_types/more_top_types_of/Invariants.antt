@@ -1,6 +1,7 @@
 use Rattle.std.proofs.Common.{◌≡◌, length}
 use Rattle.decl_grammar.specs.Form.{many, with_front}
-use Rattle.decl_grammar.specs.Grammar.{reads, top_type}
+use Rattle.decl_grammar.specs.Grammar.{top_type}
+use Rattle.decl_grammar.specs.Rule.{reads}
 use Rattle.decl_parser.proofs.top_types.more_top_types_of.Given as goal
 
 abbrev pub invariant-row : goal.invariant-row

@@ -1,7 +1,7 @@
 use Rattle.std.proofs.Common.{◌≡◌, ℕ, List, refl, ◌∙◌, sym, ap}
 use Rattle.std.proofs.lemmas.Result.{err_from_is_err_and}
 use Rattle.decl_grammar.specs.Reading.{starts}
-use Rattle.decl_grammar.specs.Grammar.{next_class}
+use Rattle.decl_grammar.specs.Types.{next_class}
 use Rattle.decl_grammar.proofs.Firsts.{next_class_full, next_class_first}
 use Rattle.decl_grammar.proofs.Loop.{falls, gathers, ends, gathered}
 use Rattle.decl_types.proofs.headings.more_classes_of.Goals as goal

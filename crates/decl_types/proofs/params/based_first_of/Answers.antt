@@ -1,6 +1,7 @@
 use Rattle.std.proofs.Common.{refl, arith, ◌∙◌, sym}
 use Rattle.decl_grammar.specs.Form.{first_rest}
-use Rattle.decl_grammar.specs.Grammar.{base_type, read_nest, reads}
+use Rattle.decl_grammar.specs.Types.{base_type}
+use Rattle.decl_grammar.specs.Rule.{read_nest, reads}
 use Rattle.std.proofs.lemmas.Result.{err_from_is_err_and}
 use Rattle.decl_grammar.proofs.Nests.{fewer}
 use Rattle.decl_types.proofs.ParamRows.{based-ends, based-fails, based-end-fails}

@@ -1,6 +1,6 @@
 use Rattle.std.proofs.Common.{◌≡◌, ◌≤◌, length}
 use Rattle.decl_grammar.specs.Form.{first_rest, turned}
-use Rattle.decl_grammar.specs.Grammar.{read_nest}
+use Rattle.decl_grammar.specs.Rule.{read_nest}
 use Rattle.decl_types.specs.Params.{with_items}
 use Rattle.decl_types.proofs.params.first_param_end_of.Given as goal
 

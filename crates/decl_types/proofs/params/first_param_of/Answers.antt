@@ -1,6 +1,6 @@
 use Rattle.std.proofs.lemmas.Result.{err_from_is_err_and}
 use Rattle.std.proofs.Common.{refl, arith, ◌∙◌, sym}
-use Rattle.decl_grammar.specs.Grammar.{annotations}
+use Rattle.decl_grammar.specs.Types.{annotations}
 use Rattle.decl_grammar.proofs.Nests.{fewer}
 use Rattle.decl_types.proofs.ParamRows.{first-joined, first-fails, param-moved}
 use Rattle.decl_types.proofs.params.first_param_of.Goals as goal

@@ -1,7 +1,7 @@
 use Rattle.std.proofs.Common.{refl, arith, ◌∙◌, sym, ap, length}
 use Rattle.std.proofs.lemmas.Result.{err_from_is_err_and}
 use Rattle.decl_grammar.specs.Form.{param_rest, turned}
-use Rattle.decl_grammar.specs.Grammar.{read_nest}
+use Rattle.decl_grammar.specs.Rule.{read_nest}
 use Rattle.decl_types.specs.Params.{with_items, param_step}
 use Rattle.decl_types.proofs.ParamSteps.{items-none, param-steps, step-goes, step-ends, step-fails, param-step-falls}
 use Rattle.decl_types.proofs.params.param_end_of.Goals as goal

@@ -1,7 +1,7 @@
 use Rattle.std.proofs.Common.{◌≡◌, ℕ, List, refl, ◌∙◌, sym, ap}
 use Rattle.std.proofs.lemmas.Result.{err_from_is_err_and}
 use Rattle.decl_grammar.specs.Reading.{starts}
-use Rattle.decl_grammar.specs.Grammar.{next_declarator}
+use Rattle.decl_grammar.specs.Members.{next_declarator}
 use Rattle.decl_types.proofs.MemberFirsts.{next_declarator_full, next_declarator_first}
 use Rattle.decl_grammar.proofs.Loop.{falls, gathers, ends, gathered}
 use Rattle.decl_types.proofs.signatures.more_declarators_of.Goals as goal

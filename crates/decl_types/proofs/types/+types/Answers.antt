@@ -2,7 +2,7 @@ use Rattle.std.proofs.Common.{◌≡◌, ℕ, List, refl, ◌∙◌, sym, ap}
 use Rattle.std.proofs.lemmas.Result.{err_from_is_err_and}
 use Rattle.decl_grammar.specs.Reading.{starts}
 use Rattle.decl_grammar.specs.Form.{type_arguments}
-use Rattle.decl_grammar.specs.Grammar.{next_part, next_argument}
+use Rattle.decl_grammar.specs.Types.{next_part, next_argument}
 use Rattle.decl_grammar.proofs.Firsts.{next_part_first, next_part_full, next_argument_first, next_argument_full}
 use Rattle.decl_grammar.proofs.Loop.{falls, gathers, ends, gathered}
 use Rattle.decl_grammar.proofs.Nests.{some-is, none-fails}

@@ -1,6 +1,7 @@
 use Rattle.std.proofs.Common.{◌≡◌, ◌+◌, ◌*◌, length}
 use Rattle.decl_grammar.specs.Form.{many, with_front}
-use Rattle.decl_grammar.specs.Grammar.{reads, next_part, next_argument}
+use Rattle.decl_grammar.specs.Types.{next_part, next_argument}
+use Rattle.decl_grammar.specs.Rule.{reads}
 use Rattle.decl_types.proofs.types.+types.Given as goal
 
 abbrev pub decreases-type_arguments_of : goal.decreases-type_arguments_of

@@ -1,6 +1,7 @@
 use Rattle.std.proofs.Common.{◌≡◌, length}
 use Rattle.decl_grammar.specs.Form.{many, with_front}
-use Rattle.decl_grammar.specs.Grammar.{reads, dim}
+use Rattle.decl_grammar.specs.Types.{dim}
+use Rattle.decl_grammar.specs.Rule.{reads}
 use Rattle.decl_types.proofs.types.more_dims_of.Given as goal
 
 abbrev pub invariant-row : goal.invariant-row

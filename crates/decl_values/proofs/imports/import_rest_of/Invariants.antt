@@ -1,6 +1,6 @@
 use Rattle.std.proofs.Common.{◌≡◌, length, string_bytes}
 use Rattle.decl_grammar.specs.Form.{maybe, nest, import_rest, turned}
-use Rattle.decl_grammar.specs.Grammar.{reads}
+use Rattle.decl_grammar.specs.Rule.{reads}
 use Rattle.decl_values.proofs.ImportRests.{ended_as}
 use Rattle.decl_values.proofs.imports.import_rest_of.Given as goal
 

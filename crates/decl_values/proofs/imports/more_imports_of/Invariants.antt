@@ -1,6 +1,7 @@
 use Rattle.std.proofs.Common.{◌≡◌, length}
 use Rattle.decl_grammar.specs.Form.{many, with_front}
-use Rattle.decl_grammar.specs.Grammar.{reads, import_form}
+use Rattle.decl_grammar.specs.Grammar.{import_form}
+use Rattle.decl_grammar.specs.Rule.{reads}
 use Rattle.decl_values.proofs.imports.more_imports_of.Given as goal
 
 abbrev pub invariant-row : goal.invariant-row

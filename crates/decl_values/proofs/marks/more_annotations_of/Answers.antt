@@ -1,7 +1,7 @@
 use Rattle.std.proofs.Common.{◌≡◌, ℕ, List, refl, ◌∙◌, sym, ap}
 use Rattle.std.proofs.lemmas.Result.{err_from_is_err_and}
 use Rattle.decl_grammar.specs.Reading.{starts}
-use Rattle.decl_grammar.specs.Grammar.{annotation}
+use Rattle.decl_grammar.specs.Types.{annotation}
 use Rattle.decl_grammar.proofs.Firsts.{annotation_full, annotation_first}
 use Rattle.decl_grammar.proofs.Loop.{falls, gathers, ends, gathered}
 use Rattle.decl_values.proofs.marks.more_annotations_of.Goals as goal

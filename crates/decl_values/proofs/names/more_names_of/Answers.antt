@@ -2,7 +2,7 @@ use Rattle.std.proofs.Common.{refl, ◌∙◌, sym, string_bytes}
 use Rattle.std.proofs.lemmas.Result.{err_from_is_err_and}
 use lib.Utf8.{encode}
 use Rattle.decl_grammar.specs.Constants.{more_dotted}
-use Rattle.decl_grammar.specs.Grammar.{dot_name, name}
+use Rattle.decl_grammar.specs.Types.{dot_name, name}
 use Rattle.decl_grammar.proofs.Loop.{falls, goes_on, ends, stops}
 use Rattle.decl_values.proofs.names.more_names_of.Goals as goal
 

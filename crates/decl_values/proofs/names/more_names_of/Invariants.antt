@@ -1,7 +1,8 @@
 use Rattle.std.proofs.Common.{◌≡◌, length, string_bytes}
 use Rattle.decl_grammar.specs.Form.{many, turned}
 use Rattle.decl_grammar.specs.Constants.{more_dotted}
-use Rattle.decl_grammar.specs.Grammar.{reads, dot_name}
+use Rattle.decl_grammar.specs.Types.{dot_name}
+use Rattle.decl_grammar.specs.Rule.{reads}
 use Rattle.decl_values.proofs.names.more_names_of.Given as goal
 
 abbrev pub invariant-row : goal.invariant-row

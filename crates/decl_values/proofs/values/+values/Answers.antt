@@ -2,7 +2,7 @@ use Rattle.std.proofs.Common.{◌≡◌, ℕ, List, refl, ◌∙◌, sym, ap}
 use Rattle.std.proofs.lemmas.Result.{err_from_is_err_and}
 use Rattle.decl_grammar.specs.Reading.{starts}
 use Rattle.decl_grammar.specs.Form.{any_value, lone_value, array_rest, nest}
-use Rattle.decl_grammar.specs.Grammar.{next_pair}
+use Rattle.decl_grammar.specs.Types.{next_pair}
 use Rattle.decl_grammar.proofs.Firsts.{next_pair_first, next_pair_full}
 use Rattle.decl_grammar.proofs.Loop.{falls, gathers, ends, gathered}
 use Rattle.decl_grammar.proofs.Nests.{some-is, none-fails, fewer, array-row, row-more, row-last, row-fails, row-stops, comma-smaller}

@@ -1,6 +1,7 @@
 use Rattle.std.proofs.Common.{◌≡◌, ◌+◌, ◌*◌, length}
 use Rattle.decl_grammar.specs.Form.{many, maybe, nest, array_rest, turned, with_front}
-use Rattle.decl_grammar.specs.Grammar.{reads, list_or_none, next_pair}
+use Rattle.decl_grammar.specs.Types.{list_or_none, next_pair}
+use Rattle.decl_grammar.specs.Rule.{reads}
 use Rattle.decl_values.proofs.values.+values.Given as goal
 
 abbrev pub decreases-any_value_of : goal.decreases-any_value_of

@@ -1,5 +1,6 @@
 use Rattle.std.proofs.Common.{arith}
-use Rattle.decl_grammar.specs.Grammar.{silently, first_item, later_item}
+use Rattle.decl_grammar.specs.Types.{silently}
+use Rattle.decl_grammar.specs.Expressions.{first_item, later_item}
 use Rattle.decl_grammar.specs.Form.{many}
 use Rattle.decl_grammar.proofs.Nests.{fewer, fewer-turned}
 use Rattle.decl_values.proofs.values.expression_in.Goals as goal

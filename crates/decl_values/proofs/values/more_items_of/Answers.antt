@@ -1,6 +1,7 @@
 use Rattle.std.proofs.Common.{refl, ◌∙◌, sym}
 use Rattle.std.proofs.lemmas.Result.{err_from_is_err_and}
-use Rattle.decl_grammar.specs.Grammar.{silently, later_item}
+use Rattle.decl_grammar.specs.Types.{silently}
+use Rattle.decl_grammar.specs.Expressions.{later_item}
 use Rattle.decl_grammar.proofs.Loop.{falls, goes_on, ends, stops}
 use Rattle.decl_values.proofs.values.more_items_of.Goals as goal
 

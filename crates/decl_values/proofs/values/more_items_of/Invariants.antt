@@ -1,6 +1,8 @@
 use Rattle.std.proofs.Common.{◌≡◌, length}
 use Rattle.decl_grammar.specs.Form.{many, turned}
-use Rattle.decl_grammar.specs.Grammar.{silently, reads, later_item}
+use Rattle.decl_grammar.specs.Types.{silently}
+use Rattle.decl_grammar.specs.Expressions.{later_item}
+use Rattle.decl_grammar.specs.Rule.{reads}
 use Rattle.decl_values.proofs.values.more_items_of.Given as goal
 
 abbrev pub invariant-row : goal.invariant-row

@@ -1,0 +1,327 @@
+-- Short forms, names, annotations, types and modifiers (JLS 3.8, 4, 6.5, 8.1.1, 9.7), over symbols: what the phrases of each are, and what they mean.
+-- Annotations of types are passed over.
+use Rattle.std.specs.Prelude.{ℕ, List, [], ◌∷◌, ◌++◌, Option, None, Some, codes, ◌==◌, if◌then◌else◌}
+use Rattle.std.specs.Option.{option_map_or}
+use Rattle.std.specs.Int.Bits.{bit_or}
+use Rattle.decl_tree.specs.declared.type_text.PrimitiveKind.{PrimitiveKind}
+use Rattle.decl_tree.specs.declared.type_text.PrimitiveKind.TheVariants as primitive
+use Rattle.decl_tree.specs.declared.type_text.Around.{Around}
+use Rattle.decl_tree.specs.declared.type_text.Around.TheVariants as around
+use Rattle.decl_tree.specs.declared.type_text.BaseType.{BaseType}
+use Rattle.decl_tree.specs.declared.type_text.BaseType.TheVariants as base
+use Rattle.decl_tree.specs.declared.type_text.TypeText.{TypeText, out-TypeText}
+use Rattle.decl_tree.specs.declared.type_text.NamedPart.{NamedPart}
+use Rattle.decl_tree.specs.declared.annotation.ValueText.{ValueText}
+use Rattle.decl_tree.specs.declared.annotation.AnnotationText.{AnnotationText, roll-AnnotationText}
+use Rattle.decl_tree.specs.declared.annotation.ElementValuePair.{ElementValuePair}
+use Rattle.decl_tree.specs.declared.member.TypeParam.{TypeParam}
+use Rattle.decl_grammar.specs.declared.symbol.Symbol.{Symbol}
+use Rattle.decl_grammar.specs.declared.written.Modifiers.{Modifiers}
+use Rattle.decl_grammar.specs.Symbols.{named, word, operator}
+use Rattle.decl_grammar.specs.Form.{type_arguments, any_value, lone_value, first_name, modifiers, Shape, Form, terminal, pair, turn, maybe, many, either, nest, names, ats, plain_words, modifier_words}
+use Rattle.decl_grammar.specs.Constants.{primitive_of, named_part_of, type_of, more_dotted}
+
+-- ---- short forms
+
+-- the reserved word, and the operator, with this number
+abbrev pub keyword : ℕ → Form Symbol
+keyword n = terminal (word n ∷ [])
+
+abbrev pub sign : ℕ → Form Symbol
+sign n = terminal (operator n ∷ [])
+
+-- a form behind another, and one before another
+abbrev pub behind : {A B : Type 0} → Form B → Form A → Form A
+behind g f = turn (λ x. x.1) (pair g f)
+
+abbrev pub before : {A B : Type 0} → Form A → Form B → Form A
+before f g = turn (λ x. x.0) (pair f g)
+
+abbrev pub list_or_none : {A : Type 0} → Option (List A) → List A
+list_or_none None = []
+list_or_none (Some xs) = xs
+
+abbrev pub first_and_rest : {A : Type 0} → A × List A → List A
+first_and_rest x = x.0 ∷ x.1
+
+-- a comma, and what stands behind it, where it begins there
+abbrev pub comma_item : {A : Type 0} → Form A → Form (Option A)
+comma_item f = behind (sign 7) (maybe f)
+
+-- an item, and those behind it
+abbrev pub one_and_rest : {A : Type 0} → A × Option (List A) → List A
+one_and_rest x = x.0 ∷ list_or_none x.1
+
+abbrev pub no_values : {A : Type 0} → Symbol → List A
+no_values s = []
+
+-- what is read means nothing
+abbrev pub silently : {A : Type 0} → A → Unit {0}
+silently v = tt
+
+-- ---- names (JLS 3.8, 6.5)
+
+abbrev pub text_of : Symbol → List ℕ
+text_of s = s.text.now
+
+unfoldable pub name : Form (List ℕ)
+name = turn text_of (terminal names)
+
+-- a name that a `=` follows
+unfoldable pub named_text : Form (List ℕ)
+named_text = turn text_of (terminal (named ∷ []))
+
+-- . Name
+unfoldable pub dot_name : Form (List ℕ)
+dot_name = behind (sign 8) name
+
+abbrev pub dotted_name : List ℕ × List (List ℕ) → List ℕ
+dotted_name x = more_dotted x.0 x.1
+
+-- Name { . Name }
+unfoldable pub name_chain : Form (List ℕ)
+name_chain = turn dotted_name (pair name (many dot_name))
+
+-- ---- annotations (JLS 9.7)
+
+abbrev pub pair_of : List ℕ → ValueText → ElementValuePair
+pair_of n v = record { name = n; value = v }
+
+-- a value alone is that of the element `value` (JLS 9.7.3)
+abbrev pub lone_pair : ValueText → List ElementValuePair
+lone_pair v = pair_of (codes "value") v ∷ []
+
+-- Name = Value, where the name might still be a value
+unfoldable pub first_pair : Form ElementValuePair
+first_pair = turn (λ x. pair_of x.0 x.1) (pair (nest first_name) (behind (sign 12) (nest any_value)))
+
+-- , Name = Value
+unfoldable pub next_pair : Form ElementValuePair
+next_pair = behind (sign 7) (turn (λ x. pair_of x.0 x.1) (pair name (behind (sign 12) (nest any_value))))
+
+-- Name = Value { , Name = Value }
+unfoldable pub pairs : Form (List ElementValuePair)
+pairs = turn first_and_rest (pair first_pair (many next_pair))
+
+unfoldable pub pairs_or_value : Form (List ElementValuePair)
+pairs_or_value = either pairs (turn lone_pair (nest lone_value))
+
+-- ( [PairsOrValue] )
+unfoldable pub annotation_arguments : Form (List ElementValuePair)
+annotation_arguments = behind (sign 0) (before (turn list_or_none (maybe pairs_or_value)) (sign 1))
+
+abbrev pub annotation_of : List ℕ → Option (List ElementValuePair) → AnnotationText
+annotation_of n values = roll-AnnotationText (record { name = n; values = list_or_none values })
+
+-- Name { . Name } [Arguments]
+unfoldable pub annotation_body : Form AnnotationText
+annotation_body = turn (λ x. annotation_of x.0 x.1) (pair name_chain (maybe annotation_arguments))
+
+abbrev pub annotation_from : List ℕ → Form AnnotationText
+annotation_from sorts = behind (terminal sorts) annotation_body
+
+-- @ Name { . Name } [Arguments]
+unfoldable pub annotation : Form AnnotationText
+annotation = annotation_from ats
+
+-- the same where the `@` of an annotation interface begins no annotation
+unfoldable pub modifier_annotation : Form AnnotationText
+modifier_annotation = annotation_from (operator 10 ∷ [])
+
+unfoldable pub annotations : Form (List AnnotationText)
+annotations = many annotation
+
+-- ---- types (JLS 4, 8.3, 10.2)
+
+abbrev pub primitive_sorts : List ℕ
+primitive_sorts = word 2 ∷ word 4 ∷ word 36 ∷ word 26 ∷ word 28 ∷ word 7 ∷ word 19 ∷ word 13 ∷ []
+
+abbrev pub kind_of_word : ℕ → PrimitiveKind
+kind_of_word n = option_map_or (λ k. k) (primitive_of n) primitive.Void
+
+abbrev pub kind_of : Symbol → PrimitiveKind
+kind_of s = kind_of_word s.sort
+
+unfoldable pub primitive_type : Form PrimitiveKind
+primitive_type = turn kind_of (terminal primitive_sorts)
+
+-- Name [TypeArguments]
+unfoldable pub named_part : Form NamedPart
+named_part = turn (λ x. named_part_of x.0 x.1) (pair name (maybe (nest type_arguments)))
+
+-- . Annotations NamedPart
+unfoldable pub next_part : Form NamedPart
+next_part = behind (sign 8) (behind annotations named_part)
+
+-- NamedPart { . Annotations NamedPart }
+unfoldable pub class_type : Form (List NamedPart)
+class_type = turn first_and_rest (pair named_part (many next_part))
+
+abbrev pub array_around : Symbol → Around
+array_around s = around.Array
+
+-- Annotations [ ]
+unfoldable pub dim : Form Around
+dim = behind annotations (behind (sign 4) (turn array_around (sign 5)))
+
+unfoldable pub base_type : Form BaseType
+base_type = either (turn base.Primitive primitive_type) (turn base.Named class_type)
+
+abbrev pub type_in : Shape → TypeText
+type_in x = type_of x.0 x.1
+
+unfoldable pub type_form : Form TypeText
+type_form = turn type_in (pair base_type (many dim))
+
+-- ClassType { [ ] }
+unfoldable pub class_array : Form Shape
+class_array = pair (turn base.Named class_type) (many dim)
+
+-- PrimitiveType [ ] { [ ] }
+unfoldable pub primitive_array : Form Shape
+primitive_array = pair (turn base.Primitive primitive_type) (turn first_and_rest (pair dim (many dim)))
+
+-- of a primitive type an array alone is a reference type (JLS 4.3)
+unfoldable pub reference : Form Shape
+reference = either class_array primitive_array
+
+-- Annotations Reference
+unfoldable pub annotated_reference : Form Shape
+annotated_reference = behind annotations reference
+
+-- a type within something around it
+abbrev pub bounded_text : Around → TypeText → TypeText
+bounded_text item text = type_of (out-TypeText text).base (item ∷ (out-TypeText text).around)
+
+abbrev pub bounded : Around → Shape → TypeText
+bounded item x = bounded_text item (type_in x)
+
+-- extends Reference, or super Reference
+unfoldable pub wildcard_bound : Form TypeText
+wildcard_bound =
+    either (turn (bounded around.Extends) (behind (keyword 16) annotated_reference))
+    (turn (bounded around.Super) (behind (keyword 39) annotated_reference))
+
+abbrev pub wildcard_of : Option TypeText → TypeText
+wildcard_of None = type_of base.Wildcard []
+wildcard_of (Some w) = w
+
+-- ? [WildcardBound]
+unfoldable pub wildcard : Form TypeText
+wildcard = turn wildcard_of (behind (sign 17) (maybe wildcard_bound))
+
+-- JLS 4.5.1
+unfoldable pub type_argument : Form TypeText
+type_argument = behind annotations (either wildcard (turn type_in reference))
+
+-- , TypeArgument
+unfoldable pub next_argument : Form TypeText
+next_argument = behind (sign 7) type_argument
+
+-- < TypeArgument { , TypeArgument } >
+unfoldable pub arguments_form : Form (List TypeText)
+arguments_form = behind (sign 14) (before (turn first_and_rest (pair type_argument (many next_argument))) (sign 13))
+
+abbrev pub class_text : List NamedPart → TypeText
+class_text parts = type_of (base.Named parts) []
+
+-- Annotations ClassType
+unfoldable pub annotated_class : Form TypeText
+annotated_class = behind annotations (turn class_text class_type)
+
+-- & Annotations ClassType
+unfoldable pub next_bound : Form TypeText
+next_bound = behind (sign 32) annotated_class
+
+-- extends Bound { & Bound }
+unfoldable pub bounds : Form (List TypeText)
+bounds = behind (keyword 16) (turn first_and_rest (pair annotated_class (many next_bound)))
+
+abbrev pub type_param_of : List AnnotationText → List ℕ → Option (List TypeText) → TypeParam
+type_param_of marks n bs = record { name = n; annotations = marks; bounds = list_or_none bs }
+
+-- JLS 8.1.2
+unfoldable pub type_param : Form TypeParam
+type_param = turn (λ x. type_param_of x.0 x.1.0 x.1.1) (pair annotations (pair name (maybe bounds)))
+
+-- , TypeParam
+unfoldable pub next_type_param : Form TypeParam
+next_type_param = behind (sign 7) type_param
+
+-- < TypeParam { , TypeParam } >
+unfoldable pub type_params : Form (List TypeParam)
+type_params = behind (sign 14) (before (turn first_and_rest (pair type_param (many next_type_param))) (sign 13))
+
+unfoldable pub optional_params : Form (List TypeParam)
+optional_params = turn list_or_none (maybe type_params)
+
+-- , Annotations ClassType
+unfoldable pub next_class : Form TypeText
+next_class = behind (sign 7) annotated_class
+
+-- ClassType { , ClassType }
+unfoldable pub classes : Form (List TypeText)
+classes = turn first_and_rest (pair annotated_class (many next_class))
+
+-- ---- modifiers (JLS 8.1.1, 8.3.1, 8.4.3)
+
+-- what one modifier is: a bit, or an annotation
+pub data Mark : Type 0 where
+  bit : ℕ → Mark
+  marked : AnnotationText → Mark
+
+-- the bit of a modifier, by its sort
+abbrev pub bit_of : ℕ → ℕ
+bit_of n =
+    if n == word 34 then 1 else if n == word 33 then 2 else if n == word 32 then 4 else if n == word 0 then 8
+    else if n == word 11 then 16 else if n == word 37 then 32 else if n == word 17 then 64 else if n == word 45 then 128
+    else if n == word 48 then 256 else if n == word 41 then 512 else if n == word 29 then 1024 else 2048
+
+abbrev pub bit_mark : Symbol → Mark
+bit_mark s = bit (bit_of s.sort)
+
+abbrev pub no_modifiers : Modifiers
+no_modifiers = record { bits = 0; annotations = [] }
+
+abbrev pub with_bit : ℕ → Modifiers → Modifiers
+with_bit b m = record { bits = bit_or m.bits b; annotations = m.annotations }
+
+abbrev pub with_annotation : AnnotationText → Modifiers → Modifiers
+with_annotation a m = record { bits = m.bits; annotations = m.annotations ++ a ∷ [] }
+
+abbrev pub with_mark : Modifiers → Mark → Modifiers
+with_mark m (bit b) = with_bit b m
+with_mark m (marked a) = with_annotation a m
+
+-- modifiers, and more of them
+abbrev pub with_marks : Modifiers → List Mark → Modifiers
+with_marks m [] = m
+with_marks m (k ∷ ks) = with_marks (with_mark m k) ks
+
+abbrev pub marks_of : Mark × List Mark → Modifiers
+marks_of x = with_marks no_modifiers (x.0 ∷ x.1)
+
+abbrev pub modifier_from : List ℕ → Form Mark
+modifier_from words = either (turn bit_mark (terminal words)) (turn marked modifier_annotation)
+
+unfoldable pub modifier : Form Mark
+modifier = modifier_from modifier_words
+
+unfoldable pub plain_modifier : Form Mark
+plain_modifier = modifier_from plain_words
+
+-- Modifier { Modifier }
+abbrev pub modifiers_form : Form Mark → Form Modifiers
+modifiers_form f = turn marks_of (pair f (many modifier))
+
+abbrev pub modifiers_or_none : Option Modifiers → Modifiers
+modifiers_or_none None = no_modifiers
+modifiers_or_none (Some m) = m
+
+-- those of a member, which might still be those of a nested type
+unfoldable pub optional_modifiers : Form Modifiers
+optional_modifiers = turn modifiers_or_none (maybe (nest modifiers))
+
+-- those of a type that is not nested
+unfoldable pub type_modifiers : Form Modifiers
+type_modifiers = turn (with_marks no_modifiers) (many modifier)
