@@ -1,3 +1,5 @@
 mod Counts
+pub mod Endings
+pub mod Paths
 mod TextMaps
 pub mod TableLaws

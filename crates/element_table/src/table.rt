@@ -4,6 +4,7 @@ ghost use Rattle.std.specs.Option.{option_copied};
 ghost use Rattle.std.specs.FinMap as fin;
 ghost use Rattle.element_table.specs.UnitNames.{unit_name};
 ghost use Rattle.element_table.specs.TypeTable.{empty_table, units_in, unit_of, part_of, has_unit, entered, answer_to, Answers, unit_back, IsTable};
+ghost use Rattle.element_table.specs.TableElements.{has_types};
 ghost use Rattle.element_table.specs.declared.answer.Answer.TheVariants.{IsNew};
 
 use crate::answer::Answer;
@@ -137,6 +138,13 @@ impl Table {
         } else {
             None
         }
+    }
+
+    /// Whether a type of this package is in either part. It looks at each unit, and takes no memory.
+    pub(crate) fn has_types(&self, package: &str) -> bool
+        ensures { result ≡ has_types self.now «package».now }
+    {
+        self.sources.has_types(package) || self.stubs.has_types(package)
     }
 
     /// The names of the units of a part, ascending by their bytes.

@@ -2,7 +2,9 @@
 ghost use Rattle.std.specs.Prelude.{◌≡◌, IfOk, IfErr, OnOk, OnErr, string_bytes};
 ghost use Rattle.std.specs.Option.{option_copied};
 ghost use Rattle.std.specs.FinMap as fin;
+ghost use Rattle.element_table.specs.TableElements.{part_has_types};
 
+use crate::packages::declares_in;
 use apt_base::{List, Name, NoMemory};
 use decl_tree::Unit;
 use std::alloc::Global;
@@ -51,6 +53,17 @@ impl Units {
         ensures { result ≡ fin.contains_key self.now name.now }
     {
         self.held.contains_key(name)
+    }
+
+    /// Whether there is a type of this package. It looks at each unit.
+    pub fn has_types(&self, package: &str) -> bool
+        ensures { result ≡ part_has_types «package».now self.now }
+    {
+        let mut found = false;
+        for unit in self.held.values() {
+            found = found || declares_in(package, unit);
+        }
+        found
     }
 
     /// Puts a unit under a name. Without memory it comes back, and the units stay as they were.

@@ -14,10 +14,20 @@
 //! | `found PART NUMBER` | how many of the made classes, this many from the first on, are found by their names and are in that part |
 //! | `copied` | `done`: the table is its own copy from now on |
 //! | `name UNIT` | the canonical name |
+//! | `declare PART PACKAGE PIECES` | enters the unit that the pieces declare in this package: `done`, or the refusal |
+//! | `element NAME PATH` | the kind of what stands there, and behind `:` its name, where a source has it; or `none` |
+//! | `children NAME PATH` | the length of its child list, or `none` |
+//! | `modifiers NAME PATH` | the number of its modifiers, or `none` |
+//! | `enclosing NAME PATH` | the element around it, or `none` |
+//! | `canonical NAME PATH` | its canonical name, or `none` |
 //!
 //! A part is `source` or `stub`. A unit is the name of a class or a package's `package-info`; behind the name of a class `+3` stands for three types that are nested in it side by side, and `^3` for three of which each is nested in the one before.
+//!
+//! A path is a list of numbers. Pieces are a list: a type as far as its members, then its members one by one, of which a type is again followed by its own. A type is `KIND:NAME:MODIFIERS:TYPES:MEMBERS` with a kind `enum`, `class`, `annotation` or `interface` and the numbers of its type parameters and members; other members are `field:NAME:MODIFIERS`, `method:NAME:MODIFIERS:TYPES:PARAMETERS`, `constructor:MODIFIERS:TYPES:PARAMETERS`, `constant:NAME` and `constant:NAME:body`. All type parameters are `T`, and all parameters are `final int x`.
 #![tactic(auto)]
 
+mod declared;
+mod element;
 mod made;
 mod unit;
 
@@ -52,6 +62,14 @@ impl Calls for Tables {
                     unit::unit(alloc, word)?,
                 )
             }
+            ["declare", part_word, package, pieces] => {
+                enter(
+                    alloc,
+                    &mut self.table,
+                    part(part_word)?,
+                    declared::unit(alloc, package, pieces)?,
+                )
+            }
             ["made", part_word, word] => {
                 made::enter(
                     alloc,
@@ -76,6 +94,7 @@ fn look(alloc: Global, table: &Table, words: &[&str]) -> Result<String, CaseFaul
         ["find", word] => find(alloc, table, &name(alloc, word)?),
         ["part", word] => text_of(alloc, part_word(table.part(&name(alloc, word)?))),
         ["name", word] => name_word(alloc, &unit::unit(alloc, word)?),
+        [call, unit, path] => element::look(alloc, table, call, unit, path),
         _ => Err(CaseFault::NotACase),
     }
 }

@@ -16,7 +16,8 @@ fn class(writer: &mut FieldWriter, name: &str, members: u32) -> Result<(), CaseF
     Ok(writer.u32(members)?)
 }
 
-fn text(writer: &mut FieldWriter, text: &str) -> Result<(), NoMemory> {
+/// A text of at most 65,535 bytes.
+pub fn text(writer: &mut FieldWriter, text: &str) -> Result<(), NoMemory> {
     if text.len() > 65_535 {
         return Err(NoMemory);
     }
@@ -89,6 +90,11 @@ pub fn unit(alloc: Global, word: &str) -> Result<Unit, CaseFault> {
         None => write(&mut writer, "", word.as_str())?,
         Some((package, declared)) => write(&mut writer, package, declared)?,
     }
+    read(alloc, writer)
+}
+
+/// The unit whose shape was written.
+pub fn read(alloc: Global, writer: FieldWriter) -> Result<Unit, CaseFault> {
     match parse_shape(alloc, writer.into_bytes().as_slice()) {
         Ok(unit) => Ok(unit),
         Err(ShapeFault::Bad) => Err(CaseFault::NotACase),

@@ -1,0 +1,2 @@
+pub mod FewChildren
+pub mod Positions

@@ -1,0 +1,4 @@
+pub mod Canonical
+pub mod Modifiers
+pub mod Nodes
+pub mod Shown
