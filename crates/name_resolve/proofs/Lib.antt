@@ -1,0 +1,4 @@
+pub mod Agreement
+pub mod ChildrenLeft
+pub mod TopTypes
+pub mod TypesAt

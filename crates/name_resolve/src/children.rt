@@ -1,0 +1,85 @@
+// What is declared at a place.
+ghost use Rattle.std.specs.Prelude.{◌≡◌, ◌≤◌, length, IfOk};
+ghost use Rattle.std.specs.Option.{option_copied};
+ghost use Rattle.decl_elements.specs.Nodes.{children};
+ghost use Rattle.decl_elements.specs.Shown.{node_of};
+ghost use Rattle.name_resolve.specs.Ways.{declaration_of};
+ghost use Rattle.name_resolve.specs.Finds.{is_type_named, one_if, declared_types};
+ghost use Rattle.name_resolve.specs.Shown.{find_of, finds_of, child_of, types_here};
+
+use crate::finds::{Finds, Found, both};
+use apt_base::{Name, NoMemory};
+use decl_elements::{Place, place_at};
+use decl_tree::{Member, TypeDecl};
+use std::alloc::Global;
+
+/// The declaration of a type, or `None` for what is none.
+pub(crate) fn declaration_of<'a>(place: Place<'a>) -> Option<&'a TypeDecl>
+    ensures { option_copied result ≡ declaration_of (node_of place.entry) }
+{
+    match place {
+        Place::Top(declaration) => Some(declaration),
+        Place::Inside(_, member) => match member {
+            Member::Nested(declaration) => Some(declaration),
+            _ => None,
+        },
+        _ => None,
+    }
+}
+
+fn is_type_named(name: &Name, place: Place<'_>) -> bool
+    ensures { result ≡ is_type_named name.now (node_of place.entry) }
+{
+    match declaration_of(place) {
+        None => false,
+        Some(declaration) => declaration.name.as_str() == name.as_str(),
+    }
+}
+
+// The child with that number, if it passes a test.
+fn one_if<'a>(alloc: Global, passes: bool, of: &Found<'a>, at: u16) -> Result<Finds<'a>, NoMemory>
+    ensures { IfOk result (λ f. finds_of f ≡ one_if passes (child_of (find_of of.now) at)) }
+{
+    if !passes {
+        return Ok(Finds::Nothing);
+    }
+    let mut path = Vec::from_slice(alloc, of.path.as_slice())?;
+    path.push(at)?;
+    Ok(Finds::One(Found {
+        part: of.part,
+        unit: of.unit,
+        path,
+    }))
+}
+
+fn types_at<'a>(
+    alloc: Global,
+    of: &Found<'a>,
+    place: Place<'a>,
+    name: &Name,
+) -> Result<Finds<'a>, NoMemory>
+    requires { length (children (node_of place)) ≤ 65535 }
+    ensures { IfOk result (λ f. finds_of f ≡ types_here (find_of of.now) name.now (node_of place.entry)) }
+{
+    let mut finds = Finds::Nothing;
+    for at in 0..place.children() {
+        match place.child(at) {
+            None => return Ok(finds),
+            Some(child) => {
+                let more = one_if(alloc, is_type_named(name, child), of, at)?;
+                finds = both(finds, more);
+            }
+        }
+    }
+    Ok(finds)
+}
+
+/// The member types of this name that a type declares (JLS 8.5, 9.5), inherited ones aside.
+pub fn declared_types<'a>(alloc: Global, of: &Found<'a>, name: &Name) -> Result<Finds<'a>, NoMemory>
+    ensures { IfOk result (λ f. finds_of f ≡ declared_types (find_of of.now) name.now) }
+{
+    match place_at(of.unit, of.path.as_slice()) {
+        None => Ok(Finds::Nothing),
+        Some(place) => types_at(alloc, of, place, name),
+    }
+}

@@ -1,0 +1,114 @@
+// What the header of a type names or implies.
+ghost use Rattle.std.specs.Prelude.{◌≡◌, ◌++◌, map, Some, IfOk};
+ghost use Rattle.std.specs.Option.{option_copied};
+ghost use Rattle.name_resolve.specs.Ways.{type_at};
+ghost use Rattle.name_resolve.specs.Supertypes.{Written, is_object, superclass_in, supertypes_in, supertypes};
+ghost use Rattle.name_resolve.specs.Shown.{find_of, super_of, supers_of};
+
+use crate::children::declaration_of;
+use crate::finds::{Found, simple_name};
+use apt_base::NoMemory;
+use decl_elements::place_at;
+use decl_tree::{TypeDecl, TypeKind, TypeText};
+use std::alloc::Global;
+
+/// A direct supertype of a type, as it is written or as it is implied.
+#[derive(Clone, Copy)]
+pub enum Supertype<'a> {
+    /// The type behind `extends`, or one of those behind `implements` (JLS 8.1.4, 8.1.5, 9.1.3).
+    Written(&'a TypeText),
+    /// `java.lang.Object`, of a class without `extends` (JLS 8.1.4).
+    Object,
+    /// `java.lang.Enum`, of an enum (JLS 8.9).
+    Enum,
+    /// `java.lang.annotation.Annotation`, of an annotation interface (JLS 9.6).
+    Annotation,
+}
+
+fn type_at<'a>(of: &Found<'a>) -> Option<&'a TypeDecl>
+    ensures { option_copied result ≡ type_at of.now.unit.now of.now.path.items }
+{
+    match place_at(of.unit, of.path.as_slice()) {
+        None => None,
+        Some(place) => declaration_of(place),
+    }
+}
+
+fn is_object(of: &Found<'_>) -> bool
+    ensures { result ≡ is_object (find_of of.now) }
+{
+    let text = of.unit.text();
+    text.package.as_str() == "java.lang"
+        && simple_name(&text.body) == "Object"
+        && of.path.is_empty()
+}
+
+fn superclass_of<'a>(of_object: bool, declaration: &'a TypeDecl) -> Option<Supertype<'a>>
+    ensures { supers_of result ≡ superclass_in of_object declaration.now.kind declaration.now }
+{
+    match declaration.kind {
+        TypeKind::Class => {
+            if of_object {
+                return None;
+            }
+            match &declaration.superclass {
+                Some(text) => Some(Supertype::Written(text)),
+                None => Some(Supertype::Object),
+            }
+        }
+        TypeKind::Enum => Some(Supertype::Enum),
+        TypeKind::AnnotationType => None,
+        TypeKind::Interface => None,
+    }
+}
+
+fn with_interfaces<'a>(
+    alloc: Global,
+    first: Option<Supertype<'a>>,
+    texts: &'a [TypeText],
+) -> Result<Vec<Supertype<'a>>, NoMemory>
+    ensures { IfOk result (λ list. map super_of list.items ≡ supers_of first.entry ++ map Written texts.now) }
+{
+    let mut list = Vec::new(alloc);
+    if let Some(first) = first {
+        list.push(first)?;
+    }
+    for text in texts {
+        list.push(Supertype::Written(text))?;
+    }
+    Ok(list)
+}
+
+fn declared_supertypes<'a>(
+    alloc: Global,
+    of_object: bool,
+    declaration: &'a TypeDecl,
+) -> Result<Vec<Supertype<'a>>, NoMemory>
+    ensures { IfOk result (λ list. map super_of list.items ≡ supertypes_in of_object (Some declaration.now)) }
+{
+    match declaration.kind {
+        TypeKind::AnnotationType => {
+            let list = vec![in alloc; Supertype::Annotation]?;
+            Ok(list)
+        }
+        _ => {
+            let first = superclass_of(of_object, declaration);
+            let list = with_interfaces(alloc, first, declaration.interfaces.as_slice())?;
+            Ok(list)
+        }
+    }
+}
+
+/// The direct supertypes that a type names or implies, the superclass before the interfaces; none for what is no type.
+#[tactic(auto, unfolding(crate::specs::Supertypes::supertypes))]
+pub fn supertypes<'a>(alloc: Global, of: &Found<'a>) -> Result<Vec<Supertype<'a>>, NoMemory>
+    ensures { IfOk result (λ list. map super_of list.items ≡ supertypes (find_of of.now)) }
+{
+    match type_at(of) {
+        None => Ok(Vec::new(alloc)),
+        Some(declaration) => {
+            let list = declared_supertypes(alloc, is_object(of), declaration)?;
+            Ok(list)
+        }
+    }
+}

@@ -1,0 +1,6 @@
+pub mod Asked
+pub mod Cuts
+pub mod Everywhere
+pub mod SameMirrors
+pub mod SameSupertypes
+pub mod WrittenChains
