@@ -13,10 +13,10 @@ import subprocess
 import sys
 import time
 
-from host import (ACCEPTED, BAD_WORDS, CHILD_FAULT, CREATE, DONE, DONE_STATUS, EXISTS, FIRST_ROUND, HELLO, INIT,
-                  LAST_ROUND, PAST_A_LIMIT, SECONDS, SINK_FAULT, SOURCE, TREE_FAULT, UNBUILT_FORM, UNBUILT_TALK, Cases,
-                  Failure, NotRun, by_hand, expect, former_stands, frames, processes_of, program, record_of, refused,
-                  say, says)
+from host import (ACCEPTED, BAD_WORDS, CHILD_FAULT, CLAIM_BROKEN, CREATE, DONE, DONE_STATUS, EXISTS, FIRST_ROUND,
+                  HELLO, INIT, LAST_ROUND, PAST_A_LIMIT, SECONDS, SINK_FAULT, SOURCE, TREE_FAULT, UNBUILT_FORM,
+                  UNBUILT_TALK, Cases, Failure, NotRun, by_hand, expect, former_stands, frames, processes_of, program,
+                  record_of, refused, say, says)
 
 # The steps of a child that creates one file, and of one that creates nothing.
 CREATES = ["read", say(HELLO), "read", say(CREATE), "read", say(DONE), "read", say(DONE), "rest"]
@@ -327,6 +327,16 @@ def a_child_that_creates_a_file_twice(project):
     expect("the output", run.output, REPORT_OF_ONE_FILE)
     expect("what the child was sent", project.sent(), INIT + FIRST_ROUND + ACCEPTED + EXISTS + LAST_ROUND)
     expect("the published files", project.published(), {"CLASS_OUTPUT/x": b"hi"})
+
+
+@case
+def a_claim_that_is_broken(project):
+    project.write("src/p/C.java", b"package p; @apt.demo.Registered class C {}")
+    hello = by_hand("00000021 40 00000001 00000013") + b"apt.demo.Registered" + by_hand("00000000 00")
+    steps = ["read", say(hello), "read", say(by_hand("00000002 41 00")), "rest"]
+    refused(project, project.scripted(steps), CLAIM_BROKEN, "ClaimBroken(maker, always, false)")
+    expect("what the child was sent", project.sent(),
+           INIT + frames.round_frame(1, ["p.C"], offered=["apt.demo.Registered"]))
 
 
 @case

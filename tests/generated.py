@@ -8,10 +8,10 @@ with status 1. The last line is 'generated: N passed, M failed'.
 """
 import os
 
-from host import (ACCEPTED, BAD_NAME, CREATE, DONE, DONE_STATUS, ERRORS, EXISTS, FIRST_ROUND, GENERATED_DUPLICATE,
-                  HELLO, HERE, INIT, LAST_ROUND, NOTED, PAST_A_LIMIT, TOO_LARGE, TOO_MANY_QUESTIONS, TOO_MANY_ROUNDS,
-                  UNBUILT_FORM, UNBUILT_TALK, UNSUPPORTED, Cases, Failure, by_hand, expect, former_stands,
-                  frames as spelling, record_of, refused, say)
+from host import (ACCEPTED, BAD_NAME, CLAIM_BROKEN, CREATE, DONE, DONE_STATUS, ERRORS, EXISTS, FIRST_ROUND,
+                  GENERATED_DUPLICATE, HELLO, HERE, INIT, LAST_ROUND, NOTED, PAST_A_LIMIT, TOO_LARGE,
+                  TOO_MANY_QUESTIONS, TOO_MANY_ROUNDS, UNBUILT_FORM, UNBUILT_TALK, UNSUPPORTED, Cases, Failure,
+                  by_hand, expect, former_stands, frames as spelling, record_of, refused, say)
 
 case = Cases("generated")
 
@@ -503,7 +503,7 @@ def an_error_in_round_sixty_three(project):
 
 @case
 def an_error_before_a_refusal(project):
-    refuses(project, [[message(ERROR, "bad")], [by_hand("00000002 41 00")]], UNBUILT_TALK, "UnbuiltTalk(maker)")
+    refuses(project, [[message(ERROR, "bad")], [by_hand("00000002 41 00")]], CLAIM_BROKEN, "ClaimBroken(maker, always, false)")
 
 
 # The answers to creations.
@@ -636,7 +636,6 @@ NAME, NOTHING = spelling.text_field("p.D"), spelling.bytes_field(b"")
 A_NOTE = bytes([NOTE]) + spelling.NO_ELEMENT
 
 NOT_IN_A_ROUND = {
-    "a Done that says false": spelling.done(claimed=False),
     "a Done that says 2": by_hand("00000002 41 02"),
     "a Done with one byte more": by_hand("00000003 41 01 00"),
     "a Done without its field": by_hand("00000001 41"),
@@ -674,7 +673,7 @@ def what_is_no_talk_in_a_round(project):
 
 @case
 def what_is_no_talk_in_a_further_round(project):
-    for what in ["a Done that says false", "a source with an origin", "a question", "a second Hello"]:
+    for what in ["a Done that says 2", "a source with an origin", "a question", "a second Hello"]:
         steps = [say(NOT_IN_A_ROUND[what]), "rest"]
         in_round(what + ", in round 2", project, [[create_source("p.D")], [steps]])
         in_round(what + ", in the last round", project, [[create_source("p.D")], [], [steps]])
@@ -685,6 +684,16 @@ def in_round(what, project, rounds):
         refuses(project, rounds, UNBUILT_TALK, "UnbuiltTalk(maker)")
     except Failure as failure:
         raise Failure(f"{what}: {failure}") from None
+
+
+# The Done of a processor whose Hello said that it always claims.
+
+
+@case
+def a_done_that_breaks_the_claim(project):
+    broken = [say(spelling.done(claimed=False)), "rest"]
+    for rounds in [[[CREATE, broken]], [[create_source("p.D")], [broken]], [[create_source("p.D")], [], [broken]]]:
+        refuses(project, rounds, CLAIM_BROKEN, "ClaimBroken(maker, always, false)")
 
 
 @case

@@ -18,7 +18,8 @@ SOURCE = b"package p; @q.A class C {}"
 FORMER = {"CLASS_OUTPUT/former": (0, b"what stood before")}
 
 DONE_STATUS, ERRORS, BAD_WORDS, TREE_FAULT, SINK_FAULT, CHILD_FAULT = 0, 1, 2, 4, 5, 7
-TOO_MANY_QUESTIONS, GENERATED_DUPLICATE, TOO_MANY_ROUNDS, PAST_A_LIMIT, UNBUILT_FORM, UNBUILT_TALK = 11, 19, 20, 21, 25, 26
+TOO_MANY_QUESTIONS, CLAIM_BROKEN, GENERATED_DUPLICATE, TOO_MANY_ROUNDS, PAST_A_LIMIT = 11, 12, 19, 20, 21
+UNBUILT_FORM, UNBUILT_TALK = 25, 26
 
 # What the host sends in a build of the source above whose child creates no source.
 INIT = frames.init("maker")

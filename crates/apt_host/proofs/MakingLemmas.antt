@@ -42,6 +42,7 @@ early_of : (refusal : engine.Refusal) → EndsEarly is_children (stopped (stop_o
 early_of (run.ChildFault processor) = refl
 early_of (run.UnbuiltTalk processor) = tt
 early_of (run.TooManyQuestions processor most) = tt
+early_of (run.ClaimBroken processor declared said) = tt
 early_of (run.UnbuiltForm path) = tt
 early_of (run.GeneratedDuplicate name) = tt
 early_of run.TooManyRounds = tt

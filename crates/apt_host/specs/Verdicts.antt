@@ -1,10 +1,12 @@
 -- How a call ends, as a value: its number, its line, and which ends may come at any point.
 use Rattle.std.specs.Prelude.{◌≡◌, ◌⊎◌, ℕ, ◌≤◌, Bool, true, false, List, [], ◌++◌, codes, decimal, Result, Ok, Err}
 use Rattle.apt_outside.specs.Count.{Rose}
+use Rattle.apt_base.specs.declared.kinds.Claim.{Claim}
+use Rattle.apt_base.specs.declared.kinds.Claim.TheVariants as claim
 use Rattle.apt_base.specs.declared.kinds.What.{What}
 use Rattle.apt_base.specs.declared.kinds.What.TheVariants as what
 use Rattle.round_engine.specs.Refusals as stop
-use Rattle.round_engine.specs.Refusals.{Refusal, BadWords, UnbuiltForm, UnbuiltTalk, TooManyQuestions, GeneratedDuplicate, TooManyRounds, TooLarge, Object, Tree, Sink, Children, Stop}
+use Rattle.round_engine.specs.Refusals.{Refusal, BadWords, UnbuiltForm, UnbuiltTalk, TooManyQuestions, ClaimBroken, GeneratedDuplicate, TooManyRounds, TooLarge, Object, Tree, Sink, Children, Stop}
 use Rattle.apt_host.specs.declared.status.Status.{Status}
 use Rattle.apt_host.specs.declared.status.Status.TheVariants as code
 use Rattle.apt_host.specs.CleanBuild as outcome
@@ -27,6 +29,7 @@ verdict (code.BadWords at) = Refused (BadWords at)
 verdict (code.UnbuiltForm path) = Refused (UnbuiltForm path)
 verdict (code.UnbuiltTalk processor) = Refused (UnbuiltTalk processor)
 verdict (code.TooManyQuestions processor most) = Refused (TooManyQuestions processor most)
+verdict (code.ClaimBroken processor declared said) = Refused (ClaimBroken processor declared said)
 verdict (code.GeneratedDuplicate name) = Refused (GeneratedDuplicate name)
 verdict code.TooManyRounds = Refused TooManyRounds
 verdict (code.TooLarge what limit) = Refused (TooLarge what limit)
@@ -111,6 +114,7 @@ pub record HasCause (is : Object → Bool) (v : Verdict) (before now : ℕ) : Ty
 abbrev pub number_of : Refusal → ℕ
 number_of (BadWords at) = 2
 number_of (TooManyQuestions processor most) = 11
+number_of (ClaimBroken processor declared said) = 12
 number_of (GeneratedDuplicate name) = 19
 number_of TooManyRounds = 20
 number_of (TooLarge what limit) = 21
@@ -147,12 +151,23 @@ what_text what.Record = codes "Record"
 what_text what.Script = codes "Script"
 what_text what.Rounds = codes "Rounds"
 
+abbrev pub claim_text : Claim → List ℕ
+claim_text claim.Always = codes "always"
+claim_text claim.Never = codes "never"
+claim_text claim.Varies = codes "varies"
+
+abbrev pub truth_text : Bool → List ℕ
+truth_text true = codes "true"
+truth_text false = codes "false"
+
 -- the line of a refusal
 abbrev pub line_of : Refusal → List ℕ
 line_of (BadWords at) = codes "refused: BadWords(" ++ (decimal at ++ codes ")\n")
 line_of (UnbuiltForm path) = codes "refused: UnbuiltForm(" ++ (path ++ codes ")\n")
 line_of (UnbuiltTalk processor) = codes "refused: UnbuiltTalk(" ++ (processor ++ codes ")\n")
 line_of (TooManyQuestions processor most) = codes "refused: TooManyQuestions(" ++ (processor ++ (codes ", " ++ (decimal most ++ codes ")\n")))
+line_of (ClaimBroken processor declared said) =
+    codes "refused: ClaimBroken(" ++ (processor ++ (codes ", " ++ (claim_text declared ++ (codes ", " ++ (truth_text said ++ codes ")\n")))))
 line_of (GeneratedDuplicate name) = codes "refused: GeneratedDuplicate(" ++ (name ++ codes ")\n")
 line_of TooManyRounds = codes "refused: TooManyRounds(64)\n"
 line_of (TooLarge what limit) = codes "refused: TooLarge(" ++ (what_text what ++ (codes ", " ++ (decimal limit ++ codes ")\n")))

@@ -2,11 +2,11 @@
 ghost use Rattle.std.specs.Prelude.{◌≡◌, ◌++◌, IfOk, OnOk, codes, string_bytes, map};
 ghost use Rattle.std.specs.List.{flat_map};
 ghost use Rattle.apt_host.specs.Report.{kind_text, escaped, message_line, message_lines, unread_line, first_lines, file_line, file_lines, errors_report};
-ghost use Rattle.apt_host.specs.Verdicts.{verdict, what_text, refusal_of};
+ghost use Rattle.apt_host.specs.Verdicts.{verdict, what_text, claim_text, refusal_of};
 ghost use Rattle.apt_host.specs.Listed.{listed, summary_of, report_for};
 
 use crate::Status;
-use apt_base::{List, Name, What};
+use apt_base::{Claim, List, Name, What};
 use round_engine::Placed;
 use std::alloc::{AllocError, Global};
 use tree_store::StoredFile;
@@ -204,6 +204,17 @@ fn what_text(what: What) -> &'static str
     }
 }
 
+// What a processor declared of its claims.
+fn claim_text(claim: Claim) -> &'static str
+    ensures { result.now ≡ claim_text claim }
+{
+    match claim {
+        Claim::Always => "always",
+        Claim::Never => "never",
+        Claim::Varies => "varies",
+    }
+}
+
 /// The line of a refusal. A build that ended with a report has none.
 pub fn refusal(alloc: Global, status: &Status) -> Result<String, AllocError>
     ensures { IfOk result (λ text. string_bytes text ≡ refusal_of (verdict status.now)) }
@@ -222,6 +233,15 @@ pub fn refusal(alloc: Global, status: &Status) -> Result<String, AllocError>
         Status::TooManyQuestions { processor, limit } => {
             let processor = processor.as_str();
             format!(in alloc; "refused: TooManyQuestions({processor}, {limit})\n")
+        }
+        Status::ClaimBroken {
+            processor,
+            declared,
+            said,
+        } => {
+            let processor = processor.as_str();
+            let declared = claim_text(*declared);
+            format!(in alloc; "refused: ClaimBroken({processor}, {declared}, {said})\n")
         }
         Status::GeneratedDuplicate { name } => {
             let name = name.as_str();

@@ -5,7 +5,7 @@ ghost use Rattle.apt_host.specs.declared.status.Status.TheVariants as code;
 ghost use Rattle.apt_host.specs.Verdicts.{verdict, stopped, code_of};
 ghost use Rattle.apt_host.specs.Endings.{of_store};
 
-use apt_base::{Name, NoMemory, What};
+use apt_base::{Claim, Name, NoMemory, What};
 use std::alloc::{AllocError, AllocFailed};
 use tree_store::StoreFault;
 
@@ -41,6 +41,16 @@ pub enum Status {
         processor: Name,
         /// How often it may.
         limit: u32,
+    },
+    /// A child was done with a round, and said another thing of the claim than its processor had declared (JSR 269,
+    /// `Processor.process`).
+    ClaimBroken {
+        /// The processor's name.
+        processor: Name,
+        /// What it declared: `Always` or `Never`.
+        declared: Claim,
+        /// What the child said.
+        said: bool,
     },
     /// A created source gives a type that is there (JSR 269, `Filer`).
     GeneratedDuplicate {
@@ -79,6 +89,15 @@ impl From<round_engine::Refusal> for Status {
             round_engine::Refusal::TooManyQuestions { processor, limit } => {
                 Status::TooManyQuestions { processor, limit }
             }
+            round_engine::Refusal::ClaimBroken {
+                processor,
+                declared,
+                said,
+            } => Status::ClaimBroken {
+                processor,
+                declared,
+                said,
+            },
             round_engine::Refusal::UnbuiltForm { path } => Status::UnbuiltForm { path },
             round_engine::Refusal::GeneratedDuplicate { name } => {
                 Status::GeneratedDuplicate { name }
@@ -142,6 +161,15 @@ impl Status {
                 processor: processor.copy()?,
                 limit: *limit,
             }),
+            Status::ClaimBroken {
+                processor,
+                declared,
+                said,
+            } => Ok(Status::ClaimBroken {
+                processor: processor.copy()?,
+                declared: *declared,
+                said: *said,
+            }),
             Status::GeneratedDuplicate { name } => {
                 Ok(Status::GeneratedDuplicate { name: name.copy()? })
             }
@@ -172,6 +200,7 @@ impl Status {
             Status::SinkFault => 5,
             Status::ChildFault { .. } => 7,
             Status::TooManyQuestions { .. } => 11,
+            Status::ClaimBroken { .. } => 12,
             Status::GeneratedDuplicate { .. } => 19,
             Status::TooManyRounds => 20,
             Status::TooLarge { .. } => 21,

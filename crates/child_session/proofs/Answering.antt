@@ -1,9 +1,9 @@
 -- A frame is sent, and the answer is read.
-use Rattle.std.proofs.Common.{◌≡◌, ℕ, suc, ◌+◌, ◌-◌, List, [], ◌∷◌, ◌++◌, length, Option, None, Some, option_map, Result, Ok, Err, IfOk, IfSome, IsSome, IsSomeAnd, refl, sym, ap, ◌∙◌, subst, length-append, arith}
+use Rattle.std.proofs.Common.{◌≡◌, ℕ, suc, ◌-◌, List, [], ◌∷◌, ◌++◌, length, Option, None, Some, option_map, Result, Ok, Err, IfOk, IfSome, IsSome, IsSomeAnd, refl, sym, ap, ◌∙◌, subst, length-append, arith}
 use Rattle.std.specs.Prelude.{option_and_then}
 use Rattle.apt_outside.specs.Child.{Says, Child, State, Changes, Sends, written_by}
 use Rattle.wire_frames.specs.declared.frame.Frame.{Frame}
-use Rattle.wire_frames.specs.Readings.{frame_at}
+use Rattle.frame_stream.specs.Streams.{frame_at}
 use Rattle.child_session.specs.Talk.{Stream, rest_after, frame_behind, answer_to, HasAnswered, Exchanged, Exchanges, FindsFrame, TakesFrame}
 use Rattle.child_session.proofs.FramesInFront.{rest_after-append, rest_after-next}
 

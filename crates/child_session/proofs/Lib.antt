@@ -1,4 +1,6 @@
 pub mod FramesInFront
 pub mod Taking
 pub mod Answering
+pub mod Feeding
 pub mod Rounds
+pub mod BeginningLemmas

@@ -1,10 +1,14 @@
 -- One call on a child after another.
-use Rattle.std.proofs.Common.{◌≡◌, ℕ, ◌+◌, ◌<◌, ◌≤◌, List, [], ◌∷◌, ◌++◌, length, Option, None, Some, option_map, IfSome, IsSomeAnd, refl, sym, ap, ◌∙◌, subst, append_assoc, append-nil, length-append, arith}
-use Rattle.apt_outside.specs.Child.{Child, Known, State, Changes, Attends}
+use Rattle.std.proofs.Common.{◌≡◌, ℕ, ◌<◌, List, [], ◌++◌, length, Option, None, Some, IfSome, IsSomeAnd, refl, sym, ap, ◌∙◌, subst, append_assoc, append-nil, length-append, arith}
+use Rattle.apt_outside.specs.Child.{Child, Known, State, OfChild, Changes, Attends}
 use Rattle.wire_frames.specs.declared.frame.Frame.{Frame}
-use Rattle.wire_frames.specs.Readings.{frame_at, length_of, child_frame}
-use Rattle.child_session.specs.Talk.{TakesBytes, TakesMore, WantsMore, FindsFrame, TakesFrame}
-use Rattle.child_session.proofs.FramesInFront.{frame_at-short, frame_at-none, frame_at-cut, frame_at-whole}
+use Rattle.frame_reader.specs.declared.found.Found.TheVariants as founds
+use Rattle.frame_reader.specs.Stages.{found_in}
+use Rattle.frame_stream.specs.Streams.{frame_at}
+use Rattle.frame_stream.proofs.StreamsLemmas.{frame_at-begun}
+use Rattle.child_session.specs.declared.receiving.Progress.{Progress}
+use Rattle.child_session.specs.declared.receiving.Progress.TheVariants.{Begun, Over}
+use Rattle.child_session.specs.Talk.{TakesBytes, TakesMore, FindsFrame, TakesFrame, LeadsTo, IsLonger, FindsBehind, Reaches}
 
 pub changes_self : (child : ℕ) (known : Known) → Changes child known known
 changes_self child known = record { others = λ k ne. refl; same_child = λ before is. (before, is, refl, refl) }
@@ -45,56 +49,51 @@ takes_none (Some c) = (refl, refl)
 pub more_then : (child : ℕ) (a b c : State) (old new : List ℕ) → TakesBytes child a b old → TakesMore child b c old new → TakesBytes child a c new
 more_then child a b c old new first second = subst (TakesBytes child a c) (sym second.added) (takes_then child a b c old second.more first second.taken)
 
-ends : (x y z : Option Child) (bytes more : List ℕ) (count : ℕ) → length bytes < count → IfSome x (λ before. IsSomeAnd y (λ after. (after.sent ≡ before.sent) × (before.waiting ≡ bytes ++ after.waiting)))
-    → IfSome y (λ before. IsSomeAnd z (λ after. (after.sent ≡ before.sent) × (before.waiting ≡ more ++ after.waiting))) → IfSome y (λ before. before.waiting ≡ [])
-    → IfSome x (λ before. IsSomeAnd z (λ after. (after.sent ≡ before.sent) × (length before.waiting < count)))
-ends None y z bytes more count below taken last ended = tt
-ends (Some a) None z bytes more count below taken last ended = absurd taken
-ends (Some a) (Some b) None bytes more count below taken last ended = absurd last
-ends (Some a) (Some b) (Some c) bytes more count below taken last ended =
-    let all : a.waiting ≡ bytes = taken.1 ∙ ap (λ rest. bytes ++ rest) ended ∙ append-nil bytes in
-    (last.0 ∙ taken.0, omega (arith, ap length all))
+pub takes_nothing : (child : ℕ) (a : State) (bytes : List ℕ) → bytes ≡ [] → TakesBytes child a a bytes
+takes_nothing child a bytes none = subst (TakesBytes child a a) (sym none) (record { split = takes_none (a.known child) })
 
--- a child that ended early has too few bytes
-pub wants_more : (child : ℕ) (a b c : State) (bytes new : List ℕ) (count : ℕ) → length bytes < count → TakesBytes child a b bytes → TakesMore child b c bytes new → IfSome (b.known child) (λ before. before.waiting ≡ []) → WantsMore child a c count
-wants_more child a b c bytes new count below taken last ended = record { few = ends (a.known child) (b.known child) (c.known child) bytes last.more count below taken.split last.taken.split ended }
+-- ---- a frame that comes in pieces
 
-first_of_two : (x y z : Option Child) (head : List ℕ) (found : Option Frame) → ((w w' : List ℕ) → w ≡ head ++ w' → FindsFrame w found w') → IfSome x (λ before. IsSomeAnd y (λ after. (after.sent ≡ before.sent) × (before.waiting ≡ head ++ after.waiting)))
-    → IfSome x (λ before. IsSomeAnd y (λ after. (after.sent ≡ before.sent) × FindsFrame before.waiting found after.waiting))
-first_of_two None y z head found finds taken = tt
-first_of_two (Some a) None z head found finds taken = absurd taken
-first_of_two (Some a) (Some b) z head found finds taken = (taken.0, finds a.waiting b.waiting taken.1)
+-- bytes of a frame were taken, and then it was found
+pub found_then : (child : ℕ) (a b c : State) (bytes : List ℕ) (found : Option Frame) → TakesBytes child a b bytes → FindsBehind child bytes b c found → TakesFrame child a c found
+found_then child a b c bytes found first second = record {
+  first = through (a.known child) (b.known child) (c.known child)
+      (λ p q. (q.sent ≡ p.sent) × (p.waiting ≡ bytes ++ q.waiting)) (λ q r. (r.sent ≡ q.sent) × FindsFrame (bytes ++ q.waiting) found r.waiting) (λ p r. (r.sent ≡ p.sent) × FindsFrame p.waiting found r.waiting)
+      (λ p q r f s. (s.0 ∙ f.0, subst (λ (w : List ℕ). FindsFrame w found r.waiting) (sym f.1) s.1)) first.split second.behind;
+}
 
-too_short : (x y : Option Child) → IfSome x (λ before. IsSomeAnd y (λ after. (after.sent ≡ before.sent) × (length before.waiting < 4))) → IfSome x (λ before. IsSomeAnd y (λ after. (after.sent ≡ before.sent) × (frame_at before.waiting ≡ None)))
-too_short None y few = tt
-too_short (Some a) None few = absurd few
-too_short (Some a) (Some b) few = (few.0, frame_at-short a.waiting few.1)
+both_of : (x y : Option Child) (P Q : Child → Child → Type 0) → IfSome x (λ a. IsSomeAnd y (P a)) → IfSome x (λ a. IsSomeAnd y (Q a)) → IfSome x (λ a. IsSomeAnd y (λ b. P a b × Q a b))
+both_of None y P Q p q = tt
+both_of (Some a) None P Q p q = absurd p
+both_of (Some a) (Some b) P Q p q = (p, q)
 
--- no length stands first
-pub no_length : (child : ℕ) (a b : State) → WantsMore child a b 4 → TakesFrame child a b None
-no_length child a b wants = record { first = too_short (a.known child) (b.known child) wants.few }
+module _ (child : ℕ) (a b : State) (bytes piece : List ℕ) (sent : OfChild child a b (λ before after. after.sent ≡ before.sent)) (taken : OfChild child a b (λ before after. before.waiting ≡ piece ++ after.waiting)) where
+  split : OfChild child a b (λ before after. (after.sent ≡ before.sent) × (before.waiting ≡ piece ++ after.waiting))
+  split = both_of (a.known child) (b.known child) (λ before after. after.sent ≡ before.sent) (λ before after. before.waiting ≡ piece ++ after.waiting) sent taken
 
--- the length is none
-pub bad_length : (child : ℕ) (a b : State) (head : List ℕ) → length head ≡ 4 → length_of head ≡ None → TakesBytes child a b head → TakesFrame child a b None
-bad_length child a b head four none taken = record { first = first_of_two (a.known child) (b.known child) None head None (λ w w' is. ap frame_at is ∙ frame_at-none head w' four none) taken.split }
+  found_in_piece : (found : Option Frame) → ((rest : List ℕ) → FindsFrame ((bytes ++ piece) ++ rest) found rest) → (x y : Option Child) → IfSome x (λ before. IsSomeAnd y (λ after. (after.sent ≡ before.sent) × (before.waiting ≡ piece ++ after.waiting)))
+      → IfSome x (λ before. IsSomeAnd y (λ after. (after.sent ≡ before.sent) × FindsFrame (bytes ++ before.waiting) found after.waiting))
+  found_in_piece found finds None y h = tt
+  found_in_piece found finds (Some p) None h = absurd h
+  found_in_piece found finds (Some p) (Some q) h =
+      let all : (bytes ++ piece) ++ q.waiting ≡ bytes ++ p.waiting = append_assoc bytes piece q.waiting ∙ ap (λ (w : List ℕ). bytes ++ w) (sym h.1) in
+      (h.0, subst (λ (w : List ℕ). FindsFrame w found q.waiting) all (finds q.waiting))
 
-cut : (x y z : Option Child) (head : List ℕ) (n : ℕ) → length head ≡ 4 → length_of head ≡ Some n → IfSome x (λ before. IsSomeAnd y (λ after. (after.sent ≡ before.sent) × (before.waiting ≡ head ++ after.waiting)))
-    → IfSome y (λ before. IsSomeAnd z (λ after. (after.sent ≡ before.sent) × (length before.waiting < n))) → IfSome x (λ before. IsSomeAnd z (λ after. (after.sent ≡ before.sent) × (frame_at before.waiting ≡ None)))
-cut None y z head n four is taken few = tt
-cut (Some a) None z head n four is taken few = absurd taken
-cut (Some a) (Some b) None head n four is taken few = absurd few
-cut (Some a) (Some b) (Some c) head n four is taken few = (few.0 ∙ taken.0, ap frame_at taken.1 ∙ frame_at-cut head b.waiting n four is few.1)
+  -- a piece was taken, and fed to the reader
+  pub goes_behind : (progress : Progress) (new : List ℕ) → LeadsTo progress (bytes ++ piece) new → Reaches child bytes new a b progress
+  goes_behind Begun new leads = record { more = piece; added = leads.1; taken = record { split = split } }
+  goes_behind (Over found) new leads = record { behind = found_in_piece found leads (a.known child) (b.known child) split }
 
--- the child ended inside the frame
-pub cut_frame : (child : ℕ) (a b c : State) (head : List ℕ) (n : ℕ) → length head ≡ 4 → length_of head ≡ Some n → TakesBytes child a b head → WantsMore child b c n → TakesFrame child a c None
-cut_frame child a b c head n four is taken wants = record { first = cut (a.known child) (b.known child) (c.known child) head n four is taken.split wants.few }
+-- more bytes came
+pub is_longer : (bytes piece new : List ℕ) (progress : Progress) → 0 < length piece → LeadsTo progress (bytes ++ piece) new → IsLonger bytes new progress
+is_longer bytes piece new Begun some leads = (ap found_in leads.1 ∙ leads.0, omega (arith, some, ap length leads.1, length-append bytes piece))
+is_longer bytes piece new (Over found) some leads = tt
 
-found_frame : (w left : List ℕ) (found : Option Frame) → frame_at w ≡ option_map {U = Frame × List ℕ} (λ frame. (frame, left)) found → FindsFrame w found left
-found_frame w left None is = is
-found_frame w left (Some frame) is = is
-
--- the whole frame came
-pub whole_frame : (child : ℕ) (a b c : State) (head body : List ℕ) (n : ℕ) (found : Option Frame) → length head ≡ 4 → length_of head ≡ Some n → length body ≡ n → found ≡ child_frame body → TakesBytes child a b head → TakesBytes child b c body → TakesFrame child a c found
-whole_frame child a b c head body n found four is whole read first second =
-    let both = takes_then child a b c head body first second in
-    record { first = first_of_two (a.known child) (c.known child) None (head ++ body) found (λ w left e. found_frame w left found (ap frame_at (e ∙ append_assoc head body left) ∙ frame_at-whole head body left n four is whole ∙ ap (option_map {U = Frame × List ℕ} (λ frame. (frame, left))) (sym read))) both.split }
+-- no byte waits, and none will
+pub ends_behind : (child : ℕ) (a b : State) (bytes : List ℕ) → found_in bytes ≡ founds.Begun → OfChild child a b (λ before after. after.sent ≡ before.sent) → IfSome (a.known child) (λ before. before.waiting ≡ []) → FindsBehind child bytes a b None
+ends_behind child a b bytes starts sent ended = record { behind = cases (a.known child) (b.known child) sent ended }
+  where
+    cases : (x y : Option Child) → IfSome x (λ before. IsSomeAnd y (λ after. after.sent ≡ before.sent)) → IfSome x (λ before. before.waiting ≡ []) → IfSome x (λ before. IsSomeAnd y (λ after. (after.sent ≡ before.sent) × (frame_at (bytes ++ before.waiting) ≡ None)))
+    cases None y same none = tt
+    cases (Some p) None same none = absurd same
+    cases (Some p) (Some q) same none = (same, ap (λ (w : List ℕ). frame_at (bytes ++ w)) none ∙ ap frame_at (append-nil bytes) ∙ frame_at-begun bytes starts)

@@ -4,7 +4,7 @@ use Rattle.apt_outside.specs.Count.{Rose}
 use Rattle.apt_outside.specs.declared.fault.Fault.{Fault}
 use Rattle.apt_outside.specs.declared.fault.Fault.TheVariants as outside
 use Rattle.child_session.specs.declared.fault.SessionFault.{SessionFault}
-use Rattle.child_session.specs.declared.fault.SessionFault.TheVariants.{Failed, Unbuilt, TooManyQuestions, Memory}
+use Rattle.child_session.specs.declared.fault.SessionFault.TheVariants.{Failed, Unbuilt, TooManyQuestions, ClaimBroken, Memory}
 
 abbrev pub fault_of : Fault → SessionFault
 fault_of outside.Failed = Failed
@@ -21,6 +21,7 @@ IsFreeFault Failed = Unit {0}
 IsFreeFault Memory = Unit {0}
 IsFreeFault Unbuilt = ⊥
 IsFreeFault (TooManyQuestions limit) = ⊥
+IsFreeFault (ClaimBroken declared said) = ⊥
 
 -- refused, if at all, for one of these
 abbrev pub IsFree : {T : Type 0} → Result T SessionFault → Type 0

@@ -1,4 +1,5 @@
 pub mod Faults
 pub mod Talk
+pub mod Beginning
 pub mod Round
 pub mod Moments

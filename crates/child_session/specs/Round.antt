@@ -1,7 +1,12 @@
 -- What the answer to a round comes to: a child creates files and prints messages, one after another, each is answered, and
--- then it is done. A round is a function of what the child says, and of what was created before it.
-use Rattle.std.specs.Prelude.{◌≡◌, ℕ, zero, suc, ◌+◌, ◌*◌, true, false, List, [], ◌∷◌, ◌++◌, Option, None, Some, IsSome, Result, Ok, Err}
+-- then it is done and says whether its processor claims what it was offered. A round is a function of what the child says, and of what was created before it.
+use Rattle.std.specs.Prelude.{◌≡◌, ℕ, zero, suc, not, ◌==◌, Bool, true, false, List, [], ◌∷◌, ◌++◌, length, Option, None, Some, IsSome, if◌then◌else◌, Result, Ok, Err}
+use Rattle.apt_base.specs.declared.kinds.Claim.{Claim}
+use Rattle.apt_base.specs.declared.kinds.Claim.TheVariants.{Always, Never, Varies}
 use Rattle.apt_outside.specs.Child.{Says, Child, State}
+use Rattle.apt_base.specs.declared.element.ElementRef.{ElementRef}
+use Rattle.wire_frames.specs.declared.frame.Creation.{Creation}
+use Rattle.wire_frames.specs.declared.frame.Creation.TheVariants as creations
 use Rattle.wire_frames.specs.declared.frame.Frame.{Frame}
 use Rattle.wire_frames.specs.declared.frame.Frame.TheVariants as frame
 use Rattle.wire_frames.specs.declared.frame.Message.{Message}
@@ -11,30 +16,56 @@ use Rattle.wire_frames.specs.Frames.{spelling}
 use Rattle.apt_filer.specs.Filing as filing
 use Rattle.apt_filer.specs.Filing.{Filings, filed}
 use Rattle.child_session.specs.declared.fault.SessionFault.{SessionFault}
-use Rattle.child_session.specs.declared.fault.SessionFault.TheVariants.{Failed, Unbuilt, TooManyQuestions, Memory}
+use Rattle.child_session.specs.declared.fault.SessionFault.TheVariants.{Failed, Unbuilt, TooManyQuestions, ClaimBroken, Memory}
 use Rattle.child_session.specs.declared.round.Request.{Request}
 use Rattle.child_session.specs.declared.round.Request.TheVariants.{Create, Print}
 use Rattle.child_session.specs.declared.round.Turn.{Turn}
-use Rattle.child_session.specs.declared.round.Turn.TheVariants.{Ends, Asks, Leaves}
+use Rattle.child_session.specs.declared.round.Turn.TheVariants.{Ends, Differs, Asks, Leaves}
+use Rattle.child_session.specs.declared.round.Showing.{Showing}
+use Rattle.child_session.specs.declared.round.Answer.{Answer}
 use Rattle.child_session.specs.Talk.{Stream, answer_to, HasAnswered, WasAnswered, Exchanges}
 
 -- ---- what a frame means in a round
 
-abbrev pub turn_of : Frame → Turn
-turn_of (frame.Done true) = Ends
-turn_of (frame.Done false) = Leaves
-turn_of (frame.Create creation) = Asks (Create creation)
-turn_of (frame.Message message) = Asks (Print message)
-turn_of (frame.Init init) = Leaves
-turn_of (frame.Round number over error offered roots) = Leaves
-turn_of (frame.Reply answer) = Leaves
-turn_of (frame.Hello hello) = Leaves
-turn_of (frame.Ask question) = Leaves
+-- whether an answer keeps what the processor declared of its claims
+abbrev pub keeps : Claim → Bool → Bool
+keeps Always said = said
+keeps Never said = not said
+keeps Varies said = true
+
+-- the child is done, where its processor declared this
+abbrev pub done_with : Claim → Bool → Turn
+done_with declared said = if keeps declared said then Ends said else Differs said
+
+-- today's rounds have no originating elements
+abbrev pub has_no_origins : Creation → Bool
+has_no_origins (creations.Source name content origins) = length origins == 0
+has_no_origins (creations.Resource location folder relative content origins) = length origins == 0
+has_no_origins (creations.Class name content origins) = length origins == 0
+
+abbrev pub turn_by_origins : Bool → Creation → Turn
+turn_by_origins true creation = Asks (Create creation)
+turn_by_origins false creation = Leaves
+
+-- and no messages at an element
+abbrev pub turn_by_element : Option ElementRef → Message → Turn
+turn_by_element None message = Asks (Print message)
+turn_by_element (Some element) message = Leaves
+
+abbrev pub turn_of : Claim → Frame → Turn
+turn_of declared (frame.Done claimed) = done_with declared claimed
+turn_of declared (frame.Create creation) = turn_by_origins (has_no_origins creation) creation
+turn_of declared (frame.Message message) = turn_by_element message.element message
+turn_of declared (frame.Init init) = Leaves
+turn_of declared (frame.Round number over error offered roots) = Leaves
+turn_of declared (frame.Reply answer) = Leaves
+turn_of declared (frame.Hello hello) = Leaves
+turn_of declared (frame.Ask question) = Leaves
 
 -- a child that sent no frame has left the form
-abbrev pub turn_at : Option Frame → Turn
-turn_at None = Leaves
-turn_at (Some f) = turn_of f
+abbrev pub turn_at : Claim → Option Frame → Turn
+turn_at declared None = Leaves
+turn_at declared (Some f) = turn_of declared f
 
 -- ---- what the host answers
 
@@ -61,65 +92,66 @@ Replies child filings request old new answer = Exchanges child (reply_frame fili
 
 -- ---- what a round comes to
 
--- the frames that the child was sent in the end, what the filer has by then, and what the child printed in this round
+-- the frames that the child was sent in the end, and what the filer has by then
 pub data Act : Type 0 where
-  Answered : (sent : List (List ℕ)) (filings : Filings) (printed : List Message) → Act
+  -- what the child printed in this round, and whether its processor claims what it was offered
+  Answered : (sent : List (List ℕ)) (filings : Filings) (printed : List Message) (claimed : Bool) → Act
   -- its bytes left the form
   Broken : (sent : List (List ℕ)) (filings : Filings) → Act
   -- it asked once more than it may in a round
   Overasked : (sent : List (List ℕ)) (filings : Filings) → Act
+  -- it said this of its claim, and its processor had declared another thing
+  Differed : (sent : List (List ℕ)) (filings : Filings) (said : Bool) → Act
 
 -- what comes after a turn; go says what comes after an answer
 abbrev pub after_turn : Turn → List (List ℕ) → Filings → List Message → (List (List ℕ) → Filings → List Message → Act) → Act
-after_turn Ends sent filings printed go = Answered sent filings printed
+after_turn (Ends claimed) sent filings printed go = Answered sent filings printed claimed
+after_turn (Differs said) sent filings printed go = Differed sent filings said
 after_turn (Asks request) sent filings printed go = go (sent ++ reply_frame filings request ∷ []) (filed_after filings request) (printed_after printed request)
 after_turn Leaves sent filings printed go = Broken sent filings
 
 -- the answer to the frames that were sent, where the child may ask this many times more
-unfoldable pub round_from : Stream → ℕ → List (List ℕ) → Filings → List Message → Act
-round_from stream zero sent filings printed = after_turn (turn_at (answer_to stream sent)) sent filings printed (λ s f m. Overasked sent filings)
-round_from stream (suc left) sent filings printed = after_turn (turn_at (answer_to stream sent)) sent filings printed (round_from stream left)
+unfoldable pub round_from : Stream → Claim → ℕ → List (List ℕ) → Filings → List Message → Act
+round_from stream declared zero sent filings printed = after_turn (turn_at declared (answer_to stream sent)) sent filings printed (λ s f m. Overasked sent filings)
+round_from stream declared (suc left) sent filings printed = after_turn (turn_at declared (answer_to stream sent)) sent filings printed (round_from stream declared left)
 
--- the answer to a round, sent after these frames, in which the child may ask this many times
-abbrev pub answer_of_round : Stream → ℕ → List (List ℕ) → List ℕ → Filings → Act
-answer_of_round stream limit sent round filings = round_from stream limit (sent ++ round ∷ []) filings []
+-- what a round comes to that a child with these frames is shown, where the filer has these files
+abbrev pub act_of : Stream → Showing → List (List ℕ) → Filings → Act
+act_of stream showing sent filings = round_from stream showing.claim showing.limit (sent ++ showing.round ∷ []) filings []
 
 -- ---- what a call says of it
 
 -- a call's result, with the frames that were sent and what the filer has, is this act, unless it is a free one
-abbrev pub Comes : Act → ℕ → Result (List Message) SessionFault → List (List ℕ) → Filings → Type 0
-Comes act limit (Ok printed) sent filings = act ≡ Answered sent filings printed
-Comes act limit (Err Unbuilt) sent filings = act ≡ Broken sent filings
-Comes act limit (Err (TooManyQuestions most)) sent filings = (act ≡ Overasked sent filings) × (most ≡ limit)
-Comes act limit (Err Failed) sent filings = Unit {0}
-Comes act limit (Err Memory) sent filings = Unit {0}
+abbrev pub Comes : Act → Showing → Result Answer SessionFault → List (List ℕ) → Filings → Type 0
+Comes act showing (Ok answer) sent filings = act ≡ Answered sent filings answer.messages answer.claimed
+Comes act showing (Err Unbuilt) sent filings = act ≡ Broken sent filings
+Comes act showing (Err (TooManyQuestions most)) sent filings = (act ≡ Overasked sent filings) × (most ≡ showing.limit)
+Comes act showing (Err (ClaimBroken declared said)) sent filings = (act ≡ Differed sent filings said) × (declared ≡ showing.claim)
+Comes act showing (Err Failed) sent filings = Unit {0}
+Comes act showing (Err Memory) sent filings = Unit {0}
+
+-- whatever the child tells, it is refused by its limit and its claim alone
+abbrev pub IsDue : {T : Type 0} → Showing → Result T SessionFault → Type 0
+IsDue showing (Ok answer) = Unit {0}
+IsDue showing (Err (TooManyQuestions most)) = most ≡ showing.limit
+IsDue showing (Err (ClaimBroken declared said)) = (declared ≡ showing.claim) × (keeps declared said ≡ false)
+IsDue showing (Err Unbuilt) = Unit {0}
+IsDue showing (Err Failed) = Unit {0}
+IsDue showing (Err Memory) = Unit {0}
 
 -- a child that was answered Ok has answered
 abbrev pub OnAnswered : {T : Type 0} → Result T SessionFault → Type 0 → Type 0
 OnAnswered (Ok done) P = P
 OnAnswered (Err fault) P = Unit {0}
 
--- what a round is shown with: how often the child may ask, and its frame
-pub record Showing : Type 0 where
-  pub limit : ℕ
-  pub round : List ℕ
-
--- a round with this frame, in which the child may ask this many times
-abbrev pub showing_of : ℕ → List ℕ → Showing
-showing_of limit round = record { limit = limit; round = round }
-
--- what a round comes to that a child with these frames is shown, where the filer has these files
-abbrev pub act_of : Stream → Showing → List (List ℕ) → Filings → Act
-act_of stream showing sent filings = answer_of_round stream showing.limit sent showing.round filings
-
 -- a round was shown to the child, and this came of it
-pub record Shown (says : Says) (showing : Showing) (filings filings' : Filings) (result : Result (List Message) SessionFault) (before after : Child) : Type 0 where
+pub record Shown (says : Says) (showing : Showing) (filings filings' : Filings) (result : Result Answer SessionFault) (before after : Child) : Type 0 where
   pub name : after.name ≡ before.name
   pub command : after.command ≡ before.command
-  pub comes : Comes (act_of (says before.name before.command) showing before.sent filings) showing.limit result after.sent filings'
+  pub comes : Comes (act_of (says before.name before.command) showing before.sent filings) showing result after.sent filings'
   pub answered : OnAnswered result (HasAnswered says after)
 
-pub record Shows (child : ℕ) (showing : Showing) (old new : State) (filings filings' : Filings) (result : Result (List Message) SessionFault) : Type 0 where
+pub record Shows (child : ℕ) (showing : Showing) (old new : State) (filings filings' : Filings) (result : Result Answer SessionFault) : Type 0 where
   pub shown : WasAnswered child old new (Shown old.says showing filings filings' result)
 
 -- a round is under way: this answer came to the frames sent up to now, and what is left of it decides what comes of the whole
@@ -128,7 +160,7 @@ pub record Underway (says : Says) (showing : Showing) (filings filings' : Filing
   pub command : after.command ≡ before.command
   pub answer_is : answer ≡ answer_to (says before.name before.command) after.sent
   pub answered : IsSome answer → HasAnswered says after
-  pub rest : round_from (says before.name before.command) left after.sent filings' printed ≡ act_of (says before.name before.command) showing before.sent filings
+  pub rest : round_from (says before.name before.command) showing.claim left after.sent filings' printed ≡ act_of (says before.name before.command) showing before.sent filings
 
 pub record GoesOn (child : ℕ) (showing : Showing) (old new : State) (filings filings' : Filings) (printed : List Message) (left : ℕ) (answer : Option Frame) : Type 0 where
   pub way : WasAnswered child old new (Underway old.says showing filings filings' printed left answer)

@@ -1,9 +1,12 @@
 -- What a child says to the frames that it was sent: the frame at each place of its stream, and what the answer to a round comes to.
-use Rattle.std.specs.Prelude.{◌≡◌, ◌<◌, ℕ, zero, suc, ◌+◌, ◌-◌, List, [], ◌∷◌, ◌++◌, length, Option, None, Some, option_map, option_and_then, IsSome, IfSome, IsSomeAnd, Vec}
-use Rattle.std.specs.declared.alloc.Global.{Global}
+use Rattle.std.specs.Prelude.{◌≡◌, ◌<◌, ℕ, zero, suc, ◌+◌, ◌-◌, List, [], ◌∷◌, ◌++◌, length, Option, None, Some, option_map, option_and_then, IsSome, IfSome, IsSomeAnd}
 use Rattle.apt_outside.specs.Child.{Says, Child, State, OfChild, written_by}
 use Rattle.wire_frames.specs.declared.frame.Frame.{Frame}
-use Rattle.wire_frames.specs.Readings.{frame_at}
+use Rattle.frame_reader.specs.declared.found.Found.TheVariants as founds
+use Rattle.frame_reader.specs.Stages.{found_in}
+use Rattle.frame_stream.specs.Streams.{frame_at}
+use Rattle.child_session.specs.declared.receiving.Progress.{Progress}
+use Rattle.child_session.specs.declared.receiving.Progress.TheVariants.{Begun, Over}
 
 -- all that a child writes, by the frames that it was sent
 abbrev pub Stream : Type 0
@@ -52,19 +55,6 @@ pub record TakesMore (child : ℕ) (old new : State) (bytes bytes' : List ℕ) :
   pub added : bytes' ≡ bytes ++ more
   pub taken : TakesBytes child old new more
 
--- none was given only where none waits
-abbrev pub EndsAtNone : ℕ → State → ℕ → Type 0
-EndsAtNone child old n = n ≡ 0 → IfSome (old.known child) (λ before. before.waiting ≡ [])
-
--- fewer bytes wait than were wanted, and there will be no more
-pub record WantsMore (child : ℕ) (old new : State) (count : ℕ) : Type 0 where
-  pub few : OfChild child old new (λ before after. (after.sent ≡ before.sent) × (length before.waiting < count))
-
--- this many bytes were taken, or there are fewer
-abbrev pub TakesCount : ℕ → ℕ → State → State → Option (Vec ℕ Global) → Type 0
-TakesCount child count old new None = WantsMore child old new count
-TakesCount child count old new (Some bytes) = (length bytes.items ≡ count) × TakesBytes child old new bytes.items
-
 -- the frame that stands first was taken from the bytes that wait, or none does
 abbrev pub FindsFrame : List ℕ → Option Frame → List ℕ → Type 0
 FindsFrame waiting None left = frame_at waiting ≡ None
@@ -72,3 +62,24 @@ FindsFrame waiting (Some frame) left = frame_at waiting ≡ Some (frame, left)
 
 pub record TakesFrame (child : ℕ) (old new : State) (found : Option Frame) : Type 0 where
   pub first : OfChild child old new (λ before after. (after.sent ≡ before.sent) × FindsFrame before.waiting found after.waiting)
+
+-- ---- a frame that comes in pieces
+
+-- what bytes that were fed to a reader lead to, and what it has then: they begin a frame, or whatever comes behind them a frame is found, or that there is none
+abbrev pub LeadsTo : Progress → List ℕ → List ℕ → Type 0
+LeadsTo Begun bytes new = (found_in bytes ≡ founds.Begun) × (new ≡ bytes)
+LeadsTo (Over found) bytes new = (rest : List ℕ) → FindsFrame (bytes ++ rest) found rest
+
+-- more bytes of a frame that is begun
+abbrev pub IsLonger : List ℕ → List ℕ → Progress → Type 0
+IsLonger old new Begun = (found_in new ≡ founds.Begun) × (length old < length new)
+IsLonger old new (Over found) = Unit {0}
+
+-- the frame that begins with these bytes, or that none does, was found in those that wait behind them
+pub record FindsBehind (child : ℕ) (bytes : List ℕ) (old new : State) (found : Option Frame) : Type 0 where
+  pub behind : OfChild child old new (λ before after. (after.sent ≡ before.sent) × FindsFrame (bytes ++ before.waiting) found after.waiting)
+
+-- behind these bytes of a frame more were taken, which begin it, or it was found
+abbrev pub Reaches : ℕ → List ℕ → List ℕ → State → State → Progress → Type 0
+Reaches child bytes bytes' old new Begun = TakesMore child old new bytes bytes'
+Reaches child bytes bytes' old new (Over found) = FindsBehind child bytes old new found

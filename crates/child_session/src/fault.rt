@@ -4,7 +4,7 @@ ghost use Rattle.apt_outside.specs.declared.fault.Fault.TheVariants as outside;
 ghost use Rattle.child_session.specs.declared.fault.SessionFault.TheVariants.{Failed, Memory};
 ghost use Rattle.child_session.specs.Faults.{fault_of};
 
-use apt_base::NoMemory;
+use apt_base::{Claim, NoMemory};
 use apt_outside::Fault;
 use std::alloc::{AllocError, AllocFailed};
 use wire_frames::FrameFault;
@@ -20,6 +20,13 @@ pub enum SessionFault {
     TooManyQuestions {
         /// How often it may.
         limit: u32,
+    },
+    /// The child was done with a round, and said another thing of the claim than its processor had declared.
+    ClaimBroken {
+        /// What it declared: `Always` or `Never`.
+        declared: Claim,
+        /// What the child said.
+        said: bool,
     },
     /// Want of memory.
     Memory,

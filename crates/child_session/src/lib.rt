@@ -5,10 +5,12 @@
 //! answer to a round comes to.
 #![tactic(auto)]
 
+mod beginning;
 mod fault;
 mod receiving;
 mod round;
 
+pub use beginning::begin;
 pub use fault::SessionFault;
 pub use receiving::exchange;
-pub use round::show_round;
+pub use round::{Answer, Showing, show_round};

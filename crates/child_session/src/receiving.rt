@@ -1,67 +1,76 @@
 // Takes bytes and frames from a child.
-ghost use Rattle.std.specs.Prelude.{◌≡◌, ◌<◌, ◌≤◌, ◌+◌, length, Contains, IfOk, IfSome};
+ghost use Rattle.std.specs.Prelude.{◌≡◌, ◌<◌, ◌≤◌, ◌++◌, length, Contains, IfOk};
 ghost use Rattle.apt_outside.specs.Count.{HasCause, Told};
 ghost use Rattle.apt_outside.specs.Child.{Attends};
-ghost use Rattle.child_session.specs.Talk.{EndsAtNone, TakesCount, TakesFrame, Exchanges};
-ghost use Rattle.child_session.specs.Moments.{Gives, AddsTaken};
+ghost use Rattle.frame_reader.specs.Stages.{found_in, wanted_in};
+ghost use Rattle.frame_reader.specs.declared.found.Found.TheVariants as founds;
+ghost use Rattle.child_session.specs.Talk.{Reaches, IsLonger, LeadsTo, TakesFrame, Exchanges};
+ghost use Rattle.child_session.specs.Moments.{Gives};
 
+use apt_base::NoMemory;
 use apt_outside::{Children, Fault};
+use frame_stream::{ReadFault, Reader};
 use std::alloc::Global;
-use wire_frames::{Frame, frame_length, read_child_frame};
+use wire_frames::Frame;
 
 const ROOM: usize = 4096;
 
-/// Takes bytes that wait into the room, and adds them to those that came before.
+/// What the bytes of a frame that came up to now lead to.
+#[derive(Drop)]
+pub enum Progress {
+    /// They are the beginning of a frame.
+    Begun,
+    /// They are this frame, or there is none: one of them is bad, or no more will come.
+    Over(Option<Frame>),
+}
+
+/// Feeds a reader bytes that come next of a frame.
+fn feed_all(reader: &mut Reader, bytes: &[u8]) -> Result<Progress, NoMemory>
+    requires begun { found_in reader.old ≡ founds.Begun }
+    requires next { length bytes.now ≤ wanted_in reader.old }
+    ensures { IfOk result (λ progress. LeadsTo progress (reader.old ++ bytes.now) reader.new) }
+{
+    for byte in bytes {
+        match reader.feed(*byte) {
+            Ok(None) => {}
+            Ok(Some(frame)) => return Ok(Progress::Over(Some(frame))),
+            Err(ReadFault::Bad { .. }) => return Ok(Progress::Over(None)),
+            Err(ReadFault::Memory) => return Err(NoMemory),
+        }
+    }
+    Ok(Progress::Begun)
+}
+
+/// Takes bytes that wait into the room, which has none for a byte behind the frame, and feeds them to the reader.
 fn receive_more<C: Children>(
     children: &mut C,
     child: u32,
     room: &mut [u8],
-    bytes: &mut Vec<u8>,
-) -> Result<usize, Fault>
+    reader: &mut Reader,
+) -> Result<Progress, Fault>
     requires lives { Contains (C.state children.old).live child }
     requires room { 0 < length room.old }
+    requires begun { found_in reader.old ≡ founds.Begun }
+    requires next { length room.old ≤ wanted_in reader.old }
     ensures cause { HasCause (C.faults children.old) (C.faults children.new) result }
     ensures starts { (C.state children.new).starts ≡ (C.state children.old).starts }
     ensures live { (C.state children.new).live ≡ (C.state children.old).live }
     ensures attends { Told C.tells (Attends child (C.state children.old) (C.state children.new)) }
-    ensures fits { IfOk result (λ n. n ≤ length room.old) }
-    ensures counted { IfOk result (λ n. length bytes.new.items ≡ length bytes.old.items + n) }
-    ensures taken { AddsTaken C.Children child children.old children.new bytes.old bytes.new result }
-    ensures ended { Told C.tells (IfOk result (EndsAtNone child (C.state children.old))) }
+    ensures longer { IfOk result (IsLonger reader.old reader.new) }
+    ensures taken { Gives C.Children children.old children.new result (Reaches child reader.old reader.new) }
 {
     let got = children.receive(child, room)?;
-    bytes.extend_from_slice(&room[..got])?;
-    Ok(got)
-}
-
-/// Takes `count` bytes from a child, or none where it ends before.
-fn receive_bytes<C: Children>(
-    alloc: Global,
-    children: &mut C,
-    child: u32,
-    count: usize,
-) -> Result<Option<Vec<u8>>, Fault>
-    requires lives { Contains (C.state children.old).live child }
-    ensures cause { HasCause (C.faults children.old) (C.faults children.new) result }
-    ensures starts { (C.state children.new).starts ≡ (C.state children.old).starts }
-    ensures live { (C.state children.new).live ≡ (C.state children.old).live }
-    ensures attends { Told C.tells (Attends child (C.state children.old) (C.state children.new)) }
-    ensures counted { IfOk result (λ found. IfSome found (λ bytes. length bytes.items ≡ count)) }
-    ensures taken { Gives C.Children children.old children.new result (TakesCount child count) }
-{
-    let mut room = [0u8; ROOM];
-    let mut bytes = Vec::new(alloc);
-    while bytes.len() < count {
-        let wanted = (count - bytes.len()).min(ROOM);
-        if receive_more(children, child, &mut room[..wanted], &mut bytes)? == 0 {
-            return Ok(None);
-        }
+    if got == 0 {
+        return Ok(Progress::Over(None));
     }
-    Ok(Some(bytes))
+    match feed_all(reader, &room[..got]) {
+        Ok(progress) => Ok(progress),
+        Err(NoMemory) => Err(Fault::Memory),
+    }
 }
 
-/// The next frame of a child, or none where its bytes are no frame that a child may send, or it ends before the
-/// frame is whole.
+/// The next frame of a child, by the table of all frames, or none where its bytes are no frame, or it ends before the
+/// frame is whole. No byte behind a frame is taken.
 fn read_frame<C: Children>(
     alloc: Global,
     children: &mut C,
@@ -74,22 +83,18 @@ fn read_frame<C: Children>(
     ensures attends { Told C.tells (Attends child (C.state children.old) (C.state children.new)) }
     ensures taken { Gives C.Children children.old children.new result (TakesFrame child) }
 {
-    let Some(head) = receive_bytes(alloc, children, child, 4)? else {
-        return Ok(None);
-    };
-    let Some(length) = frame_length(&head) else {
-        return Ok(None);
-    };
-    let Some(bytes) = receive_bytes(alloc, children, child, length as usize)? else {
-        return Ok(None);
-    };
-    match read_child_frame(alloc, &bytes) {
-        Ok(found) => Ok(found),
-        Err(_) => Err(Fault::Memory),
+    let mut room = [0u8; ROOM];
+    let mut reader = Reader::new(alloc);
+    loop {
+        let wanted = reader.wanted().min(ROOM);
+        match receive_more(children, child, &mut room[..wanted], &mut reader)? {
+            Progress::Begun => {}
+            Progress::Over(found) => return Ok(found),
+        }
     }
 }
 
-/// Sends a frame to a child, and gives its answer: the next frame, or none where its bytes are no such frame.
+/// Sends a frame to a child, and gives its answer: the next frame, or none where its bytes are no frame.
 pub fn exchange<C: Children>(
     alloc: Global,
     children: &mut C,

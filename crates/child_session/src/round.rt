@@ -5,16 +5,36 @@ ghost use Rattle.wire_frames.specs.Frames.{spelling};
 ghost use Rattle.wire_frames.specs.declared.frame.Frame.TheVariants as frames;
 ghost use Rattle.child_session.specs.Faults.{HasReason, IsFree};
 ghost use Rattle.apt_outside.specs.Child.{Attends};
-ghost use Rattle.child_session.specs.Round.{turn_at, reply_to, filed_after, printed_after, Replies};
+ghost use Rattle.child_session.specs.Round.{IsDue, keeps, done_with, has_no_origins, turn_by_origins, turn_by_element, turn_at, reply_to, filed_after, printed_after, Replies};
 ghost use Rattle.child_session.specs.Moments.{Gives, Shows};
 
 use crate::SessionFault;
 use crate::receiving::exchange;
-use apt_base::{List, NoMemory};
+use apt_base::{Claim, List, NoMemory};
 use apt_filer::Filer;
 use apt_outside::Children;
 use std::alloc::Global;
 use wire_frames::{Creation, Frame, Message, Reply, encode};
+
+/// What a child is shown of a round.
+#[derive(Drop)]
+pub struct Showing {
+    /// How often it may ask.
+    pub limit: u32,
+    /// What its processor declared of its claims.
+    pub claim: Claim,
+    /// The round's frame.
+    pub round: List<u8>,
+}
+
+/// What a child did in a round, beside what it created.
+#[derive(Drop)]
+pub struct Answer {
+    /// What it printed, in order.
+    pub messages: List<Message>,
+    /// Whether its processor claims what it was offered.
+    pub claimed: bool,
+}
 
 /// What a child asks of the host in a round.
 #[derive(Drop)]
@@ -29,21 +49,84 @@ pub enum Request {
 #[derive(Drop)]
 pub enum Turn {
     /// The child is done with the round.
-    Ends,
+    Ends {
+        /// Whether its processor claims what it was offered.
+        claimed: bool,
+    },
+    /// It is done, and says another thing of the claim than its processor declared.
+    Differs {
+        /// What it says.
+        said: bool,
+    },
     /// It asks, and is answered.
     Asks(Request),
     /// It is none of the frames that may come there.
     Leaves,
 }
 
-/// What a child's answer means in a round.
-fn turn_of(answer: Option<Frame>) -> Turn
-    ensures { result ≡ turn_at answer }
+// Whether an answer keeps what the processor declared of its claims.
+fn keeps(declared: Claim, said: bool) -> bool
+    ensures { result ≡ keeps declared said }
+{
+    match declared {
+        Claim::Always => said,
+        Claim::Never => !said,
+        Claim::Varies => true,
+    }
+}
+
+fn done_with(declared: Claim, said: bool) -> Turn
+    ensures { result ≡ done_with declared said }
+{
+    if keeps(declared, said) {
+        Turn::Ends { claimed: said }
+    } else {
+        Turn::Differs { said }
+    }
+}
+
+fn has_no_origins(creation: &Creation) -> bool
+    ensures { result ≡ has_no_origins creation.now }
+{
+    match creation {
+        Creation::Source { origins, .. } => origins.is_empty(),
+        Creation::Resource { origins, .. } => origins.is_empty(),
+        Creation::Class { origins, .. } => origins.is_empty(),
+    }
+}
+
+// Today's rounds have no originating elements.
+fn creation_turn(creation: Creation) -> Turn
+    ensures { result ≡ turn_by_origins (has_no_origins creation) creation }
+{
+    if has_no_origins(&creation) {
+        Turn::Asks(Request::Create(creation))
+    } else {
+        Turn::Leaves
+    }
+}
+
+// Today's rounds have no messages at an element.
+fn message_turn(message: Message) -> Turn
+    ensures { result ≡ turn_by_element message.element message }
+{
+    if message.element.is_some() {
+        Turn::Leaves
+    } else {
+        Turn::Asks(Request::Print(message))
+    }
+}
+
+/// What a child's answer means in a round, where its processor declared this of its claims. A frame of the table that no
+/// round has today leaves its form: a creation with originating elements, a message at an element, a question, a frame
+/// of the host's.
+fn turn_of(declared: Claim, answer: Option<Frame>) -> Turn
+    ensures { result ≡ turn_at declared answer }
 {
     match answer {
-        Some(Frame::Done { claimed: true }) => Turn::Ends,
-        Some(Frame::Create(creation)) => Turn::Asks(Request::Create(creation)),
-        Some(Frame::Message(message)) => Turn::Asks(Request::Print(message)),
+        Some(Frame::Done { claimed }) => done_with(declared, claimed),
+        Some(Frame::Create(creation)) => creation_turn(creation),
+        Some(Frame::Message(message)) => message_turn(message),
         _ => Turn::Leaves,
     }
 }
@@ -104,39 +187,44 @@ fn take_turn<C: Children>(
     Ok(exchange(alloc, children, child, frame.as_slice())?)
 }
 
-/// Shows a round to a child, which may ask `limit` times in it, and gives what it prints. What it creates is added to
+/// Shows a round to a child, and gives what it prints and whether its processor claims. What it creates is added to
 /// the files that were made before.
 ///
-/// `Unbuilt` comes exactly where the child's bytes are not the frames of a round, and `TooManyQuestions` exactly where
-/// it asks once more than `limit`. After either the filer has what was accepted up to then.
+/// `Unbuilt` comes exactly where the child's bytes are not the frames of a round, `TooManyQuestions` exactly where it asks
+/// once more than it may, and `ClaimBroken` exactly where it is done and says another thing than its processor declared
+/// with `Always` or `Never` (JSR 269, `Processor.process`). After each the filer has what was accepted up to then.
 pub fn show_round<C: Children>(
     alloc: Global,
     children: &mut C,
     child: u32,
-    round: &[u8],
-    limit: u32,
+    showing: &Showing,
     filer: &mut Filer,
-) -> Result<List<Message>, SessionFault>
+) -> Result<Answer, SessionFault>
     requires lives { Contains (C.state children.old).live child }
     ensures reason { HasReason (C.faults children.old) (C.faults children.new) result }
     ensures starts { (C.state children.new).starts ≡ (C.state children.old).starts }
     ensures live { (C.state children.new).live ≡ (C.state children.old).live }
     ensures attends { Told C.tells (Attends child (C.state children.old) (C.state children.new)) }
-    ensures shown { Shows C.Children child limit round.now children.old children.new filer.old filer.new result }
+    ensures due { IsDue showing.now result }
+    ensures shown { Shows C.Children child showing.now children.old children.new filer.old filer.new result }
 {
-    let mut printed = List::new(alloc);
-    let mut answer = exchange(alloc, children, child, round)?;
+    let limit = showing.limit;
+    let declared = showing.claim;
+    let mut messages = List::new(alloc);
+    let mut answer = exchange(alloc, children, child, showing.round.as_slice())?;
     for count in 0..limit {
-        match turn_of(answer) {
-            Turn::Ends => return Ok(printed),
+        match turn_of(declared, answer) {
+            Turn::Ends { claimed } => return Ok(Answer { messages, claimed }),
+            Turn::Differs { said } => return Err(SessionFault::ClaimBroken { declared, said }),
             Turn::Asks(request) => {
-                answer = take_turn(alloc, children, child, request, filer, &mut printed)?;
+                answer = take_turn(alloc, children, child, request, filer, &mut messages)?;
             }
             Turn::Leaves => return Err(SessionFault::Unbuilt),
         }
     }
-    match turn_of(answer) {
-        Turn::Ends => return Ok(printed),
+    match turn_of(declared, answer) {
+        Turn::Ends { claimed } => return Ok(Answer { messages, claimed }),
+        Turn::Differs { said } => return Err(SessionFault::ClaimBroken { declared, said }),
         Turn::Asks(_) => return Err(SessionFault::TooManyQuestions { limit }),
         Turn::Leaves => return Err(SessionFault::Unbuilt),
     }

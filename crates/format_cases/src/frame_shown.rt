@@ -1,4 +1,4 @@
-// The words for frames of a child, as they are read.
+// The words for frames, as they are read.
 use crate::base::{
     Claim, ElementRef, List, Name, element_word, elements_word, name_word, names_word,
 };
@@ -74,7 +74,7 @@ fn creation(alloc: Global, creation: &Creation) -> Result<String, CaseFault> {
     }
 }
 
-/// The words for a frame of a child.
+/// The words for a frame.
 pub fn frame(alloc: Global, frame: &Frame) -> Result<String, CaseFault> {
     match frame {
         Frame::Hello(sent) => hello(alloc, sent),

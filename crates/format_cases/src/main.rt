@@ -15,9 +15,10 @@ mod sources;
 
 use base::{is_dotted, is_identifier, is_pattern};
 use case_lines::{Calls, CaseFault, hex_bytes, hex_digits, run, text, yes_or_no};
+use frame_decoder::decode;
 use std::alloc::Global;
 use std::process::ExitCode;
-use wire_frames::{Frame, FrameFault, encode, frame_length, read_child_frame};
+use wire_frames::{Frame, FrameFault, encode};
 
 /// The calls of the formats.
 #[derive(Drop)]
@@ -28,8 +29,7 @@ impl Calls for Formats {
         match words {
             ["encode", words @ ..] => encoded_words(alloc, words),
             ["copy", kind, value @ ..] => copies::copied(alloc, kind, value),
-            ["read", bytes] => child_frame(alloc, bytes),
-            ["length", head] => length(alloc, head),
+            ["read", bytes] => frame_read_from(alloc, bytes),
             ["write_fields", fields @ ..] => fields::written(alloc, fields),
             ["read_fields", bytes, kinds @ ..] => fields::read(alloc, bytes, kinds),
             ["record"] => records::empty_record(alloc),
@@ -75,16 +75,10 @@ fn encoded(alloc: Global, frame: &Frame) -> Result<String, CaseFault> {
     }
 }
 
-fn child_frame(alloc: Global, word: &str) -> Result<String, CaseFault> {
-    match read_child_frame(alloc, &hex_bytes(alloc, word)?)? {
+// The frame whose tag and fields the bytes are.
+fn frame_read_from(alloc: Global, word: &str) -> Result<String, CaseFault> {
+    match decode(alloc, &hex_bytes(alloc, word)?)? {
         Some(frame) => frame_shown::frame(alloc, &frame),
-        None => Ok(String::from_str(alloc, "none")?),
-    }
-}
-
-fn length(alloc: Global, word: &str) -> Result<String, CaseFault> {
-    match frame_length(&hex_bytes(alloc, word)?) {
-        Some(length) => Ok(format!(in alloc; "{length}")?),
         None => Ok(String::from_str(alloc, "none")?),
     }
 }

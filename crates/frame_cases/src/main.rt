@@ -6,8 +6,11 @@
 //! |---|---|
 //! | `again BYTES` | what the frame is that the bytes are, its length first, and the bytes that it is written as; or `none` |
 //! | `feed BYTES` | what each byte of a stream is answered, by its number from 1, where that is not `None`; and how many bytes wait at the end |
+//! | `pieces SIZE BYTES` | the same of a stream that comes in pieces of this many bytes, up to the first bad byte |
 //! | `begun BYTES` | how many of the bytes of a stream are answered `None` before another answer, and that one |
 #![tactic(auto)]
+
+ghost use Rattle.std.specs.Prelude.{◌<◌, IfOk};
 
 mod names;
 mod streams;
@@ -28,6 +31,10 @@ impl Calls for FrameCalls {
         match words {
             ["again", bytes @ ..] => again(alloc, &bytes_of(alloc, bytes)?),
             ["feed", bytes @ ..] => streams::answers(alloc, &bytes_of(alloc, bytes)?),
+            ["pieces", size, bytes @ ..] => {
+                let bytes = bytes_of(alloc, bytes)?;
+                streams::piece_answers(alloc, piece_size(size)?, &bytes)
+            }
             ["begun", bytes @ ..] => streams::first_answer(alloc, &bytes_of(alloc, bytes)?),
             _ => Err(CaseFault::NotACase),
         }
@@ -42,6 +49,17 @@ fn bytes_of(alloc: Global, words: &[&str]) -> Result<Vec<u8>, CaseFault> {
         bytes.extend_from_slice(&hex_bytes(alloc, digits.as_str())?)?;
     }
     Ok(bytes)
+}
+
+// How many bytes a piece has.
+fn piece_size(word: &str) -> Result<usize, CaseFault>
+    ensures { IfOk result (λ size. 0 < size) }
+{
+    let size = word.parse::<usize>()?;
+    if size == 0 {
+        return Err(CaseFault::NotACase);
+    }
+    Ok(size)
 }
 
 // What a frame is, behind its length, and how it is written.

@@ -1,4 +1,6 @@
 // What the bytes of a stream are answered.
+ghost use Rattle.std.specs.Prelude.{◌<◌};
+
 use crate::names::{frame_name, kind_name};
 use case_lines::{CaseFault, push_word};
 use frame_stream::{ReadFault, Reader};
@@ -32,6 +34,52 @@ pub(crate) fn answers(alloc: Global, bytes: &[u8]) -> Result<String, CaseFault> 
         if let Some(answer) = answer_word(alloc, reader.feed(*byte))? {
             push_word(&mut words, format!(in alloc; "{number}:{answer}")?.as_str())?;
         }
+    }
+    let waiting = reader.waiting();
+    push_word(&mut words, format!(in alloc; "waiting {waiting}")?.as_str())?;
+    Ok(words)
+}
+
+// Pushes what the bytes of a piece are answered, which stand behind this many, and tells whether none of them is bad.
+fn push_piece(
+    alloc: Global,
+    reader: &mut Reader,
+    piece: &[u8],
+    before: usize,
+    words: &mut String,
+) -> Result<bool, CaseFault> {
+    let mut rest = piece;
+    let mut number = before;
+    for _ in 0..piece.len() {
+        let progress = reader.feed_slice(rest);
+        rest = &rest[progress.taken..];
+        number = number.saturating_add(progress.taken);
+        let is_bad = progress.answer.is_err();
+        if let Some(answer) = answer_word(alloc, progress.answer)? {
+            push_word(words, format!(in alloc; "{number}:{answer}")?.as_str())?;
+        }
+        if is_bad {
+            return Ok(false);
+        }
+        if rest.is_empty() {
+            return Ok(true);
+        }
+    }
+    Ok(true)
+}
+
+/// The answers of all bytes up to the first bad one that are not `None`, where the bytes come in pieces of this size, and how many bytes wait.
+pub(crate) fn piece_answers(alloc: Global, size: usize, bytes: &[u8]) -> Result<String, CaseFault>
+    requires { 0 < size }
+{
+    let mut reader = Reader::new(alloc);
+    let mut words = String::new(alloc);
+    let mut before: usize = 0;
+    for piece in bytes.chunks(size) {
+        if !push_piece(alloc, &mut reader, piece, before, &mut words)? {
+            break;
+        }
+        before = before.saturating_add(piece.len());
     }
     let waiting = reader.waiting();
     push_word(&mut words, format!(in alloc; "waiting {waiting}")?.as_str())?;

@@ -84,6 +84,7 @@ fn decoded(alloc: Global, bytes: &[u8]) -> Result<Option<Frame>, NoMemory>
 ///
 /// None comes exactly where the table has no such frame. The only error is `NoMemory`.
 pub fn decode(alloc: Global, bytes: &[u8]) -> Result<Option<Frame>, NoMemory>
+    ensures exact { IfOk result (λ found. found ≡ decoded bytes.now) }
     // What is given is the frame of the table that is spelled so.
     ensures found { IfOk result (λ found. IfSome found (λ frame. AreFieldsOf bytes.now frame)) }
     // Where none is given the table has none.

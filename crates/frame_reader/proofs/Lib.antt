@@ -10,3 +10,4 @@ pub mod Stepping
 pub mod Following
 pub mod Staging
 pub mod Scanning
+pub mod Wanted

@@ -1,11 +1,13 @@
 -- What is found at each stage.
-use Rattle.std.proofs.Common.{◌≡◌, ℕ, ◌+◌, ◌-◌, ◌<◌, ◌≤◌, Bool, true, false, List, [], ◌∷◌, ◌++◌, length, slice_get, Option, Some, None, refl, sym, ap, ◌∙◌, subst, arith}
-use Rattle.std.proofs.lemmas.List.{length-append}
+use Rattle.std.proofs.Common.{◌≡◌, inl, inr, Ok, ℕ, ◌+◌, ◌-◌, ◌<◌, ◌≤◌, Bool, true, false, List, [], ◌∷◌, ◌++◌, length, take, drop, get_or, slice_get, Option, Some, None, refl, sym, ap, ◌∙◌, subst, append_assoc, append-nil, take-add, arith}
+use Rattle.std.proofs.lemmas.List.{length-append, length-take-le, length-drop}
 use Rattle.frame_forms.specs.declared.bad_kind.BadKind.{BadKind}
 use Rattle.frame_forms.specs.declared.bad_kind.BadKind.TheVariants as kinds
-use Rattle.frame_forms.specs.FrameTable.{frame_form}
-use Rattle.frame_forms.specs.Frames.{scanned}
-use Rattle.frame_forms.proofs.Framed.{range_is}
+use Rattle.frame_forms.specs.Scans.{Scan, whole, begun, bad}
+use Rattle.frame_forms.specs.FrameTable.{Fields, frame_form}
+use Rattle.frame_forms.specs.Frames.{scanned, frame_scan}
+use Rattle.frame_forms.proofs.Framed.{range_is, begun_front}
+use Rattle.frame_forms.proofs.FrameLawProofs.{frames_steady}
 use Rattle.frame_reader.specs.declared.fields.FieldsReader.{FieldsReader}
 use Rattle.frame_reader.specs.declared.found.Found.{Found}
 use Rattle.frame_reader.specs.declared.found.Found.TheVariants as founds
@@ -16,9 +18,12 @@ use Rattle.frame_reader.specs.declared.task.Taken.{Taken}
 use Rattle.frame_reader.specs.declared.task.Taken.TheVariants as takens
 use Rattle.frame_reader.specs.declared.task.Task.{Task}
 use Rattle.frame_reader.specs.declared.task.TextList.{TextList}
-use Rattle.frame_reader.specs.Follows.{Means, Comes, Follows, TellsEnd}
-use Rattle.frame_reader.specs.Stages.{found_by, found_in, IsWholeFrame, is_begun, is_whole, fields_behind, IsWithin, InStage, CanTake, fed_by, fed, released_by, released}
+use Rattle.frame_reader.specs.Rests.{Reading, forgotten}
+use Rattle.frame_reader.specs.Stands.{Stands}
+use Rattle.frame_reader.specs.Follows.{Means, Comes, Follows, TellsEnd, ahead_of, skipped}
+use Rattle.frame_reader.specs.Stages.{found_by, found_in, IsWholeFrame, is_begun, is_whole, fields_behind, IsWithin, InStage, CanTake, fed_by, fed, released_by, released, IsBegun, IsOpenBefore, TakesFront, TakesRun, TakesPiece}
 use Rattle.frame_reader.proofs.Following.{gather_tells, list_tells, task_tells, none_tells}
+use Rattle.frame_reader.proofs.Stepping.{gathers_many}
 use Rattle.frame_reader.proofs.Staging.{short_begun, within_found, bad_byte, byte_behind, goes_on, ends_whole, ends_early}
 
 -- a reader tells whether it is at the end
@@ -119,3 +124,105 @@ module _ (end : ℕ) (old new : FieldsReader) (bytes : List ℕ) (byte : ℕ) (t
   pub fields_end_early : taken ≡ takens.On → end ≤ length bytes → (done : Bool) → done ≡ false → TellsEnd new done → found_in bytes ≡ founds.Bad (length bytes - 1) kinds.Field
   fields_end_early e le done d tell =
       ap found_in split ∙ ends_early end old held byte w new (comes takens.On e) (length bytes - 1) place_is (omega (arith, ap length split, le)) (subst (λ (x : Bool). TellsEnd new x) d tell)
+
+-- ---- many bytes at once
+
+skip_means : (old new : FieldsReader) (chunk held : List ℕ) (count : ℕ) (reading : Reading) → length chunk ≡ count → 0 < count → count ≤ ahead_of old.gather → new ≡ record old { gather = skipped count old.gather }
+    → Means old held reading → Means new (held ++ chunk) (λ later. reading (chunk ++ later))
+skip_means old new chunk held count reading len some le e s =
+    subst (λ (r : FieldsReader). Means r (held ++ chunk) (λ later. reading (chunk ++ later))) (sym e) (go old.gather le s)
+  where
+    go : (g : Option Gather) → count ≤ ahead_of g → Stands g old.list old.stack old.earlier old.last held reading
+        → Stands (skipped count g) old.list old.stack old.earlier old.last (held ++ chunk) (λ later. reading (chunk ++ later))
+    go None l t = absurd (omega (arith, l, some))
+    go (Some gather) l t = gathers_many old.earlier old.last held chunk reading gather (gather.more - count) old.list old.stack (omega (arith, len, l)) t
+
+pub skip_within : (end : ℕ) (old new : FieldsReader) (bytes chunk : List ℕ) (count : ℕ) → length chunk ≡ count → 0 < count → count ≤ ahead_of old.gather → new ≡ record old { gather = skipped count old.gather }
+    → length bytes + count < end → IsWithin end old bytes → IsWithin end new (bytes ++ chunk)
+skip_within end old new bytes chunk count len some le e lt w =
+    let m = skip_means old new chunk bytes count (fields_behind w.body) len some le e w.means in record {
+      head = w.head;
+      body = w.body ++ chunk;
+      count = w.count;
+      split = ap (λ (t : List ℕ). t ++ chunk) w.split ∙ append_assoc w.head w.body chunk;
+      is_length = w.is_length;
+      ends = w.ends;
+      before = omega (arith, len, lt, length-append bytes chunk);
+      means = record { before = m.before; keeps = m.keeps; gathering = m.gathering; same = λ later. ap (λ (t : List ℕ). forgotten (scanned frame_form t)) (append_assoc w.body chunk later) ∙ m.same later };
+    }
+
+pub fields_open : (end : ℕ) (fields : FieldsReader) (bytes : List ℕ) → IsWithin end fields bytes → is_begun (found_in bytes) ≡ true
+fields_open end fields bytes w = ap is_begun (fields_begun end fields bytes w)
+
+-- bytes at the front of a piece that belong to those before them
+module _ (end run : ℕ) (old new : FieldsReader) (held bytes piece : List ℕ) (some : 0 < run) (le : run ≤ length piece) (before : run < end - length held) (ahead : run ≤ ahead_of old.gather) where
+  run_within : new ≡ record old { gather = skipped run old.gather } → bytes ≡ held ++ take run piece → IsWithin end old held → IsWithin end new bytes
+  run_within e is w =
+      let b = w.before in
+      subst (λ (t : List ℕ). IsWithin end new t) (sym is)
+      (skip_within end old new held (take run piece) run (length-take-le run piece le) some ahead e (omega (arith, before, b)) w)
+
+  pub run_in_stage : (stage : Stage) → stage ≡ stages.Fields end → new ≡ record old { gather = skipped run old.gather } → bytes ≡ held ++ take run piece → InStage stage old held → InStage stage new bytes
+  run_in_stage stage f e is w =
+      subst (λ (t : Stage). InStage t new bytes) (sym f) (run_within e is (subst (λ (t : Stage). InStage t old held) f w))
+
+  pub run_is_taken : (stage : Stage) → stage ≡ stages.Fields end → new ≡ record old { gather = skipped run old.gather } → bytes ≡ held ++ take run piece → InStage stage old held → TakesRun run piece held bytes
+  run_is_taken stage f e is w =
+      record { within = le; bytes = is; begun = fields_open end new bytes (run_within e is (subst (λ (t : Stage). InStage t old held) f w)) }
+
+-- ---- pieces
+
+begun_scan : (bytes : List ℕ) → IsBegun bytes → frame_scan bytes ≡ begun
+begun_scan bytes e = cases (frame_scan bytes) refl e
+  where
+    cases : (s : Scan Fields) → frame_scan bytes ≡ s → is_begun (found_by bytes s) ≡ true → frame_scan bytes ≡ begun
+    cases (whole a rest) is f = absurd cc
+    cases begun is f = is
+    cases (bad rest kind) is f = absurd cc
+
+-- what is in front of the beginning of a frame is one
+begun_in_front : (front back : List ℕ) → IsBegun (front ++ back) → IsBegun front
+begun_in_front front back e = ap (λ (s : Scan Fields). is_begun (found_by front s)) (begun_front frame_scan frames_steady front back (begun_scan (front ++ back) e))
+
+-- two fronts of a piece, one behind the other
+front_behind : (old piece : List ℕ) (taken more : ℕ) → (old ++ take taken piece) ++ take more (drop taken piece) ≡ old ++ take (taken + more) piece
+front_behind old piece taken more = append_assoc old (take taken piece) (take more (drop taken piece)) ∙ ap (λ (t : List ℕ). old ++ t) (sym (take-add taken more piece))
+
+pub run_is_front : (taken : ℕ) (piece old new : List ℕ) → 0 < taken → TakesRun taken piece old new → TakesFront taken piece old new
+run_is_front taken piece old new some r =
+    let one_more : (taken - 1) + 1 ≡ taken = omega (arith, some) in
+    let split : new ≡ (old ++ take (taken - 1) piece) ++ take 1 (drop (taken - 1) piece) =
+    r.bytes ∙ ap (λ (n : ℕ). old ++ take n piece) (sym one_more) ∙ sym (front_behind old piece (taken - 1) 1) in
+    record {
+      some = some;
+      within = r.within;
+      bytes = r.bytes;
+      open_before = begun_in_front (old ++ take (taken - 1) piece) (take 1 (drop (taken - 1) piece)) (subst IsBegun split r.begun);
+    }
+
+pub byte_is_front : (byte d : ℕ) (piece old new : List ℕ) → 0 < length piece → byte ≡ get_or piece 0 d → IsBegun old → new ≡ fed old byte → TakesFront 1 piece old new
+byte_is_front byte d [] old new some is starts e = absurd (omega (arith, some))
+byte_is_front byte d (first ∷ rest) old new some is starts e = record {
+  some = omega arith;
+  within = omega (arith, some);
+  bytes = e ∙ fed_open old byte starts ∙ ap (λ (b : ℕ). old ++ b ∷ []) is;
+  open_before = subst IsBegun (sym (append-nil old)) starts;
+}
+
+pub front_more : (taken more : ℕ) (piece rest old held new : List ℕ) → taken ≤ length piece → rest ≡ drop taken piece → held ≡ old ++ take taken piece → TakesFront more rest held new
+    → (taken + more ≤ length piece) × (new ≡ old ++ take (taken + more) piece) × IsOpenBefore (taken + more) piece old
+front_more taken more piece rest old held new le is h f =
+    let same : (n : ℕ) → held ++ take n rest ≡ old ++ take (taken + n) piece =
+    λ n. ap (λ (t : List ℕ). t ++ take n rest) h ∙ ap (λ (t : List ℕ). (old ++ take taken piece) ++ take n t) is ∙ front_behind old piece taken n in
+    let less : taken + (more - 1) ≡ (taken + more) - 1 = let s = f.some in omega (arith, s) in (
+      let w = f.within in omega (arith, w, le, ap length is, length-drop taken piece),
+      f.bytes ∙ same more,
+      inr (subst IsBegun (same (more - 1) ∙ ap (λ (n : ℕ). old ++ take n piece) less) f.open_before),
+    )
+
+pub piece_ends : (taken : ℕ) (piece old new : List ℕ) → taken ≤ length piece → length piece ≤ taken → IsOpenBefore taken piece old → TakesPiece (Ok taken) piece old new
+piece_ends taken piece old new le ge before = cases (is_begun (found_in new)) refl
+  where
+    cases : (starts : Bool) → is_begun (found_in new) ≡ starts → TakesPiece (Ok taken) piece old new
+    cases true e = inl (omega (arith, le, ge), e)
+    cases false e = inr (before, e)

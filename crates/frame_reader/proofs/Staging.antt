@@ -1,5 +1,5 @@
 -- How far the bytes of one frame are, from byte to byte.
-use Rattle.std.proofs.Common.{◌≡◌, ◌⊎◌, inl, inr, ℕ, zero, suc, ◌+◌, ◌-◌, ◌<◌, ◌≤◌, Bool, true, false, cond, eqb, List, [], ◌∷◌, ◌++◌, length, drop, Option, Some, None, refl, sym, ap, ◌∙◌, subst, append_assoc, append-nil, arith}
+use Rattle.std.proofs.Common.{◌≡◌, ℕ, ◌+◌, ◌-◌, ◌<◌, ◌≤◌, Bool, true, false, cond, eqb, List, [], ◌∷◌, ◌++◌, length, drop, Option, Some, None, refl, sym, ap, ◌∙◌, subst, append_assoc, append-nil, arith}
 use Rattle.std.specs.Int.{w32, from_be_bytes}
 use Rattle.std.proofs.lemmas.Bool.{eq-eqb, ne_eqb}
 use Rattle.std.proofs.lemmas.List.{length-append}
@@ -13,21 +13,14 @@ use Rattle.frame_forms.proofs.Steady.{number_scan-short}
 use Rattle.frame_forms.proofs.Framed.{framed-closed, take_short, drop_short, range_is}
 use Rattle.frame_forms.proofs.BadByteRules.{length_rule, fields_rule, rest_rule, end_rule}
 use Rattle.frame_reader.specs.declared.fields.FieldsReader.{FieldsReader}
-use Rattle.frame_reader.specs.declared.found.Found.{Found}
 use Rattle.frame_reader.specs.declared.found.Found.TheVariants as founds
-use Rattle.frame_reader.specs.declared.node.Node.TheVariants as nodes
-use Rattle.frame_reader.specs.declared.stage.Stage.{Stage}
-use Rattle.frame_reader.specs.declared.stage.Stage.TheVariants as stages
 use Rattle.frame_reader.specs.declared.task.Gather.{Gather}
-use Rattle.frame_reader.specs.declared.task.Taken.{Taken}
-use Rattle.frame_reader.specs.declared.task.Taken.TheVariants as takens
 use Rattle.frame_reader.specs.declared.task.Task.{Task}
-use Rattle.frame_reader.specs.declared.task.Task.TheVariants as tasks
 use Rattle.frame_reader.specs.declared.task.TextList.{TextList}
 use Rattle.frame_reader.specs.Rests.{Reading, forgotten, tasks_rest}
 use Rattle.frame_reader.specs.Stands.{Stands}
-use Rattle.frame_reader.specs.Follows.{Means, Comes, Follows, IsAtTag, ended, TellsEnd}
-use Rattle.frame_reader.specs.Stages.{found_by, found_in, fields_behind, IsWholeFrame, IsWithin, InStage, TakesTo, fed_by, fed, released}
+use Rattle.frame_reader.specs.Follows.{Means, IsAtTag, ended, TellsEnd}
+use Rattle.frame_reader.specs.Stages.{found_by, found_in, fields_behind, IsWholeFrame, IsWithin}
 
 -- ---- values that were forgotten
 

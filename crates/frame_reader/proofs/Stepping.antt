@@ -31,7 +31,7 @@ use Rattle.frame_reader.specs.Texts.{TextSet}
 use Rattle.frame_reader.specs.Stands.{KeepsTexts, Keeps, is_above, passes_kept, kept_fault, IsNone, IsSized, Begins, IsGathering, Stands, IsTextEnd}
 use Rattle.frame_reader.specs.Follows.{EndsPlain}
 use Rattle.frame_reader.proofs.Forgetting.{and_then-and_then, then_read-forgotten, then_read-whole, then_read-then_read, then_read-same, tasks_rest-append, tasks_rest-one, tasks_rest-last}
-use Rattle.frame_reader.proofs.Gathering.{gathered-same, then_read-gathered, run_done, run_behind, run_gathered}
+use Rattle.frame_reader.proofs.Gathering.{gathered-same, gathered-slice, then_read-gathered, run_done, run_behind, run_gathered}
 use Rattle.frame_reader.proofs.Begins.{gather_start, started, outcome, text_behind-is, node_begins}
 use Rattle.frame_reader.proofs.TextSets.{contains-insert_text}
 use Rattle.frame_reader.proofs.Sizes.{GatherFits, LeftFits, node_left-fits, node_rest-none}
@@ -452,6 +452,27 @@ module _ (earlier : TextSet) (last : Option (List ℕ)) (held : List ℕ) (b : �
   pub nothing_left : Stands None None [] earlier last held reading → (later : List ℕ) → on later ≡ whole tt (b ∷ later)
   unfolding tasks_rest
   nothing_left s later = s.same (b ∷ later)
+
+-- ---- many bytes at once
+
+pub gathers_many : (earlier : TextSet) (last : Option (List ℕ)) (held chunk : List ℕ) (reading : Reading) (gather : Gather) (fewer : ℕ) (list : Option TextList) (stack : List Task) → gather.more ≡ length chunk + fewer
+    → Stands (Some gather) list stack earlier last held reading → Stands (Some (record { from = gather.from; more = fewer; then = gather.then })) list stack earlier last (held ++ chunk) (λ later. reading (chunk ++ later))
+gathers_many earlier last held chunk reading gather fewer list stack e s = record {
+  before = s.before;
+  keeps = s.keeps;
+  gathering = record {
+    have = s.gathering.have + length chunk;
+    from = let f = s.gathering.from in omega (arith, f, length-append held chunk);
+    sized = let same : s.gathering.have + suc gather.more ≡ (s.gathering.have + length chunk) + suc fewer = omega (arith, e) in
+        let P : ℕ → Type 0 = λ n. IsSized gather.then list n in subst P same s.gathering.sized;
+  };
+  same = λ later.
+      s.same (chunk ++ later)
+      ∙ ap (λ (n : ℕ). gathered (drop gather.from held) n (gather_done gather.then s.before list stack) (chunk ++ later)) e
+      ∙ gathered-slice (drop gather.from held) chunk fewer (gather_done gather.then s.before list stack) later
+      ∙ ap (λ (f : List ℕ). gathered f fewer (gather_done gather.then s.before list stack) later)
+      (sym (drop-append-le gather.from held chunk (let f = s.gathering.from in omega (arith, f))));
+}
 
 -- ---- the end of the bytes
 

@@ -1,5 +1,5 @@
 -- What a byte does to what is kept.
-use Rattle.std.specs.Prelude.{◌≡◌, ℕ, zero, suc, Bool, true, false, length, List, [], ◌∷◌, ◌++◌, Option, None, Some}
+use Rattle.std.specs.Prelude.{◌≡◌, ◌-◌, ℕ, zero, suc, Bool, true, false, length, List, [], ◌∷◌, ◌++◌, Option, None, Some}
 use Rattle.std.specs.FinSet as set
 use Rattle.frame_forms.specs.declared.bad_kind.BadKind.{BadKind}
 use Rattle.frame_reader.specs.declared.node.Item.{Item}
@@ -130,3 +130,15 @@ with_texts reader rule count = record reader { gather = None; list = texts_left 
 abbrev pub with_text : FieldsReader → TextList → ℕ → FieldsReader
 with_text reader list place =
     record reader { gather = Some (record { from = place; more = 2; then = thens.Length (text_rule list) }); list = list_behind_begin list }
+
+-- ---- many bytes at once
+
+-- how many bytes may be taken at once, before the last one of those that are gathered
+abbrev pub ahead_of : Option Gather → ℕ
+ahead_of None = 0
+ahead_of (Some gather) = gather.more
+
+-- this many of them are there
+abbrev pub skipped : ℕ → Option Gather → Option Gather
+skipped count None = None
+skipped count (Some gather) = Some (record { from = gather.from; more = gather.more - count; then = gather.then })

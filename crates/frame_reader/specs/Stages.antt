@@ -1,5 +1,5 @@
 -- What is known of the bytes of one frame, by how far they are.
-use Rattle.std.specs.Prelude.{◌≡◌, ◌⊎◌, Result, Ok, Err, ℕ, ◌+◌, ◌-◌, ◌<◌, ◌≤◌, Bool, true, false, List, [], ◌∷◌, ◌++◌, length}
+use Rattle.std.specs.Prelude.{◌≡◌, ◌⊎◌, Result, Ok, Err, ℕ, ◌+◌, ◌-◌, ◌<◌, ◌≤◌, Bool, true, false, List, [], ◌∷◌, ◌++◌, length, take, nat_lt, if◌then◌else◌}
 use Rattle.std.specs.Int.{w32, from_be_bytes}
 use Rattle.frame_forms.specs.declared.bad_kind.BadKind.{BadKind}
 use Rattle.frame_forms.specs.Scans.{Scan, whole, begun, bad}
@@ -105,6 +105,25 @@ released_by (founds.Bad place kind) bytes = bytes
 abbrev pub released : List ℕ → List ℕ
 released bytes = released_by (found_in bytes) bytes
 
+-- ---- bytes that come next
+
+-- the length that the first four bytes spell
+abbrev pub count_in : List ℕ → ℕ
+count_in bytes = from_be_bytes w32 (take 4 bytes)
+
+-- the place behind the length of a frame, and where that is there the one behind the frame
+abbrev pub next_end : List ℕ → ℕ
+next_end bytes = if nat_lt (length bytes) 4 then 4 else 4 + count_in bytes
+
+abbrev pub wanted_by : Found → List ℕ → ℕ
+wanted_by founds.Begun bytes = next_end bytes - length bytes
+wanted_by founds.Whole bytes = 0
+wanted_by (founds.Bad place kind) bytes = 0
+
+-- how many bytes of the frame come next, up to the end of its length, and behind that up to its own end
+unfoldable pub wanted_in : List ℕ → ℕ
+wanted_in bytes = wanted_by (found_in bytes) bytes
+
 -- ---- pieces
 
 -- how many bytes of a piece were taken
@@ -112,7 +131,27 @@ abbrev pub taken_of : Result ℕ Interrupted → ℕ
 taken_of (Ok taken) = taken
 taken_of (Err interrupted) = interrupted.taken
 
--- All bytes of the piece were taken, or those up to the end of a frame or a bad byte. Without memory a frame was begun, and those up to the byte for which there was none.
-abbrev pub TakesPiece : Result ℕ Interrupted → List ℕ → List ℕ → Type 0
-TakesPiece (Ok taken) piece new = (taken ≡ length piece) ⊎ (is_begun (found_in new) ≡ false)
-TakesPiece (Err interrupted) piece new = is_begun (found_in new) ≡ true
+abbrev pub IsBegun : List ℕ → Type 0
+IsBegun bytes = is_begun (found_in bytes) ≡ true
+
+-- no byte was taken, or a frame was begun before the last one
+abbrev pub IsOpenBefore : ℕ → List ℕ → List ℕ → Type 0
+IsOpenBefore taken piece old = (taken ≡ 0) ⊎ IsBegun (old ++ take (taken - 1) piece)
+
+-- some bytes of the piece were taken, and a frame was begun before the last one of them
+pub record TakesFront (taken : ℕ) (piece old new : List ℕ) : Type 0 where
+  pub some : 0 < taken
+  pub within : taken ≤ length piece
+  pub bytes : new ≡ old ++ take taken piece
+  pub open_before : IsBegun (old ++ take (taken - 1) piece)
+
+-- some bytes of the piece were taken or none, and a frame is begun
+pub record TakesRun (taken : ℕ) (piece old new : List ℕ) : Type 0 where
+  pub within : taken ≤ length piece
+  pub bytes : new ≡ old ++ take taken piece
+  pub begun : IsBegun new
+
+-- All bytes of the piece were taken and a frame is begun, or those up to the first one that ends a frame or is bad. Without memory a frame is begun, and not all bytes were taken.
+abbrev pub TakesPiece : Result ℕ Interrupted → List ℕ → List ℕ → List ℕ → Type 0
+TakesPiece (Ok taken) piece old new = ((taken ≡ length piece) × IsBegun new) ⊎ (IsOpenBefore taken piece old × (is_begun (found_in new) ≡ false))
+TakesPiece (Err interrupted) piece old new = (interrupted.taken < length piece) × IsBegun new

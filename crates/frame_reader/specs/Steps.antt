@@ -177,5 +177,6 @@ abbrev pub IsChosen : Option (Bor (List Node)) → (Option (List Node) → Optio
 IsChosen fields left result = (chosen : Option (List Node)) → AreChosen fields chosen → IsLeft result (left chosen)
 
 -- tasks, with others in the place of the last one
-abbrev pub replaced_last : List Task → Option Task → Option Task → List Task → List Task
-replaced_last tasks below above inner = ((take (length tasks - 1) tasks ++ option_to_list below) ++ option_to_list above) ++ inner
+abbrev pub replaced_last : List Task → Option Task → Option Task → ℕ → List Node → List Task
+replaced_last tasks below above room fields =
+    ((take (length tasks - 1) tasks ++ option_to_list below) ++ option_to_list above) ++ inner_tasks room fields

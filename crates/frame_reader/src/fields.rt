@@ -6,7 +6,7 @@ ghost use Rattle.apt_base.specs.Fields.{is_text};
 ghost use Rattle.frame_reader.specs.Rests.{Reading, plain_fault, texts_left, behind_text};
 ghost use Rattle.frame_reader.specs.Steps.{first_kind, items_task, head_node, head_room, left_behind, behind_task, gather_at};
 ghost use Rattle.frame_reader.specs.Stands.{Begins, IsGathering, kept_fault, is_above};
-ghost use Rattle.frame_reader.specs.Follows.{Means, Follows, Finishes, EndsText, EndsPlain, EndsLength, BeginsTask, Starts, text_rule, list_behind_begin, KeepsText, GoesBehind, IsAtTag, TellsEnd, fault_in, EndsAsPlain, with_items, with_texts, with_text};
+ghost use Rattle.frame_reader.specs.Follows.{Means, Follows, Finishes, EndsText, EndsPlain, EndsLength, BeginsTask, Starts, text_rule, list_behind_begin, KeepsText, GoesBehind, IsAtTag, TellsEnd, fault_in, EndsAsPlain, with_items, with_texts, with_text, ahead_of, skipped};
 ghost use Rattle.frame_reader.specs.declared.task.Then.TheVariants as thens;
 
 use crate::beginning::{BEHIND_SECOND_OF_FOUR, node_begun};
@@ -453,6 +453,30 @@ impl FieldsReader {
                     None => true,
                 },
             },
+        }
+    }
+
+    /// How many bytes may be taken at once: those that are gathered, without the last one.
+    pub(crate) fn ahead(&self) -> u32
+        ensures { result ≡ ahead_of self.now.gather }
+    {
+        match self.gather {
+            None => 0,
+            Some(gather) => gather.more,
+        }
+    }
+
+    /// This many bytes that are gathered are there, of which nothing is asked before the last one.
+    pub(crate) fn skip(&mut self, count: u32)
+        requires { count ≤ ahead_of self.old.gather }
+        ensures { self.new ≡ record self.old { gather = skipped count self.old.gather } }
+    {
+        if let Some(gather) = self.gather {
+            self.gather = Some(Gather {
+                from: gather.from,
+                more: gather.more - count,
+                then: gather.then,
+            });
         }
     }
 }

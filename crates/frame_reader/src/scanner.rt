@@ -1,10 +1,10 @@
 // Finds frames in a stream.
-ghost use Rattle.std.specs.Prelude.{◌≡◌, ◌++◌, ◌∷◌, ◌≤◌, [], length, take, OnOk, OnErr, if◌then◌else◌};
-ghost use Rattle.frame_reader.specs.Stages.{found_in, is_begun, is_whole, EndsThere, fed, released, taken_of, TakesPiece};
+ghost use Rattle.std.specs.Prelude.{◌≡◌, ◌++◌, ◌∷◌, ◌<◌, ◌≤◌, [], length, take, IfOk, OnOk, OnErr, if◌then◌else◌};
+ghost use Rattle.frame_reader.specs.Stages.{found_in, is_begun, is_whole, EndsThere, fed, released, wanted_in, taken_of, IsBegun, TakesRun, TakesFront, TakesPiece};
 
 use crate::fields::FieldsReader;
 use crate::found::{Found, Interrupted};
-use crate::stage::{Stage, next_stage};
+use crate::stage::{LENGTH_BYTES, Stage, next_stage};
 use apt_base::NoMemory;
 use std::alloc::Global;
 use std::marker::Model;
@@ -103,23 +103,58 @@ impl FrameScanner {
         }
     }
 
-    /// Takes the bytes of a piece, up to the end of the first frame or to the first bad byte, and gives how many it took. The others are for the next call, behind `release`.
+    // Takes at once those bytes at the front of a piece that belong to the ones before them and of which nothing is asked yet. Without memory nothing changes.
+    fn take_run(&mut self, piece: &[u8]) -> Result<usize, NoMemory>
+        requires open { IsBegun self.old }
+        ensures ok { IfOk result (λ taken. TakesRun taken piece.now self.old self.new) }
+        ensures err { OnErr result (self.new ≡ self.old) }
+    {
+        let Stage::Fields(end) = self.stage else {
+            return Ok(0);
+        };
+        let room = end - self.bytes.len();
+        let run = piece.len().min(room - 1).min(self.fields.ahead() as usize);
+        if run == 0 {
+            return Ok(0);
+        }
+        self.bytes.reserve(piece.len().min(room))?;
+        self.bytes.extend_from_slice(&piece[..run])?;
+        self.fields.skip(run as u32);
+        Ok(run)
+    }
+
+    // Takes some bytes at the front of a piece. Without memory nothing changes.
+    fn take_front(&mut self, piece: &[u8]) -> Result<usize, NoMemory>
+        requires some { 0 < length piece.now }
+        requires open { IsBegun self.old }
+        ensures ok { IfOk result (λ taken. TakesFront taken piece.now self.old self.new) }
+        ensures err { OnErr result (self.new ≡ self.old) }
+    {
+        let run = self.take_run(piece)?;
+        if run > 0 {
+            return Ok(run);
+        }
+        self.take(piece[0])?;
+        Ok(1)
+    }
+
+    /// Takes the bytes of a piece, up to the end of the first frame or to the first bad byte, and gives how many it took. The others are for the next call, behind `release`. Texts and contents are copied at once, as far as they are in the piece; no memory is taken for bytes that have not come.
     ///
-    /// It fails only for want of memory. The scanner has then taken the bytes before the one for which there was none, which `Interrupted` counts, and that one and those behind it are for the next call.
+    /// It fails only for want of memory. The scanner has then taken the bytes that `Interrupted` counts, as far as there was memory for them, and a frame is begun; those behind them are for the next call.
     pub fn feed(&mut self, piece: &[u8]) -> Result<usize, Interrupted>
         ensures within { taken_of result ≤ length piece.now }
         ensures bytes { self.new ≡ self.old ++ take (taken_of result) piece.now }
-        ensures up_to { TakesPiece result piece.now self.new }
+        ensures up_to { TakesPiece result piece.now self.old self.new }
     {
         let mut taken = 0;
         while taken < piece.len() {
             if !self.is_open() {
                 return Ok(taken);
             }
-            if self.take(piece[taken]).is_err() {
-                return Err(Interrupted { taken });
+            match self.take_front(&piece[taken..]) {
+                Ok(more) => taken += more,
+                Err(NoMemory) => return Err(Interrupted { taken }),
             }
-            taken += 1;
         }
         Ok(taken)
     }
@@ -129,6 +164,18 @@ impl FrameScanner {
         ensures { result ≡ length self.now }
     {
         self.bytes.len()
+    }
+
+    /// How many bytes of the frame come next, as far as those that were taken tell: up to the end of its length, and behind that up to the end of the frame. There are none where a frame is whole or a byte is bad.
+    pub fn wanted(&self) -> usize
+        ensures { result ≡ wanted_in self.now }
+    {
+        match self.stage {
+            Stage::Length => LENGTH_BYTES - self.bytes.len(),
+            Stage::Fields(end) => end - self.bytes.len(),
+            Stage::Whole => 0,
+            Stage::Bad(_, _) => 0,
+        }
     }
 
     /// Lets a whole frame go, so that the next one is found behind it. Otherwise nothing changes.

@@ -93,7 +93,7 @@ impl Stack {
         room: u16,
     ) -> Result<(), NoMemory>
         requires { 0 < length self.old }
-        ensures ok { OnOk result (self.new ≡ replaced_last self.old below above (inner_tasks room fields.now)) }
+        ensures ok { OnOk result (self.new ≡ replaced_last self.old below above room fields.now) }
         ensures err { OnErr result (self.new ≡ self.old) }
     {
         self.tasks.reserve(fields.len() + 1)?;

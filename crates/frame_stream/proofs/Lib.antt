@@ -1,1 +1,2 @@
 pub mod StreamsLemmas
+pub mod Pieces

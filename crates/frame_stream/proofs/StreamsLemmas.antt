@@ -1,41 +1,33 @@
 -- A frame that stands whole, the front of one, and what a byte comes to.
-use Rattle.std.proofs.Common.{◌≡◌, ◌⊎◌, inl, inr, ℕ, ◌+◌, ◌-◌, ◌<◌, ◌≤◌, Bool, true, false, cond, List, [], ◌∷◌, ◌++◌, length, take, drop, get_or, Option, Some, None, Result, Ok, Err, refl, sym, ap, subst, ◌∙◌, append_assoc, arith}
+use Rattle.std.proofs.Common.{◌≡◌, ◌⊎◌, inl, inr, ℕ, ◌+◌, ◌-◌, ◌<◌, ◌≤◌, List, [], ◌∷◌, ◌++◌, length, take, drop, get_or, Option, Some, None, option_map, Result, Ok, Err, refl, sym, ap, subst, ◌∙◌, append_assoc, append-nil, arith}
 use Rattle.std.specs.Prelude.{IfSome, IfNone}
-use Rattle.std.proofs.lemmas.Bool.{cases_lt, eq-eqb}
-use Rattle.std.proofs.lemmas.List.{take_more, take-append-drop, length-append, length-take, length-drop, nil_from_length}
+use Rattle.std.proofs.lemmas.Bool.{cases_lt}
+use Rattle.std.proofs.lemmas.List.{take_more, take-append-drop, length-append, length-drop, nil_from_length}
 use Rattle.std.proofs.Math.Seq.{take-append_seam}
-use Rattle.std.specs.Int.{w32, from_be_bytes}
+use Rattle.apt_base.proofs.FieldsLemmas.{some_is}
 use Rattle.frame_forms.specs.declared.bad_kind.BadKind.{BadKind}
-use Rattle.frame_forms.specs.declared.bad_kind.BadKind.TheVariants as kinds
 use Rattle.frame_forms.specs.Scans.{Scan, whole, begun, bad}
 use Rattle.frame_forms.specs.ScanLaws.{IsBytes}
 use Rattle.frame_forms.specs.FrameTable.{Fields, frame_form}
-use Rattle.frame_forms.specs.Frames.{scanned, closed, is_out_of_range, frame_scan}
+use Rattle.frame_forms.specs.Frames.{spelled, scanned, frame_scan}
 use Rattle.frame_forms.proofs.FrameLawProofs.{frames_steady, frames_meet}
-use Rattle.frame_forms.proofs.Framed.{take_short, IsHead, framed-closed, framed-out, range_is, begun_front}
+use Rattle.frame_forms.proofs.Framed.{take_short, range_is, begun_front}
 use Rattle.frame_forms.proofs.FormsMeet.{scanned-meets}
 use Rattle.frame_forms.proofs.Sound.{grammar_sound, frame_sound}
 use Rattle.wire_frames.specs.declared.frame.Frame.{Frame}
-use Rattle.wire_frames.specs.Frames.{AreFieldsOf, AreBytesOf}
-use Rattle.frame_decoder.specs.Decodings.{AreNoFields}
+use Rattle.wire_frames.specs.Frames.{shown, AreFieldsOf, AreBytesOf}
+use Rattle.frame_decoder.specs.Decodings.{decoded, AreNoFields}
 use Rattle.frame_reader.specs.declared.found.Found.{Found}
 use Rattle.frame_reader.specs.declared.found.Found.TheVariants as founds
-use Rattle.frame_reader.specs.Stages.{found_by, found_in, IsWholeFrame, is_begun, is_whole, fed, released}
+use Rattle.frame_reader.specs.Stages.{found_by, found_in, IsWholeFrame, is_begun, is_whole, fed, released, count_in, wanted_in}
 use Rattle.frame_reader.proofs.Scanning.{frame_found, fed_open, fed_closed, released_whole}
 use Rattle.frame_reader.proofs.Staging.{short_begun}
+use Rattle.frame_reader.proofs.Wanted.{frame_is_long, found_begun, begun_within, last_wanted}
 use Rattle.frame_stream.specs.declared.reader.ReadFault.{ReadFault}
 use Rattle.frame_stream.specs.declared.reader.ReadFault.TheVariants as faults
-use Rattle.frame_stream.specs.Streams.{pending_by, pending, most_bytes, Comes}
+use Rattle.frame_stream.specs.Streams.{frame_with, frame_by, frame_at, pending_by, pending, most_bytes, Comes}
 
 -- ---- what is found
-
-found_begun : (bytes : List ℕ) → found_in bytes ≡ founds.Begun → frame_scan bytes ≡ begun
-found_begun bytes e = cases (frame_scan bytes) refl e
-  where
-    cases : (s : Scan Fields) → frame_scan bytes ≡ s → found_by bytes s ≡ founds.Begun → frame_scan bytes ≡ begun
-    cases (whole a rest) is f = absurd cc
-    cases begun is f = is
-    cases (bad rest kind) is f = absurd cc
 
 begun_found : (bytes : List ℕ) → frame_scan bytes ≡ begun → found_in bytes ≡ founds.Begun
 begun_found bytes e = ap (found_by bytes) e
@@ -60,33 +52,40 @@ pending_none = pending_begun [] none_begun
 
 -- ---- whole frames
 
-pub frame_is_long : (bytes : List ℕ) → IsWholeFrame bytes → 4 ≤ length bytes
-frame_is_long bytes is = cases (cases_lt (length bytes) 4)
-  where
-    cases : (length bytes < 4) ⊎ (4 ≤ length bytes) → 4 ≤ length bytes
-    cases (inl lt) = let wrong : founds.Whole ≡ founds.Begun = sym (frame_found bytes is) ∙ short_begun bytes lt in absurd cc
-    cases (inr le) = le
+-- the bytes are a frame
+pub bytes_whole : (bytes : List ℕ) (frame : Frame) → AreBytesOf bytes frame → IsWholeFrame bytes
+unfolding AreBytesOf
+bytes_whole bytes frame e = (shown frame, e)
+
+-- it stays where more bytes come
+whole_grows : (bytes more : List ℕ) (a : Fields) (rest : List ℕ) → frame_scan bytes ≡ whole a rest → frame_scan (bytes ++ more) ≡ whole a (rest ++ more)
+whole_grows bytes more a rest e =
+    let t = frames_steady.takes bytes a rest e in
+    ap (λ (b : List ℕ). frame_scan (b ++ more)) t.split ∙ ap frame_scan (append_assoc t.used rest more) ∙ t.again (rest ++ more)
+
+-- and so does a bad byte
+bad_grows : (bytes more rest : List ℕ) (kind : BadKind) → frame_scan bytes ≡ bad rest kind → (left : List ℕ) × (frame_scan (bytes ++ more) ≡ bad left kind)
+bad_grows bytes more rest kind e =
+    let t = frames_steady.stops bytes rest kind e in
+    (t.byte ∷ (t.more ++ more), ap (λ (b : List ℕ). frame_scan (b ++ more)) t.split ∙ ap frame_scan (append_assoc t.front (t.byte ∷ t.more) more) ∙ t.after (t.more ++ more))
 
 -- what is begun is in front of each byte of a frame
 front_begun : (front : List ℕ) (byte : ℕ) (a : Fields) → frame_scan (front ++ byte ∷ []) ≡ whole a [] → frame_scan front ≡ begun
 front_begun front byte a e = cases (frame_scan front) refl
   where
+    left_of : Scan Fields → List ℕ
+    left_of (whole y r) = r
+    left_of begun = []
+    left_of (bad r k) = r
+
     cases : (s : Scan Fields) → frame_scan front ≡ s → frame_scan front ≡ begun
     cases begun is = is
     cases (whole x rest) is =
-        let t = frames_steady.takes front x rest is in
-        let longer : frame_scan (front ++ byte ∷ []) ≡ whole x (rest ++ byte ∷ []) = ap (λ (b : List ℕ). frame_scan (b ++ byte ∷ [])) t.split ∙ ap frame_scan (append_assoc t.used rest (byte ∷ [])) ∙ t.again (rest ++ byte ∷ []) in
-        let none : rest ++ byte ∷ [] ≡ [] = ap left_of (sym longer ∙ e) in
+        let none : rest ++ byte ∷ [] ≡ [] = ap left_of (sym (whole_grows front (byte ∷ []) x rest is) ∙ e) in
         absurd (omega (arith, ap length none, length-append rest (byte ∷ [])))
-      where
-        left_of : Scan Fields → List ℕ
-        left_of (whole y r) = r
-        left_of begun = []
-        left_of (bad r k) = r
     cases (bad rest kind) is =
-        let t = frames_steady.stops front rest kind is in
-        let longer : frame_scan (front ++ byte ∷ []) ≡ bad (t.byte ∷ (t.more ++ byte ∷ [])) kind = ap (λ (b : List ℕ). frame_scan (b ++ byte ∷ [])) t.split ∙ ap frame_scan (append_assoc t.front (t.byte ∷ t.more) (byte ∷ [])) ∙ t.after (t.more ++ byte ∷ []) in
-        let wrong : bad (t.byte ∷ (t.more ++ byte ∷ [])) kind ≡ whole a [] = sym longer ∙ e in
+        let grown = bad_grows front (byte ∷ []) rest kind is in
+        let wrong : bad grown.0 kind ≡ whole a [] = sym grown.1 ∙ e in
         absurd cc
 
 -- the last of some bytes
@@ -111,6 +110,42 @@ take_all_but_one front byte = ap (λ (n : ℕ). take n (front ++ byte ∷ [])) l
     less : length (front ++ byte ∷ []) - 1 ≡ length front
     less = omega (arith, length-append front (byte ∷ []))
 
+-- ---- the frame in front
+
+pub frame_at-begun : (bytes : List ℕ) → found_in bytes ≡ founds.Begun → frame_at bytes ≡ None
+unfolding frame_at
+frame_at-begun bytes e = ap frame_by (found_begun bytes e)
+
+found_bad : (bytes : List ℕ) (place : ℕ) (kind : BadKind) → found_in bytes ≡ founds.Bad place kind → (rest : List ℕ) × (k : BadKind) × (frame_scan bytes ≡ bad rest k)
+found_bad bytes place kind e = cases (frame_scan bytes) refl e
+  where
+    cases : (s : Scan Fields) → frame_scan bytes ≡ s → found_by bytes s ≡ founds.Bad place kind → (rest : List ℕ) × (k : BadKind) × (frame_scan bytes ≡ bad rest k)
+    cases (whole a rest) is f = absurd cc
+    cases begun is f = absurd cc
+    cases (bad rest k) is f = (rest, k, is)
+
+-- behind a bad byte none comes
+pub frame_at-bad : (bytes more : List ℕ) (place : ℕ) (kind : BadKind) → found_in bytes ≡ founds.Bad place kind → frame_at (bytes ++ more) ≡ None
+unfolding frame_at
+frame_at-bad bytes more place kind e =
+    let there = found_bad bytes place kind e in
+    let grown = bad_grows bytes more there.0 there.1 there.2 in
+    ap frame_by grown.1
+
+option_grows : (o : Option Frame) (rest more : List ℕ) (found : Frame × List ℕ) → option_map {U = Frame × List ℕ} (λ frame. (frame, rest)) o ≡ Some found → option_map {U = Frame × List ℕ} (λ frame. (frame, rest ++ more)) o ≡ Some (found.0, found.1 ++ more)
+option_grows None rest more found e = absurd cc
+option_grows (Some frame) rest more found e = ap (λ (x : Frame × List ℕ). Some (x.0, x.1 ++ more)) (some_is (frame, rest) found e)
+
+-- a frame stays in front where more bytes come
+pub frame_at-append : (bytes more : List ℕ) (found : Frame × List ℕ) → frame_at bytes ≡ Some found → frame_at (bytes ++ more) ≡ Some (found.0, found.1 ++ more)
+unfolding frame_at
+frame_at-append bytes more found e = cases (frame_scan bytes) refl e
+  where
+    cases : (s : Scan Fields) → frame_scan bytes ≡ s → frame_by s ≡ Some found → frame_by (frame_scan (bytes ++ more)) ≡ Some (found.0, found.1 ++ more)
+    cases (whole a rest) is f = ap frame_by (whole_grows bytes more a rest is) ∙ option_grows (frame_with a) rest more found f
+    cases begun is f = absurd cc
+    cases (bad rest kind) is f = absurd cc
+
 -- ---- the beginning of a frame
 
 -- a front of it, with the next byte
@@ -119,44 +154,12 @@ front_fed bytes front byte behind e split =
     fed_open front byte (ap is_begun (begun_found front (begun_front frame_scan frames_steady front (byte ∷ behind) (ap frame_scan (sym split) ∙ found_begun bytes e))))
 
 -- it is shorter than a frame can be
-closed_begun : (count : ℕ) (body behind : List ℕ) (s : Scan Fields) → length body ≡ count → closed count body behind s ≡ begun → ⊥
-closed_begun count body behind (whole a []) full e = let wrong : whole a behind ≡ begun = ap (λ (b : Bool). cond b (whole a behind) begun) (sym (eq-eqb (length body) count full)) ∙ e in absurd cc
-closed_begun count body behind (whole a (byte ∷ rest)) full e = absurd cc
-closed_begun count body behind begun full e =
-    let last = bad (drop (count - 1) body ++ behind) kinds.Field in
-    let wrong : last ≡ begun = ap (λ (b : Bool). cond b last begun) (sym (eq-eqb (length body) count full)) ∙ e in absurd cc
-closed_begun count body behind (bad rest kind) full e = absurd cc
-
-begun_short : (bytes : List ℕ) → frame_scan bytes ≡ begun → length bytes < most_bytes
+pub begun_short : (bytes : List ℕ) → frame_scan bytes ≡ begun → length bytes < most_bytes
 begun_short bytes e = cases (cases_lt (length bytes) 4)
   where
-    head : List ℕ
-    head = take 4 bytes
-
-    tail : List ℕ
-    tail = drop 4 bytes
-
-    count : ℕ
-    count = from_be_bytes w32 head
-
-    is_head : 4 ≤ length bytes → IsHead (scanned frame_form) head count
-    is_head le = record { four = omega (arith, length-take 4 bytes, le); worth = refl }
-
-    again : frame_scan (head ++ tail) ≡ begun
-    again = ap frame_scan (take-append-drop 4 bytes) ∙ e
-
-    by_tail : 4 ≤ length bytes → is_out_of_range count ≡ false → (length tail < count) ⊎ (count ≤ length tail) → length bytes < most_bytes
-    by_tail le within (inl lt) = omega (arith, le, lt, length-drop 4 bytes, range_is (scanned frame_form) count within)
-    by_tail le within (inr full) =
-        absurd (closed_begun count (take count tail) (drop count tail) (scanned frame_form (take count tail)) (omega (arith, full, length-take count tail)) (sym (framed-closed (scanned frame_form) head tail count (is_head le) within) ∙ again))
-
-    by_range : 4 ≤ length bytes → (out : Bool) → is_out_of_range count ≡ out → length bytes < most_bytes
-    by_range le false within = by_tail le within (cases_lt (length tail) count)
-    by_range le true out = let wrong : bad (drop 3 (head ++ tail)) kinds.Length ≡ begun = sym (framed-out (scanned frame_form) head tail count (is_head le) out) ∙ again in absurd cc
-
     cases : (length bytes < 4) ⊎ (4 ≤ length bytes) → length bytes < most_bytes
     cases (inl lt) = omega (arith, lt)
-    cases (inr le) = by_range le (is_out_of_range count) refl
+    cases (inr le) = let within = begun_within bytes le e in omega (arith, within.1, (range_is (scanned frame_form) (count_in bytes) within.0).1)
 
 -- ---- the tag and the fields
 
@@ -182,6 +185,14 @@ frame_is bytes found frame are is e fields = frame_of_fields bytes frame are is 
 no_fields : (bytes : List ℕ) → IsBytes bytes → IsWholeFrame bytes → AreNoFields (fields_in bytes) → ⊥
 unfolding AreNoFields
 no_fields bytes are is none = none is.0 (ap (scanned frame_form) (fields_in-drop bytes) ∙ fields_whole bytes is.0 are is.1)
+
+-- it stands in front
+pub frame_stands : (bytes : List ℕ) (found : Option Frame) (frame : Frame) → IsBytes bytes → IsWholeFrame bytes → found ≡ Some frame → found ≡ decoded (fields_in bytes) → frame_at bytes ≡ Some (frame, [])
+unfolding frame_at
+frame_stands bytes found frame are is e exact =
+    let s = frames_meet.spelled bytes is.0 [] are is.1 in
+    let fields : fields_in bytes ≡ spelled frame_form is.0 = fields_in-drop bytes ∙ ap (drop 4) s.1 ∙ append-nil (spelled frame_form is.0) in
+    ap frame_by is.1 ∙ ap (option_map {U = Frame × List ℕ} (λ f. (f, []))) (ap decoded (sym fields) ∙ sym exact ∙ e)
 
 pub frame_is_there : (bytes : List ℕ) (found : Option Frame) → IsBytes bytes → IsWholeFrame bytes → found ≡ None → IfNone found (AreNoFields (fields_in bytes)) → ⊥
 frame_is_there bytes found are is e none = no_fields bytes are is (subst (λ (o : Option Frame). IfNone o (AreNoFields (fields_in bytes))) e none)
@@ -213,8 +224,8 @@ pub turns_bad : (old new : List ℕ) (byte place : ℕ) (kind : BadKind) (found 
     → (found_in (fed old byte) ≡ founds.Bad place kind) × (pending new ≡ fed old byte)
 turns_bad old new byte place kind found e is wrong = (ap found_in (sym e) ∙ sym is ∙ wrong, pending_bad new place kind (sym is ∙ wrong) ∙ e)
 
-pub given : (old new left : List ℕ) (byte : ℕ) (frame : Frame) → new ≡ fed old byte → AreBytesOf new frame → left ≡ [] → AreBytesOf (fed old byte) frame × (pending left ≡ [])
-given old new left byte frame e is none = (subst (λ (bytes : List ℕ). AreBytesOf bytes frame) e is, ap pending none ∙ pending_none)
+pub given : (old new left : List ℕ) (byte : ℕ) (frame : Frame) → new ≡ fed old byte → AreBytesOf new frame → frame_at new ≡ Some (frame, []) → left ≡ [] → Comes (Ok (Some frame)) old (fed old byte) (pending left)
+given old new left byte frame e is stands none = (subst (λ (bytes : List ℕ). AreBytesOf bytes frame) e is, ap pending none ∙ pending_none, ap frame_at (sym e) ∙ stands)
 
 -- without memory for the byte, or for the frame that it ends
 pub not_taken : (old new : List ℕ) → found_in old ≡ founds.Begun → new ≡ old → (found_in old ≡ founds.Begun) × (pending new ≡ old)
@@ -258,3 +269,11 @@ byte_more bytes taken next i byte d starts lt is so_far e =
 
 pub released_none : (bytes : List ℕ) → IsWholeFrame bytes → released bytes ≡ []
 released_none bytes is = released_whole bytes (ap is_whole (frame_found bytes is))
+
+-- ---- bytes that come next
+
+pub wanted_whole : (bytes : List ℕ) → IsWholeFrame bytes → 1 ≡ wanted_in (pending bytes)
+wanted_whole bytes is =
+    let front = take (length bytes - 1) bytes in
+    let last = last_is bytes (omega (arith, frame_is_long bytes is)) in
+    sym (ap wanted_in (pending_whole bytes is) ∙ last_wanted front last.0 (without_last_begun bytes is) (subst IsWholeFrame last.1 is))

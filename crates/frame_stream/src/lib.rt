@@ -1,11 +1,11 @@
-//! Reads the frames of a stream, byte by byte.
+//! Reads the frames of a stream.
 //!
-//! `Reader` is fed the bytes, in whatever pieces they came, and gives each frame of the table of all frames (`frame_forms`) with its last byte. `specs/Streams` says what a byte comes to.
+//! `Reader` is fed the bytes, in whatever pieces they came, one by one or a piece at a time, and gives each frame of the table of all frames (`frame_forms`) with its last byte. `specs/Streams` says what a byte comes to, and a piece.
 //!
-//! Not promised: that memory is there. Without it the reader is as it was, and the byte can be fed again.
+//! Not promised: that memory is there. Without it the reader is as it was behind the bytes that were taken, and the others can be fed again.
 #![tactic(auto)]
 
 mod reader;
 mod taking;
 
-pub use reader::{ReadFault, Reader};
+pub use reader::{Progress, ReadFault, Reader};

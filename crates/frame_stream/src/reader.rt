@@ -1,10 +1,10 @@
 // Reads the frames of a stream.
-ghost use Rattle.std.specs.Prelude.{◌≡◌, [], length};
-ghost use Rattle.frame_reader.specs.Stages.{fed};
-ghost use Rattle.frame_stream.specs.Streams.{Comes};
+ghost use Rattle.std.specs.Prelude.{◌≡◌, ◌≤◌, [], length};
+ghost use Rattle.frame_reader.specs.Stages.{fed, wanted_in};
+ghost use Rattle.frame_stream.specs.Streams.{Comes, ComesOf};
 ghost use Rattle.frame_stream.specs.declared.reader.ReadFault.TheVariants as faults;
 
-use crate::taking::{take_byte, waiting_in};
+use crate::taking::{take_byte, take_slice, waiting_in, wanted_behind};
 use apt_base::NoMemory;
 use frame_forms::BadKind;
 use frame_reader::FrameScanner;
@@ -34,7 +34,16 @@ impl From<NoMemory> for ReadFault {
     }
 }
 
-/// Reads the frames of a stream, byte by byte. Contracts see it as the bytes since the last frame.
+/// What the front of some bytes comes to.
+#[derive(Drop)]
+pub struct Progress {
+    /// How many of the bytes were taken, a bad one among them.
+    pub taken: usize,
+    /// What the last one of them is answered, as by `Reader::feed`: None where all were taken and end no frame.
+    pub answer: Result<Option<Frame>, ReadFault>,
+}
+
+/// Reads the frames of a stream. Contracts see it as the bytes since the last frame.
 #[derive(Drop)]
 pub struct Reader {
     alloc: Global,
@@ -72,10 +81,27 @@ impl Reader {
         take_byte(self.alloc, &mut self.scanner, byte)
     }
 
+    /// Takes bytes of the stream up to the first one that ends a frame or is bad, and gives how many it took with what `feed` answers the last one. The bytes behind it are for the next call.
+    ///
+    /// The outcome is that of feeding the bytes one by one; a text or the content of a file is copied at once, as far as it is there, and no memory is taken for bytes that have not come. After a bad byte no byte is taken, and each call answers the same. `Memory` is want of memory: those that are counted were taken, and the others can be fed again.
+    pub fn feed_slice(&mut self, bytes: &[u8]) -> Progress
+        ensures within { result.taken ≤ length bytes.now }
+        ensures comes { ComesOf result.answer result.taken bytes.now self.old self.new }
+    {
+        take_slice(self.alloc, &mut self.scanner, bytes)
+    }
+
     /// How many bytes there are since the last frame. After a bad byte it counts those up to it.
     pub fn waiting(&self) -> u32
         ensures { result ≡ length self.now }
     {
         waiting_in(&self.scanner)
+    }
+
+    /// How many bytes of the frame come next, as far as those since the last frame tell: up to the end of its length, and behind that up to the end of the frame. After a bad byte there are none.
+    pub fn wanted(&self) -> usize
+        ensures { result ≡ wanted_in self.now }
+    {
+        wanted_behind(&self.scanner)
     }
 }

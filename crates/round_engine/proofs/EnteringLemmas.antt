@@ -1,6 +1,5 @@
 -- Units that are entered one after another, and sources.
 use Rattle.std.proofs.Common.{◌≡◌, ℕ, List, [], ◌∷◌, ◌++◌, Result, Ok, Err, inl, inr, ap, ◌∙◌, refl, sym, subst}
-use Rattle.std.specs.Prelude.{map}
 use Rattle.decl_tree.specs.declared.compilation.UnitText.{UnitText}
 use Rattle.element_table.specs.declared.fault.EnterFault.{EnterFault}
 use Rattle.element_table.specs.declared.fault.EnterFault.TheVariants as enter
@@ -8,15 +7,12 @@ use Rattle.element_table.specs.declared.part.Part.TheVariants.{Source}
 use Rattle.element_table.specs.UnitNames.{unit_name}
 use Rattle.element_table.specs.TypeTable.{TypeTable, answer_to, entered, Answers, unit_back}
 use Rattle.element_table.proofs.TableLaws.{outcome_of-Ok, outcome_of-Duplicate, outcome_of-TooMany}
-use Rattle.source_form.specs.declared.fault.ParseFault.{ParseFault}
-use Rattle.source_form.specs.declared.fault.ParseFault.TheVariants as parse
-use Rattle.source_form.specs.Units.{Flaw, Parses}
 use Rattle.round_engine.specs.declared.source_fault.SourceFault.{SourceFault}
 use Rattle.round_engine.specs.declared.source_fault.SourceFault.TheVariants as code
 use Rattle.round_engine.specs.Names.{NameSet, with_name, with_names}
 use Rattle.round_engine.specs.Refusals.{Refusal, Stop, Refused, Failed, Memory, OrMemory}
-use Rattle.round_engine.specs.Units.{Obstacle, Duplicate, TooLarge, Entered, enter_by, enter_unit, and_then, enter_units, enter_read, enter_source, Gathered, gather, enter_created, gather_all, ascending}
-use Rattle.round_engine.specs.Entering.{Reports, gathered, of_parse, Obstructs, EntersUnits, RefusesAs, of_source}
+use Rattle.round_engine.specs.Units.{Obstacle, Duplicate, TooLarge, Entered, enter_by, enter_unit, and_then, enter_units, Gathered, gather, enter_created, gather_all, ascending}
+use Rattle.round_engine.specs.Entering.{Reports, Obstructs, EntersUnits, RefusesAs, of_source}
 
 -- ---- one unit
 

@@ -1,5 +1,5 @@
 -- The files of a map that borrows their bytes.
-use Rattle.std.proofs.Common.{◌≡◌, ℕ, Bool, true, false, cond, T, List, [], ◌∷◌, map, Some, None, Option, option_map, String, string_bytes, ◌&&◌, refl, sym, ap, ◌∙◌, subst}
+use Rattle.std.proofs.Common.{◌≡◌, ℕ, Bool, true, false, cond, T, List, [], ◌∷◌, map, Some, Option, option_map, String, string_bytes, ◌&&◌, refl, sym, ap, ◌∙◌, subst}
 use Rattle.std.specs.BTreeMap as tree
 use Rattle.std.specs.BTreeMap.{BTreeMap, is_at, get_by_text, UpdatesBy}
 use Rattle.std.specs.Map.{lookup, keys_of}
@@ -16,7 +16,7 @@ use Rattle.std.specs.FinMap.Entries.{same_entries, below_all}
 use Rattle.std.specs.declared.alloc.Global.{Global}
 use Rattle.std.specs.declared.cmp.Ordering.TheVariants.{Less}
 use Rattle.std.proofs.lemmas.Map.Text.{btree_map_updates_text}
-use Rattle.apt_outside.specs.Files.{Files, file_at}
+use Rattle.apt_outside.specs.Files.{file_at}
 use Rattle.apt_outside.proofs.HeldLemmas.{exact_paths, same_files, file_at-insert}
 use Rattle.round_engine.specs.Held.{shown_lent, files_lent}
 

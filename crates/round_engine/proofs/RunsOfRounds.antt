@@ -9,6 +9,9 @@ use Rattle.apt_filer.specs.Filing.{Filings}
 use Rattle.wire_frames.specs.declared.frame.Message.{Message}
 use Rattle.child_session.specs.declared.fault.SessionFault.{SessionFault}
 use Rattle.child_session.specs.declared.fault.SessionFault.TheVariants as session
+use Rattle.apt_base.specs.declared.kinds.Claim.TheVariants.{Always}
+use Rattle.child_session.specs.declared.round.Answer.{Answer}
+use Rattle.child_session.specs.declared.round.Showing.{Showing}
 use Rattle.child_session.specs.Talk.{Stream, HasAnswered}
 use Rattle.child_session.specs.Round.{Act, Answered, Comes, act_of, Shows, Shown}
 use Rattle.child_session.proofs.Rounds.{later, joined}
@@ -16,7 +19,7 @@ use Rattle.round_engine.specs.declared.refusal.Refusal as declared
 use Rattle.round_engine.specs.declared.refusal.Refusal.TheVariants as code
 use Rattle.round_engine.specs.declared.rounds.Rounds.{Rounds}
 use Rattle.round_engine.specs.Refusals as stop
-use Rattle.round_engine.specs.Refusals.{Refusal, TooManyQuestions, TooManyRounds, Stop, OrMemory}
+use Rattle.round_engine.specs.Refusals.{Refusal, TooManyQuestions, ClaimBroken, TooManyRounds, Stop, OrMemory}
 use Rattle.element_table.specs.TypeTable.{TypeTable}
 use Rattle.round_engine.specs.Units.{Entered, enter_all}
 use Rattle.round_engine.specs.Entering.{RefusesAs}
@@ -31,29 +34,33 @@ Frames = List (List ℕ)
 
 module _ (child : ℕ) (pattern : List ℕ) (r : Round) (p : Progress) where
   -- a round that the processor is asked in
-  pub acts_asked : (k0 k1 : State) (made' : Filings) (result : Result (List Message) SessionFault) → is_asked pattern r p.asked ≡ true
+  pub acts_asked : (k0 k1 : State) (made' : Filings) (result : Result Answer SessionFault) → is_asked pattern r p.asked ≡ true
       → Shows child (showing pattern r) k0 k1 p.filings made' result → Acts child pattern r p k0 k1 made' result
   acts_asked k0 k1 made' result asked shows = record {
     acted = later k0.says (k0.known child) (k1.known child) (Shown k0.says (showing pattern r) p.filings made' result) (Acted k0.says pattern r p made' result)
         (λ a b x. record {
           name = x.name;
           command = x.command;
-          comes = subst (λ o. Comes o (limit r.roots) result b.sent made') (sym (ap (λ c. cond c (act_of (k0.says a.name a.command) (showing pattern r) a.sent p.filings) (Answered a.sent p.filings [])) asked)) x.comes;
+          comes = subst (λ o. Comes o (showing pattern r) result b.sent made') (sym (ap (λ c. cond c (act_of (k0.says a.name a.command) (showing pattern r) a.sent p.filings) (Answered a.sent p.filings [] true)) asked)) x.comes;
           answered = x.answered;
         }) shows.shown;
   }
 
-  stays : (says : Says) (o : Option Child) → is_asked pattern r p.asked ≡ false → IfSome o (λ a. HasAnswered says a → IsSomeAnd o (Acted says pattern r p p.filings (Ok []) a))
+  -- what comes of one that is not asked
+  abbrev pub unasked : Answer
+  unasked = record { messages = []; claimed = true }
+
+  stays : (says : Says) (o : Option Child) → is_asked pattern r p.asked ≡ false → IfSome o (λ a. HasAnswered says a → IsSomeAnd o (Acted says pattern r p p.filings (Ok unasked) a))
   stays says None asked = tt
   stays says (Some a) asked = λ before. record {
     name = refl;
     command = refl;
-    comes = ap (λ c. cond c (act_of (says a.name a.command) (showing pattern r) a.sent p.filings) (Answered a.sent p.filings [])) asked;
+    comes = ap (λ c. cond c (act_of (says a.name a.command) (showing pattern r) a.sent p.filings) (Answered a.sent p.filings [] true)) asked;
     answered = before;
   }
 
   -- a round that it is not asked in
-  pub acts_unasked : (k : State) → is_asked pattern r p.asked ≡ false → Acts child pattern r p k k p.filings (Ok [])
+  pub acts_unasked : (k : State) → is_asked pattern r p.asked ≡ false → Acts child pattern r p k k p.filings (Ok unasked)
   acts_unasked k asked = record { acted = stays k.says (k.known child) asked }
 
   remembered : (says : Says) (o : Option Child) (filings' : Filings) → IfSome o (λ a. HasAnswered says a → IsSomeAnd o (Acted says pattern r p filings' (Err session.Memory) a))
@@ -75,17 +82,18 @@ unfolding rounds_from
 round_zero processor stream pattern r sent p = refl
 
 -- a refusal of a session, as a refusal of the run
-comes_stopped : (processor : List ℕ) (roots : List (List ℕ)) (a : Act) (go : Frames → Filings → List Message → Run) (fault : SessionFault) (sent : Frames) (made' : Filings)
-    → Comes a (limit roots) (Err fault) sent made' → StopsAs (after_act processor roots a go) sent (of_session processor fault)
-comes_stopped processor roots a go session.Failed sent made' c = tt
-comes_stopped processor roots a go session.Memory sent made' c = tt
-comes_stopped processor roots a go session.Unbuilt sent made' c = ap (λ x. after_act processor roots x go) c
-comes_stopped processor roots a go (session.TooManyQuestions most) sent made' c = ap (λ x. after_act processor roots x go) c.0 ∙ ap (λ n. Refused sent (TooManyQuestions processor n)) (sym c.1)
+comes_stopped : (processor : List ℕ) (s : Showing) (roots : List (List ℕ)) (a : Act) (go : Frames → Filings → List Message → Run) (fault : SessionFault) (sent : Frames) (made' : Filings)
+    → s.limit ≡ limit roots → s.claim ≡ Always → Comes a s (Err fault) sent made' → StopsAs (after_act processor roots a go) sent (of_session processor fault)
+comes_stopped processor s roots a go session.Failed sent made' most claim c = tt
+comes_stopped processor s roots a go session.Memory sent made' most claim c = tt
+comes_stopped processor s roots a go session.Unbuilt sent made' most claim c = ap (λ x. after_act processor roots x go) c
+comes_stopped processor s roots a go (session.TooManyQuestions asked) sent made' most claim c = ap (λ x. after_act processor roots x go) c.0 ∙ ap (λ n. Refused sent (TooManyQuestions processor n)) (sym (c.1 ∙ most))
+comes_stopped processor s roots a go (session.ClaimBroken declared said) sent made' most claim c = ap (λ x. after_act processor roots x go) c.0 ∙ ap (λ d. Refused sent (ClaimBroken processor d said)) (sym (c.1 ∙ claim))
 
-comes_refused : (processor : List ℕ) (roots : List (List ℕ)) (a : Act) (go : Frames → Filings → List Message → Run) (fault : SessionFault) (s : Stop) (sent : Frames) (made' : Filings)
-    → Comes a (limit roots) (Err fault) sent made' → OrMemory (of_session processor fault) s → StopsAs (after_act processor roots a go) sent s
-comes_refused processor roots a go fault s sent made' c (inl is) = subst (StopsAs (after_act processor roots a go) sent) (sym is) (comes_stopped processor roots a go fault sent made' c)
-comes_refused processor roots a go fault s sent made' c (inr is) = subst (StopsAs (after_act processor roots a go) sent) (sym is) tt
+comes_refused : (processor : List ℕ) (pattern : List ℕ) (r : Round) (a : Act) (go : Frames → Filings → List Message → Run) (fault : SessionFault) (s : Stop) (sent : Frames) (made' : Filings)
+    → Comes a (showing pattern r) (Err fault) sent made' → OrMemory (of_session processor fault) s → StopsAs (after_act processor r.roots a go) sent s
+comes_refused processor pattern r a go fault s sent made' c (inl is) = subst (StopsAs (after_act processor r.roots a go) sent) (sym is) (comes_stopped processor (showing pattern r) r.roots a go fault sent made' refl refl c)
+comes_refused processor pattern r a go fault s sent made' c (inr is) = subst (StopsAs (after_act processor r.roots a go) sent) (sym is) tt
 
 along : (x y : Run) (result : Result Rounds declared.Refusal) (sent : Frames) (made' : Filings) → x ≡ y → ComesTo x result sent made' → ComesTo y result sent made'
 along x y result sent made' is c = subst (λ o. ComesTo o result sent made') is c
@@ -95,17 +103,17 @@ module _ (child : ℕ) (processor : List ℕ) where
   stream_is says a b name command = ap (λ n. says n b.command) name ∙ ap (λ c. says a.name c) command
 
   -- the last round
-  pub finish_ok : (k0 k1 : State) (pattern : List ℕ) (number : ℕ) (error : Bool) (table : TypeTable) (p : Progress) (made' : Filings) (printed : List Message) (rounds : Rounds)
-      → Acts child pattern (last_of number error table) p k0 k1 made' (Ok printed)
-      → rounds.count ≡ number → rounds.messages ≡ p.messages ++ place number 0 printed → rounds.unread ≡ unread_among (new_since p.filings made')
+  pub finish_ok : (k0 k1 : State) (pattern : List ℕ) (number : ℕ) (error : Bool) (table : TypeTable) (p : Progress) (made' : Filings) (answer : Answer) (rounds : Rounds)
+      → Acts child pattern (last_of number error table) p k0 k1 made' (Ok answer)
+      → rounds.count ≡ number → rounds.messages ≡ p.messages ++ place number 0 answer.messages → rounds.unread ≡ unread_among (new_since p.filings made')
       → Ends child (last_from k0.says processor pattern number error table p) k0 k1 made' (Ok rounds)
-  finish_ok k0 k1 pattern number error table p made' printed rounds acts count messages unread = record {
-    ended = later k0.says (k0.known child) (k1.known child) (Acted k0.says pattern (last_of number error table) p made' (Ok printed)) (Ended (last_from k0.says processor pattern number error table p) made' (Ok rounds))
+  finish_ok k0 k1 pattern number error table p made' answer rounds acts count messages unread = record {
+    ended = later k0.says (k0.known child) (k1.known child) (Acted k0.says pattern (last_of number error table) p made' (Ok answer)) (Ended (last_from k0.says processor pattern number error table p) made' (Ok rounds))
         (λ a b x. record {
           name = x.name;
           command = x.command;
           comes = ap (λ o. after_act processor [] o (λ sent' made printed. Finished sent' number made.made (p.messages ++ place number 0 printed) (unread_among (new_since p.filings made)))) x.comes
-              ∙ ap (λ n. Finished b.sent n made'.made (p.messages ++ place number 0 printed) (unread_among (new_since p.filings made'))) (sym count)
+              ∙ ap (λ n. Finished b.sent n made'.made (p.messages ++ place number 0 answer.messages) (unread_among (new_since p.filings made'))) (sym count)
               ∙ ap (λ m. Finished b.sent rounds.count made'.made m (unread_among (new_since p.filings made'))) (sym messages)
               ∙ ap (λ u. Finished b.sent rounds.count made'.made rounds.messages u) (sym unread);
         }) acts.acted;
@@ -116,7 +124,7 @@ module _ (child : ℕ) (processor : List ℕ) where
       → Ends child (last_from k0.says processor pattern number error table p) k0 k1 made' (Err refusal)
   finish_err k0 k1 pattern number error table p made' fault refusal acts due_as = record {
     ended = later k0.says (k0.known child) (k1.known child) (Acted k0.says pattern (last_of number error table) p made' (Err fault)) (Ended (last_from k0.says processor pattern number error table p) made' (Err refusal))
-        (λ a b x. record { name = x.name; command = x.command; comes = comes_refused processor [] _ _ fault (stop_of refusal) b.sent made' x.comes due_as }) acts.acted;
+        (λ a b x. record { name = x.name; command = x.command; comes = comes_refused processor pattern (last_of number error table) _ _ fault (stop_of refusal) b.sent made' x.comes due_as }) acts.acted;
   }
 
   -- want of memory and a fault of the children may come at any point
@@ -155,11 +163,14 @@ module _ (child : ℕ) (processor : List ℕ) where
             (λ a b c x y. record {
               name = y.name ∙ x.name;
               command = y.command ∙ x.command;
-              comes = along _ (whole a) (Err refusal) c.sent made' (opened a b x) (comes_refused processor r.roots _ _ fault (stop_of refusal) c.sent made' y.comes due_as);
+              comes = along _ (whole a) (Err refusal) c.sent made' (opened a b x) (comes_refused processor pattern r _ _ fault (stop_of refusal) c.sent made' y.comes due_as);
             }) w.way (subst (λ says. IfSome (k1.known child) (λ b. HasAnswered says b → IsSomeAnd (k2.known child) (Acted says pattern r p made' (Err fault) b))) same acts.acted);
       }
 
-      module _ (same : k1.says ≡ k0.says) (k2 : State) (made' : Filings) (printed : List Message) (acts : Acts child pattern r p k1 k2 made' (Ok printed)) where
+      module _ (same : k1.says ≡ k0.says) (k2 : State) (made' : Filings) (answer : Answer) (acts : Acts child pattern r p k1 k2 made' (Ok answer)) where
+        abbrev printed : List Message
+        printed = answer.messages
+
         abbrev q : Progress
         q = progress pattern r p made' printed
 
@@ -178,7 +189,7 @@ module _ (child : ℕ) (processor : List ℕ) where
         then_after stream sent made printed = after_round processor stream pattern r sent (progress pattern r p made printed) (new_since p.filings made) printed (λ e. rounds_from processor stream pattern left (next_of (suc r.number) e) sent (progress pattern r p made printed))
 
         followed : IfSome (k0.known child) (λ a. HasAnswered k0.says a → IsSomeAnd (k2.known child) (Next a))
-        followed = joined k0.says (k0.known child) (k1.known child) (k2.known child) Here (Acted k0.says pattern r p made' (Ok printed)) Next
+        followed = joined k0.says (k0.known child) (k1.known child) (k2.known child) Here (Acted k0.says pattern r p made' (Ok answer)) Next
             (λ a b x. x.answered)
             (λ a b c x y.
             let stream = stream_is k0.says b c y.name y.command in (
@@ -186,7 +197,7 @@ module _ (child : ℕ) (processor : List ℕ) where
               y.command ∙ x.command,
               y.answered,
               ap (λ o. then_after o c.sent made' printed) stream ∙ sym (ap (λ o. after_act processor r.roots o (then_after (k0.says b.name b.command))) y.comes) ∙ opened a b x,
-            )) w.way (subst (λ says. IfSome (k1.known child) (λ b. HasAnswered says b → IsSomeAnd (k2.known child) (Acted says pattern r p made' (Ok printed) b))) same acts.acted)
+            )) w.way (subst (λ says. IfSome (k1.known child) (λ b. HasAnswered says b → IsSomeAnd (k2.known child) (Acted says pattern r p made' (Ok answer) b))) same acts.acted)
 
         -- an ERROR was printed, or no source was created
         pub way_ends : (k3 : State) (made3 : Filings) (result : Result Rounds declared.Refusal) → (has_error printed || not (creates_source new)) ≡ true

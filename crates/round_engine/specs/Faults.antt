@@ -5,12 +5,13 @@ use Rattle.child_session.specs.declared.fault.SessionFault.{SessionFault}
 use Rattle.child_session.specs.declared.fault.SessionFault.TheVariants as session
 use Rattle.round_engine.specs.declared.refusal.Refusal as declared
 use Rattle.round_engine.specs.declared.refusal.Refusal.TheVariants as code
-use Rattle.round_engine.specs.Refusals.{UnbuiltForm, UnbuiltTalk, TooManyQuestions, GeneratedDuplicate, TooManyRounds, TooLarge, Children, Stop, Refused, Failed, Memory, is_refusal, is_failure}
+use Rattle.round_engine.specs.Refusals.{UnbuiltForm, UnbuiltTalk, TooManyQuestions, ClaimBroken, GeneratedDuplicate, TooManyRounds, TooLarge, Children, Stop, Refused, Failed, Memory, is_refusal, is_failure}
 
 abbrev pub stop_of : declared.Refusal → Stop
 stop_of (code.ChildFault processor) = Failed (Children processor)
 stop_of (code.UnbuiltTalk processor) = Refused (UnbuiltTalk processor)
 stop_of (code.TooManyQuestions processor most) = Refused (TooManyQuestions processor most)
+stop_of (code.ClaimBroken processor declared said) = Refused (ClaimBroken processor declared said)
 stop_of (code.UnbuiltForm path) = Refused (UnbuiltForm path)
 stop_of (code.GeneratedDuplicate name) = Refused (GeneratedDuplicate name)
 stop_of code.TooManyRounds = Refused TooManyRounds
@@ -22,6 +23,7 @@ abbrev pub of_session : List ℕ → SessionFault → Stop
 of_session processor session.Failed = Failed (Children processor)
 of_session processor session.Unbuilt = Refused (UnbuiltTalk processor)
 of_session processor (session.TooManyQuestions most) = Refused (TooManyQuestions processor most)
+of_session processor (session.ClaimBroken declared said) = Refused (ClaimBroken processor declared said)
 of_session processor session.Memory = Memory
 
 -- whether a call did its work or was refused, so that its answer is due

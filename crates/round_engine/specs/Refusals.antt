@@ -1,5 +1,6 @@
 -- Why a call of the host ends before its work is done. Each refusal stands here once, with what its line names.
-use Rattle.std.specs.Prelude.{◌≡◌, ◌⊎◌, ℕ, Bool, true, false, List, Option, None, Some, IfSome}
+use Rattle.std.specs.Prelude.{◌≡◌, ◌⊎◌, ℕ, Bool, true, false, List, Option, None, Some, IfSome, Contains}
+use Rattle.apt_base.specs.declared.kinds.Claim.{Claim}
 use Rattle.apt_base.specs.declared.kinds.What.{What}
 use Rattle.round_engine.specs.Limits.{limit_of}
 
@@ -12,6 +13,8 @@ pub data Refusal : Type 0 where
   UnbuiltTalk : (processor : List ℕ) → Refusal
   -- a child asked once more than so often in one round
   TooManyQuestions : (processor : List ℕ) (most : ℕ) → Refusal
+  -- a processor declared that it claims always, or never, and said the other thing
+  ClaimBroken : (processor : List ℕ) (declared : Claim) (said : Bool) → Refusal
   -- a created source gives a type that is there
   GeneratedDuplicate : (name : List ℕ) → Refusal
   -- round 64 would not be the last
@@ -27,6 +30,7 @@ past what = TooLarge what (limit_of what)
 abbrev pub processor_of : Refusal → Option (List ℕ)
 processor_of (UnbuiltTalk processor) = Some processor
 processor_of (TooManyQuestions processor most) = Some processor
+processor_of (ClaimBroken processor declared said) = Some processor
 processor_of other = None
 
 -- what stands outside the host and counts its faults
@@ -63,6 +67,10 @@ named_by other = None
 -- where a stop names a processor, it names this one
 abbrev pub Names : List ℕ → Stop → Type 0
 Names processor stop = IfSome (named_by stop) (λ name. name ≡ processor)
+
+-- where it names one, that is among these
+abbrev pub NamesAmong : List (List ℕ) → Stop → Type 0
+NamesAmong processors stop = IfSome (named_by stop) (Contains processors)
 
 -- this stop, or want of memory in its place
 abbrev pub OrMemory : Stop → Stop → Type 0

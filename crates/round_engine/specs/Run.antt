@@ -17,10 +17,11 @@ use Rattle.wire_frames.specs.declared.frame.Message.{Message}
 use Rattle.wire_frames.specs.Frames.{spelling}
 use Rattle.apt_filer.specs.Filing.{Filings, path_of, content_of}
 use Rattle.child_session.specs.Talk.{Stream, answer_to}
-use Rattle.child_session.specs.Round.{Act, Answered, Broken, Overasked, Showing, act_of}
+use Rattle.child_session.specs.declared.round.Showing.{Showing}
+use Rattle.child_session.specs.Round.{Act, Answered, Broken, Overasked, Differed, act_of}
 use Rattle.round_engine.specs.declared.messages.Placed.{Placed}
 use Rattle.round_engine.specs.Names.{NameSet, with_name, names_in}
-use Rattle.round_engine.specs.Refusals.{Refusal, UnbuiltTalk, TooManyQuestions, TooManyRounds}
+use Rattle.round_engine.specs.Refusals.{Refusal, UnbuiltTalk, TooManyQuestions, ClaimBroken, TooManyRounds}
 use Rattle.element_table.specs.TypeTable.{TypeTable}
 use Rattle.round_engine.specs.Units.{is_present, Entered, enter_all, all_of, unit_names}
 
@@ -82,13 +83,13 @@ limit roots = 65536 + 4096 * length roots
 abbrev pub round_frame : List ℕ → Round → List ℕ
 round_frame pattern r = spelling (frame.Round r.number r.over r.error (offered pattern r) r.roots)
 
--- what a processor is shown in a round
+-- what a processor is shown in a round, which declared that it always claims
 abbrev pub showing : List ℕ → Round → Showing
-showing pattern r = record { limit = limit r.roots; round = round_frame pattern r }
+showing pattern r = record { limit = limit r.roots; claim = Always; round = round_frame pattern r }
 
--- what a processor comes to in a round, after these frames
+-- what a processor comes to in a round, after these frames; one that is not asked breaks no claim
 abbrev pub act : Stream → List ℕ → Round → List (List ℕ) → Progress → Act
-act stream pattern r sent p = if is_asked pattern r p.asked then act_of stream (showing pattern r) sent p.filings else Answered sent p.filings []
+act stream pattern r sent p = if is_asked pattern r p.asked then act_of stream (showing pattern r) sent p.filings else Answered sent p.filings [] true
 
 -- messages of a round, numbered from one on; there is one processor, which has the number 0
 abbrev pub place : ℕ → ℕ → List Message → List Placed
@@ -156,9 +157,10 @@ pub data Run : Type 0 where
 
 -- what follows an act of this processor in a round with these roots, unless it is refused
 abbrev pub after_act : List ℕ → List (List ℕ) → Act → (List (List ℕ) → Filings → List Message → Run) → Run
-after_act processor roots (Answered sent filings printed) go = go sent filings printed
+after_act processor roots (Answered sent filings printed claimed) go = go sent filings printed
 after_act processor roots (Broken sent filings) go = Refused sent (UnbuiltTalk processor)
 after_act processor roots (Overasked sent filings) go = Refused sent (TooManyQuestions processor (limit roots))
+after_act processor roots (Differed sent filings said) go = Refused sent (ClaimBroken processor Always said)
 
 -- The last round has no roots, and nothing is offered in it.
 abbrev pub last_of : ℕ → Bool → TypeTable → Round

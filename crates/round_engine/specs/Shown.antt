@@ -3,30 +3,32 @@ use Rattle.std.specs.Prelude.{◌≡◌, ◌⊎◌, ◌+◌, ◌≤◌, ℕ, Boo
 use Rattle.apt_outside.specs.Child.{Says, Try, Child, State, begun, OthersKept, AllKept}
 use Rattle.apt_filer.specs.Filing.{Filings}
 use Rattle.wire_frames.specs.declared.frame.Frame.TheVariants as frame
-use Rattle.wire_frames.specs.declared.frame.Message.{Message}
 use Rattle.wire_frames.specs.Frames.{spelling}
 use Rattle.child_session.specs.declared.fault.SessionFault.{SessionFault}
+use Rattle.child_session.specs.declared.round.Answer.{Answer}
 use Rattle.child_session.specs.Talk.{HasAnswered, WasAnswered}
 use Rattle.child_session.specs.Round.{Comes, OnAnswered}
 use Rattle.round_engine.specs.declared.refusal.Refusal as declared
 use Rattle.round_engine.specs.declared.rounds.Rounds.{Rounds}
 use Rattle.round_engine.specs.declared.rounds.Round as code_round
+use Rattle.round_engine.specs.declared.rounds.Progress as code_progress
+use Rattle.round_engine.specs.declared.rounds.Processor.{Processor}
 use Rattle.round_engine.specs.declared.messages.Placed.{Placed}
 use Rattle.round_engine.specs.Refusals as stop
 use Rattle.round_engine.specs.Refusals.{Stop}
 use Rattle.round_engine.specs.Faults.{stop_of, is_due}
 use Rattle.element_table.specs.TypeTable.{TypeTable}
 use Rattle.round_engine.specs.Units.{all_of}
-use Rattle.round_engine.specs.Run.{Round, Progress, limit, is_asked, act, Run, Finished, Refused, last_round, rounds_before_last, next_of, start, rounds_from, run_of}
+use Rattle.round_engine.specs.Run.{Round, Progress, showing, is_asked, act, Run, Finished, Refused, last_round, rounds_before_last, next_of, start, rounds_from, run_of}
 
 -- ---- what the code has of these
 
-abbrev pub shown_round : code_round.Round → TypeTable → List (List ℕ) → Round
-shown_round round table roots = record { number = round.number; over = round.over; error = round.error; table = table; roots = roots }
+abbrev pub shown_round : code_round.Round → Round
+shown_round round = record { number = round.number; over = round.over; error = round.error; table = round.table.now; roots = round.roots.now }
 
 -- whether the processor was asked up to this round
-abbrev pub asked_after : List ℕ → code_round.Round → TypeTable → List (List ℕ) → Bool → Bool
-asked_after pattern round table roots before = is_asked pattern (shown_round round table roots) before
+abbrev pub asked_after : code_round.Round → Bool → Bool
+asked_after round before = is_asked round.processor.pattern.now (shown_round round) before
 
 -- the frame of a round in which these names are offered
 abbrev pub frame_of : code_round.Round → List (List ℕ) → List (List ℕ) → List ℕ
@@ -38,19 +40,19 @@ standing asked filings messages = record { asked = asked; filings = filings; mes
 -- ---- one round
 
 -- the processor was shown a round, where it is asked, and this came of it
-pub record Acted (says : Says) (pattern : List ℕ) (r : Round) (p : Progress) (filings' : Filings) (result : Result (List Message) SessionFault) (before after : Child) : Type 0 where
+pub record Acted (says : Says) (pattern : List ℕ) (r : Round) (p : Progress) (filings' : Filings) (result : Result Answer SessionFault) (before after : Child) : Type 0 where
   pub name : after.name ≡ before.name
   pub command : after.command ≡ before.command
-  pub comes : Comes (act (says before.name before.command) pattern r before.sent p) (limit r.roots) result after.sent filings'
+  pub comes : Comes (act (says before.name before.command) pattern r before.sent p) (showing pattern r) result after.sent filings'
   pub answered : OnAnswered result (HasAnswered says after)
 
-pub record Acts (child : ℕ) (pattern : List ℕ) (r : Round) (p : Progress) (old new : State) (filings' : Filings) (result : Result (List Message) SessionFault) : Type 0 where
+pub record Acts (child : ℕ) (pattern : List ℕ) (r : Round) (p : Progress) (old new : State) (filings' : Filings) (result : Result Answer SessionFault) : Type 0 where
   pub acted : WasAnswered child old new (Acted old.says pattern r p filings' result)
 
 -- the same, whatever the messages up to then
-abbrev pub ActsIn : ℕ → List ℕ → Round → Bool → State → State → Filings → Filings → Result (List Message) SessionFault → Type 0
-ActsIn child pattern r asked old new filings filings' result =
-    (messages : List Placed) → Acts child pattern r (standing asked filings messages) old new filings' result
+abbrev pub ActsIn : code_round.Round → Bool → State → State → Filings → Filings → Result Answer SessionFault → Type 0
+ActsIn round asked old new filings filings' result =
+    (messages : List Placed) → Acts round.processor.child round.processor.pattern.now (shown_round round) (standing asked filings messages) old new filings' result
 
 -- ---- a run that is under way
 
@@ -96,13 +98,14 @@ abbrev pub all_from : Says → List ℕ → List ℕ → TypeTable → Whole
 all_from says processor pattern table before = rounds_from processor (says before.name before.command) pattern rounds_before_last (next_of 1 (all_of table)) before.sent (start table)
 
 -- the last round came to its end
-abbrev pub EndsLast : ℕ → List ℕ → List ℕ → code_round.Round → TypeTable → Bool → List Placed → State → State → Filings → Filings → Result Rounds declared.Refusal → Type 0
-EndsLast child processor pattern round table asked messages old new filings filings' result =
-    Ends child (last_from old.says processor pattern round.number round.error table (standing asked filings messages)) old new filings' result
+abbrev pub EndsLast : code_round.Round → code_progress.Progress → State → State → Filings → Filings → Result Rounds declared.Refusal → Type 0
+EndsLast round p old new filings filings' result =
+    let processor = round.processor in
+    Ends processor.child (last_from old.says processor.name.now processor.pattern.now round.number round.error round.table.now (standing p.asked filings p.messages)) old new filings' result
 
 -- so did all rounds
-abbrev pub EndsAll : ℕ → List ℕ → List ℕ → TypeTable → State → State → Filings → Result Rounds declared.Refusal → Type 0
-EndsAll child processor pattern table old new filings' result = Ends child (all_from old.says processor pattern table) old new filings' result
+abbrev pub EndsAll : Processor → TypeTable → State → State → Filings → Result Rounds declared.Refusal → Type 0
+EndsAll processor table old new filings' result = Ends processor.child (all_from old.says processor.name.now processor.pattern.now table) old new filings' result
 
 -- ---- a child from its start to its stop
 

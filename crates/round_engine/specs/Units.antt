@@ -1,5 +1,5 @@
--- The units of a run in the type table: how the units of a source enter it, and which annotations are written on them.
-use Rattle.std.specs.Prelude.{ℕ, Bool, false, List, [], ◌∷◌, ◌++◌, map, Result, Ok, Err}
+-- The units of a run in the type table: how the units of a source enter it, and which annotations are present on them.
+use Rattle.std.specs.Prelude.{ℕ, Bool, List, [], ◌∷◌, ◌++◌, map, Result, Ok, Err}
 use Rattle.std.specs.List.{list_any}
 use Rattle.std.specs.Option.{option_map_or}
 use Rattle.std.specs.Str.{bytes_eq}
@@ -25,13 +25,33 @@ abbrev pub annotations_of : Body → List AnnotationText
 annotations_of (Declared declaration) = declaration.annotations
 annotations_of (Info annotations doc) = annotations
 
--- an annotation of this name is written on what the unit declares; so far names count as they are written
-abbrev pub is_written : List ℕ → UnitText → Bool
-is_written name unit = list_any (λ annotation. bytes_eq (out-AnnotationText annotation).name name) (annotations_of unit.body)
+abbrev pub annotation_name : AnnotationText → List ℕ
+annotation_name annotation = (out-AnnotationText annotation).name
 
--- an annotation of this name is written on one of these units of the table
+-- the names of the annotations that are written on what a unit declares, as they are written: so far no other names count
+abbrev pub names_on : UnitText → List (List ℕ)
+names_on unit = map annotation_name (annotations_of unit.body)
+
+-- the same of the unit of the table with this name
+abbrev pub names_at : TypeTable → List ℕ → List (List ℕ)
+names_at table root = option_map_or names_on (unit_of table root) []
+
+-- names to which the units of these names add those that are on them
+abbrev pub with_names_at : TypeTable → NameSet → List (List ℕ) → NameSet
+with_names_at table names [] = names
+with_names_at table names (root ∷ roots) = with_names_at table (with_names names (names_at table root)) roots
+
+-- the annotations that are present on units of the table, by their names, each once and ascending
+abbrev pub present_names : TypeTable → List (List ℕ) → List (List ℕ)
+present_names table roots = names_in (with_names_at table fin.empty roots)
+
+-- an annotation of this name is among these
+abbrev pub is_among : List (List ℕ) → List ℕ → Bool
+is_among present name = list_any (λ other. bytes_eq other name) present
+
+-- an annotation of this name is present on one of these units of the table
 abbrev pub is_present : TypeTable → List (List ℕ) → List ℕ → Bool
-is_present table roots name = list_any (λ root. option_map_or (is_written name) (unit_of table root) false) roots
+is_present table roots name = is_among (present_names table roots) name
 
 -- ---- a source
 

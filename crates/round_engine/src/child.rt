@@ -10,7 +10,7 @@ ghost use Rattle.round_engine.specs.Moments.{Over, CameOf, Ran};
 
 use crate::frames::{init_frame, pattern_of};
 use crate::refusal::{Refusal, refusal_of};
-use crate::rounds::{Rounds, show_rounds};
+use crate::rounds::{Processor, Rounds, show_rounds};
 use apt_base::Name;
 use apt_filer::Filer;
 use apt_outside::Children;
@@ -43,7 +43,14 @@ fn show_all<C: Children>(
     };
     match pattern_of(answer)? {
         None => Err(refusal_of(name, SessionFault::Unbuilt)),
-        Some(pattern) => show_rounds(alloc, children, child, name, &pattern, table, filer),
+        Some(pattern) => {
+            let processor = Processor {
+                child,
+                name,
+                pattern: &pattern,
+            };
+            show_rounds(alloc, children, &processor, table, filer)
+        }
     }
 }
 

@@ -50,10 +50,10 @@ pub fn round_bytes(
     alloc: Global,
     pattern: &Name,
     present: bool,
-    round: Round,
+    round: &Round<'_>,
     roots: List<Name>,
 ) -> Result<List<u8>, NoMemory>
-    ensures { IfOk result (λ bytes. bytes ≡ frame_of round (offered_if present pattern.now) roots) }
+    ensures { IfOk result (λ bytes. bytes ≡ frame_of round.now (offered_if present pattern.now) roots) }
 {
     let frame = Frame::Round {
         number: round.number,

@@ -4,7 +4,7 @@ ghost use Rattle.round_engine.specs.declared.refusal.Refusal.TheVariants as code
 ghost use Rattle.round_engine.specs.Refusals.{Names, OrMemory};
 ghost use Rattle.round_engine.specs.Faults.{stop_of, of_session};
 
-use apt_base::{Name, NoMemory, What};
+use apt_base::{Claim, Name, NoMemory, What};
 use child_session::SessionFault;
 use std::alloc::{AllocError, AllocFailed};
 
@@ -27,6 +27,15 @@ pub enum Refusal {
         processor: Name,
         /// How often it may.
         limit: u32,
+    },
+    /// A child said another thing of a claim than its processor had declared.
+    ClaimBroken {
+        /// The processor's name.
+        processor: Name,
+        /// What it declared: `Always` or `Never`.
+        declared: Claim,
+        /// What the child said.
+        said: bool,
     },
     /// A created source is not of the form that is read so far.
     UnbuiltForm {
@@ -66,6 +75,15 @@ impl Refusal {
             Refusal::TooManyQuestions { processor, limit } => Ok(Refusal::TooManyQuestions {
                 processor: processor.copy()?,
                 limit: *limit,
+            }),
+            Refusal::ClaimBroken {
+                processor,
+                declared,
+                said,
+            } => Ok(Refusal::ClaimBroken {
+                processor: processor.copy()?,
+                declared: *declared,
+                said: *said,
             }),
             Refusal::UnbuiltForm { path } => Ok(Refusal::UnbuiltForm { path: path.copy()? }),
             Refusal::GeneratedDuplicate { name } => {
@@ -117,6 +135,11 @@ pub fn refusal_of(processor: &Name, fault: SessionFault) -> Refusal
         SessionFault::Failed => Refusal::ChildFault { processor },
         SessionFault::Unbuilt => Refusal::UnbuiltTalk { processor },
         SessionFault::TooManyQuestions { limit } => Refusal::TooManyQuestions { processor, limit },
+        SessionFault::ClaimBroken { declared, said } => Refusal::ClaimBroken {
+            processor,
+            declared,
+            said,
+        },
         SessionFault::Memory => Refusal::Memory,
     }
 }

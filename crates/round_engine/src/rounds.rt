@@ -1,39 +1,65 @@
 // The rounds of a run.
-ghost use Rattle.std.specs.Prelude.{◌≡◌, ◌+◌, ◌*◌, ◌||◌, not, Contains, IfOk, IfErr, OnOk, drop, length, true};
-ghost use Rattle.apt_outside.specs.Count.{Told};
+ghost use Rattle.std.specs.Prelude.{◌≡◌, ◌+◌, ◌*◌, ◌||◌, not, Contains, IfOk, IfErr, OnOk, drop, length};
 ghost use Rattle.child_session.specs.Faults as session;
 ghost use Rattle.apt_outside.specs.Child.{Attends};
 ghost use Rattle.round_engine.specs.Refusals.{Names};
 ghost use Rattle.round_engine.specs.Faults.{stop_of, HasReason};
 ghost use Rattle.round_engine.specs.Run.{creates_source, new_filings};
-ghost use Rattle.round_engine.specs.Shown.{shown_round, asked_after, ActsIn, EndsLast, EndsAll};
+ghost use Rattle.round_engine.specs.Shown.{asked_after};
+ghost use Rattle.round_engine.specs.Moments.{Over, Acts, Last, All};
 
 use crate::entering::enter_all;
 use crate::frames::round_bytes;
 use crate::messages::{Placed, has_error, place};
 use crate::refusal::{Refusal, refusal_of};
 use crate::sources::{creates_source, unread_among};
-use crate::units::is_present;
-use apt_base::{List, Name, NoMemory, copy_names};
+use crate::units::{is_among, present_names};
+use apt_base::{Claim, List, Name, NoMemory, copy_names};
 use apt_filer::Filer;
 use apt_outside::Children;
-use child_session::{SessionFault, show_round};
+use child_session::{Answer, SessionFault, Showing, show_round};
 use element_table::{Part, Table};
 use std::alloc::Global;
-use wire_frames::{Creation, Message};
+use wire_frames::Creation;
 
 // The most rounds of a run, the last included.
 const MAX_ROUNDS: u32 = 64;
 
-/// A round: its number and its flags.
+/// A processor whose child is shown the rounds.
 #[derive(Clone, Copy)]
-pub struct Round {
+pub struct Processor<'a> {
+    /// The number of its child.
+    pub child: u32,
+    /// Its class's name.
+    pub name: &'a Name,
+    /// The annotation that it supports.
+    pub pattern: &'a Name,
+}
+
+/// A round that a processor is shown.
+#[derive(Clone, Copy)]
+pub struct Round<'a> {
+    /// The processor.
+    pub processor: Processor<'a>,
     /// From 1.
     pub number: u32,
     /// Whether it is the last.
     pub over: bool,
     /// Whether an error was printed in the round before.
     pub error: bool,
+    /// The type table that it sees.
+    pub table: &'a Table,
+    /// The names of its root units.
+    pub roots: &'a List<Name>,
+}
+
+/// What has come of the rounds before, beside the files that were made.
+#[derive(Drop)]
+pub struct Progress {
+    /// Whether the processor was asked.
+    pub asked: bool,
+    /// The messages, in order.
+    pub messages: List<Placed>,
 }
 
 /// What the rounds of a run came to, beside the files that were made.
@@ -56,36 +82,49 @@ fn limit_of(roots: &[Name]) -> Result<u32, NoMemory>
     u32::try_from(most).map_err(|_| NoMemory)
 }
 
-/// Shows a round to the processor's child, if it is asked in it, and gives what it prints.
+/// Shows a round to the processor's child, if it is asked in it, and gives its answer. One that is not asked prints nothing.
 fn act<C: Children>(
     alloc: Global,
     children: &mut C,
-    child: u32,
-    pattern: &Name,
-    round: Round,
-    table: &Table,
-    roots: &List<Name>,
+    round: &Round<'_>,
     asked: &mut bool,
     filer: &mut Filer,
-) -> Result<List<Message>, SessionFault>
-    requires lives { Contains (C.state children.old).live child }
+) -> Result<Answer, SessionFault>
+    requires lives { Contains (C.state children.old).live round.now.processor.child }
     ensures reason { session.HasReason (C.faults children.old) (C.faults children.new) result }
     ensures starts { (C.state children.new).starts ≡ (C.state children.old).starts }
     ensures live { (C.state children.new).live ≡ (C.state children.old).live }
-    ensures attends { Told C.tells (Attends child (C.state children.old) (C.state children.new)) }
-    ensures asked { OnOk result (asked.new ≡ asked_after pattern.now round table.now roots.now asked.old) }
-    ensures acts { Told C.tells (ActsIn child pattern.now (shown_round round table.now roots.now) asked.old
-        (C.state children.old) (C.state children.new) filer.old filer.new result) }
+    ensures attends { Over C.Children children.old children.new (Attends round.now.processor.child) }
+    ensures asked { OnOk result (asked.new ≡ asked_after round.now asked.old) }
+    ensures acts { Acts C.Children round.now asked.old children.old children.new filer.old filer.new result }
 {
-    let present = is_present(table, roots.as_slice(), pattern.as_str().as_bytes());
+    let Round {
+        processor: Processor { child, pattern, .. },
+        table,
+        roots,
+        ..
+    } = *round;
+    let names = present_names(alloc, table, roots.as_slice())?;
+    let present = is_among(names.as_slice(), pattern.as_str().as_bytes());
     if !present && !*asked {
-        return Ok(List::new(alloc));
+        return Ok(Answer {
+            messages: List::new(alloc),
+            claimed: true,
+        });
     }
     *asked = true;
-    let names = copy_names(alloc, roots.as_slice())?;
-    let most = limit_of(roots.as_slice())?;
-    let frame = round_bytes(alloc, pattern, present, round, names)?;
-    show_round(alloc, children, child, frame.as_slice(), most, filer)
+    let showing = Showing {
+        limit: limit_of(roots.as_slice())?,
+        claim: Claim::Always,
+        round: round_bytes(
+            alloc,
+            pattern,
+            present,
+            round,
+            copy_names(alloc, roots.as_slice())?,
+        )?,
+    };
+    show_round(alloc, children, child, &showing, filer)
 }
 
 // What was made since there were `count` files.
@@ -99,40 +138,39 @@ fn made_since(filer: &Filer, count: usize) -> &[Creation]
     &made[count..]
 }
 
-/// The last round, and what the whole run comes to.
+/// Shows a round as the last one, which has no roots, and gives what the whole run comes to.
 fn finish<C: Children>(
     alloc: Global,
     children: &mut C,
-    child: u32,
-    processor: &Name,
-    pattern: &Name,
-    round: Round,
-    table: &Table,
-    asked: bool,
+    round: &Round<'_>,
+    progress: Progress,
     filer: &mut Filer,
-    messages: List<Placed>,
 ) -> Result<Rounds, Refusal>
-    requires lives { Contains (C.state children.old).live child }
-    requires last { round.over ≡ true }
+    requires lives { Contains (C.state children.old).live round.now.processor.child }
     ensures reason { HasReason (C.faults children.old) (C.faults children.new) result }
-    ensures named { IfErr result (λ refusal. Names processor.now (stop_of refusal)) }
+    ensures named { IfErr result (λ refusal. Names round.now.processor.name.now (stop_of refusal)) }
     ensures starts { (C.state children.new).starts ≡ (C.state children.old).starts }
     ensures live { (C.state children.new).live ≡ (C.state children.old).live }
-    ensures attends { Told C.tells (Attends child (C.state children.old) (C.state children.new)) }
-    ensures ends { Told C.tells (EndsLast child processor.now pattern.now round table.now asked messages
-        (C.state children.old) (C.state children.new) filer.old filer.new result) }
+    ensures attends { Over C.Children children.old children.new (Attends round.now.processor.child) }
+    ensures ends { Last C.Children round.now progress children.old children.new filer.old filer.new result }
 {
     let roots = List::new(alloc);
-    let count = filer.made().len();
-    let mut asked = asked;
-    let mut messages = messages;
-    let printed = match act(
-        alloc, children, child, pattern, round, table, &roots, &mut asked, filer,
-    ) {
-        Ok(printed) => printed,
-        Err(fault) => return Err(refusal_of(processor, fault)),
+    let last = Round {
+        processor: round.processor,
+        number: round.number,
+        over: true,
+        error: round.error,
+        table: round.table,
+        roots: &roots,
     };
-    place(&mut messages, round.number, printed)?;
+    let count = filer.made().len();
+    let mut asked = progress.asked;
+    let mut messages = progress.messages;
+    let answer = match act(alloc, children, &last, &mut asked, filer) {
+        Ok(answer) => answer,
+        Err(fault) => return Err(refusal_of(round.processor.name, fault)),
+    };
+    place(&mut messages, round.number, answer.messages)?;
     let unread = unread_among(alloc, made_since(filer, count))?;
     Ok(Rounds {
         count: round.number,
@@ -153,21 +191,18 @@ fn is_followed_by_last(error: bool, made: &[Creation]) -> bool
 pub fn show_rounds<C: Children>(
     alloc: Global,
     children: &mut C,
-    child: u32,
-    processor: &Name,
-    pattern: &Name,
+    processor: &Processor<'_>,
     project: &Table,
     filer: &mut Filer,
 ) -> Result<Rounds, Refusal>
-    requires lives { Contains (C.state children.old).live child }
+    requires lives { Contains (C.state children.old).live processor.now.child }
     requires new { filer.old ≡ new_filings project.now }
     ensures reason { HasReason (C.faults children.old) (C.faults children.new) result }
-    ensures named { IfErr result (λ refusal. Names processor.now (stop_of refusal)) }
+    ensures named { IfErr result (λ refusal. Names processor.now.name.now (stop_of refusal)) }
     ensures starts { (C.state children.new).starts ≡ (C.state children.old).starts }
     ensures live { (C.state children.new).live ≡ (C.state children.old).live }
-    ensures attends { Told C.tells (Attends child (C.state children.old) (C.state children.new)) }
-    ensures ends { Told C.tells (EndsAll child processor.now pattern.now project.now
-        (C.state children.old) (C.state children.new) filer.new result) }
+    ensures attends { Over C.Children children.old children.new (Attends processor.now.child) }
+    ensures ends { All C.Children processor.now project.now children.old children.new filer.new result }
 {
     let mut table = project.copy(alloc)?;
     let mut roots = project.names(alloc, Part::Source)?;
@@ -175,28 +210,31 @@ pub fn show_rounds<C: Children>(
     let mut asked = false;
     for number in 1..MAX_ROUNDS {
         let round = Round {
+            processor: *processor,
             number,
             over: false,
             error: false,
+            table: &table,
+            roots: &roots,
         };
         let count = filer.made().len();
-        let printed = match act(
-            alloc, children, child, pattern, round, &table, &roots, &mut asked, filer,
-        ) {
-            Ok(printed) => printed,
-            Err(fault) => return Err(refusal_of(processor, fault)),
+        let answer = match act(alloc, children, &round, &mut asked, filer) {
+            Ok(answer) => answer,
+            Err(fault) => return Err(refusal_of(processor.name, fault)),
         };
-        let error = has_error(printed.as_slice());
-        place(&mut messages, number, printed)?;
+        let error = has_error(answer.messages.as_slice());
+        place(&mut messages, number, answer.messages)?;
         if is_followed_by_last(error, made_since(filer, count)) {
             let last = Round {
+                processor: *processor,
                 number: number + 1,
                 over: true,
                 error,
+                table: &table,
+                roots: &roots,
             };
-            return finish(
-                alloc, children, child, processor, pattern, last, &table, asked, filer, messages,
-            );
+            let progress = Progress { asked, messages };
+            return finish(alloc, children, &last, progress, filer);
         }
         let entered = enter_all(alloc, &mut table, made_since(filer, count))?;
         roots = entered;

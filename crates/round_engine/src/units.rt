@@ -1,11 +1,11 @@
 // The units of a project in its type table.
-ghost use Rattle.std.specs.Prelude.{◌≡◌, false, IfOk};
-ghost use Rattle.std.specs.Option.{option_map_or};
-ghost use Rattle.element_table.specs.TypeTable.{unit_of};
-ghost use Rattle.round_engine.specs.Units.{annotations_of, is_written, is_present, unit_names};
+ghost use Rattle.std.specs.Prelude.{◌≡◌, ◌<◌, ◌^◌, length, map, IfOk, OnOk};
+ghost use Rattle.round_engine.specs.Names.{with_names};
+ghost use Rattle.round_engine.specs.Units.{annotations_of, annotation_name, names_at, present_names, is_among, unit_names};
 
+use crate::names::Names;
 use apt_base::{List, Name, NoMemory};
-use decl_tree::{AnnotationText, Body, Unit};
+use decl_tree::{AnnotationText, Body};
 use element_table::{Part, Table};
 use std::alloc::Global;
 
@@ -18,30 +18,50 @@ fn annotations_of(body: &Body) -> &[AnnotationText]
     }
 }
 
-fn is_written(name: &[u8], unit: &Unit) -> bool
-    ensures { result ≡ is_written name.now unit.now }
+fn add_annotations(names: &mut Names, annotations: &[AnnotationText]) -> Result<(), NoMemory>
+    ensures { OnOk result (names.new ≡ with_names names.old (map annotation_name annotations.now)) }
 {
-    annotations_of(&unit.text().body)
-        .iter()
-        .any(|annotation| annotation.name.as_str().as_bytes() == name)
+    for annotation in annotations {
+        names.insert(annotation.name.as_str())?;
+    }
+    Ok(())
 }
 
-// Whether an annotation of this name is written on the unit with that name.
-fn is_written_at(table: &Table, root: &Name, name: &[u8]) -> bool
-    ensures { result ≡ option_map_or (is_written name.now) (unit_of table.now root.now) false }
+// Adds the names of the annotations that are written on the unit with this name.
+fn add_names_at(names: &mut Names, table: &Table, root: &Name) -> Result<(), NoMemory>
+    ensures { OnOk result (names.new ≡ with_names names.old (names_at table.now root.now)) }
 {
     match table.find(root) {
-        None => false,
-        Some(unit) => is_written(name, unit),
+        None => Ok(()),
+        Some(unit) => add_annotations(names, annotations_of(&unit.text().body)),
     }
 }
 
-/// Whether an annotation of this name is written on one of the units with these names. It takes the time of a look-up for
-/// each of them.
-pub fn is_present(table: &Table, roots: &[Name], name: &[u8]) -> bool
-    ensures { result ≡ is_present table.now roots.now name.now }
+/// The names of the annotations that are present on the units with these names, each once and ascending (JSR 269, the
+/// discovery process). It takes the time of a look-up for each unit, and logarithmic time for each annotation. No memory
+/// holds 2^32 names, so that these too are answered with `NoMemory`.
+pub fn present_names(alloc: Global, table: &Table, roots: &[Name]) -> Result<List<Name>, NoMemory>
+    ensures names { IfOk result (λ names. names ≡ present_names table.now roots.now) }
+    ensures few { IfOk result (λ names. length names < 2 ^ 32) }
 {
-    roots.iter().any(|root| is_written_at(table, root, name))
+    let mut names = Names::new(alloc);
+    for root in roots {
+        add_names_at(&mut names, table, root)?;
+    }
+    let names = names.list()?;
+    if u32::try_from(names.len()).is_err() {
+        return Err(NoMemory);
+    }
+    Ok(names)
+}
+
+/// Whether a name is among these.
+pub fn is_among(present: &[Name], name: &[u8]) -> bool
+    ensures { result ≡ is_among present.now name.now }
+{
+    present
+        .iter()
+        .any(|other| other.as_str().as_bytes() == name)
 }
 
 /// The names of all units of a table, those of its sources first.

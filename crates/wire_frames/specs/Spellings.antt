@@ -1,5 +1,5 @@
 -- The spellings of what fields are made of, by the forms of the table.
-use Rattle.std.specs.Prelude.{ℕ, Bool, List, [], ◌∷◌, ◌++◌, length}
+use Rattle.std.specs.Prelude.{ℕ, Bool, List, [], ◌∷◌, ◌++◌, length, Result}
 use Rattle.std.specs.List.{flat_map}
 use Rattle.std.specs.Int.{w16, w32, to_be_bytes}
 use Rattle.apt_base.specs.Fields.{bytes_form}
@@ -19,6 +19,8 @@ use Rattle.frame_forms.specs.Forms.{mirror_part, value_part, spelled_with, opt_s
 use Rattle.frame_forms.specs.MirrorForms.{element, named_value, annotation, bool_number}
 use Rattle.frame_forms.specs.FrameTable.{frame_form, Fields}
 use Rattle.frame_forms.specs.Frames.{part_spelling, spelled}
+use Rattle.wire_frames.specs.declared.output.Output.{Output}
+use Rattle.wire_frames.specs.Outputs.{Adds}
 
 -- the tag and the fields of a frame
 unfoldable pub fields_spelled : Fields → List ℕ
@@ -97,7 +99,12 @@ file_spelled name content origins = bytes_form name ++ (bytes_form content ++ li
 
 -- a resource that is created
 abbrev pub resource_spelled : ℕ → List ℕ → List ℕ → List ℕ → List ElementRef → List ℕ
-resource_spelled location folder relative content origins = fields_spelled (67, (location, (folder, (relative, (content, origins)))))
+resource_spelled location folder path content origins = fields_spelled (67, (location, (folder, (path, (content, origins)))))
+
+-- where a call went well, such a resource was added
+abbrev pub AddsResource : {T E : Type 0} → Result T E → Output → Output → ℕ → List ℕ → List ℕ → List ℕ → List ElementRef → Type 0
+AddsResource result old new location folder path content origins =
+    Adds result old new (resource_spelled location folder path content origins)
 
 -- ---- what questions hold
 

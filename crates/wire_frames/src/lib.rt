@@ -4,9 +4,8 @@
 //! resource or a class file, messages, and questions.
 //!
 //! `specs/Frames.antt` says what each frame is in the table of all frames (`frame_forms`), which has its one
-//! spelling. `encode` writes exactly that. `specs/Readings.antt` has what stands next at the front of bytes, and
-//! which frames of a child today's rounds have: no originating elements, no message at an element and no questions
-//! yet. What is read of a child is what the table says of the same bytes.
+//! spelling. `encode` writes exactly that. `specs/Readings.antt` has what stands next at the front of bytes. What is
+//! read of a child is what the table says of the same bytes.
 //!
 //! Not promised: that a name which a child sends is one of the language, or that an element is there.
 #![tactic(auto)]
@@ -24,9 +23,6 @@ mod writing;
 
 pub use frame::{Creation, Frame, Hello, Init, Message, copy_options};
 pub use question::Question;
-pub use reading::{
-    frame_length, read_below, read_child_fields, read_child_frame, read_element, read_elements,
-    read_step,
-};
+pub use reading::{read_below, read_child_fields, read_element, read_elements, read_step};
 pub use reply::{Created, Info, Refused, Reply};
 pub use writing::{FrameFault, MAX_FRAME, encode};

@@ -1,16 +1,14 @@
 // Reads the frames of a child.
-ghost use Rattle.std.specs.Prelude.{◌≡◌, IfOk, IfSome, Some};
+ghost use Rattle.std.specs.Prelude.{◌≡◌, IfOk};
 ghost use Rattle.std.specs.List.{list_all};
 ghost use Rattle.apt_base.specs.Fields.{u16_next, bytes_next};
 ghost use Rattle.apt_base.specs.Forms.{mapped, opt_next, list_next};
 ghost use Rattle.apt_base.specs.Identifiers.{is_pattern};
-ghost use Rattle.apt_base.specs.Readings.{Gives, GivesAll};
-ghost use Rattle.wire_frames.specs.Frames.{AreFieldsOf};
-ghost use Rattle.wire_frames.specs.Readings.{is_of_today, has_no_origins, IsOfToday, IsTodays, Finds, child_frame, length_of, are_distinct, distinct_next, patterns_next, below_next, claim_next, element_next, hello_next, done_next, file_next, source_of, class_of, resource_next, message_next, fields_next};
+ghost use Rattle.apt_base.specs.Readings.{Gives};
+ghost use Rattle.wire_frames.specs.Readings.{are_distinct, distinct_next, patterns_next, below_next, claim_next, element_next, hello_next, done_next, file_next, source_of, class_of, resource_next, message_next, fields_next};
 
 use crate::frame::{Creation, Frame, Hello, Message};
 use crate::tags;
-use crate::writing::MAX_FRAME;
 use apt_base::{
     Claim, ElementRef, FieldReader, FormFault, List, Name, NoMemory, is_pattern, read_byte,
     read_count, read_text, read_texts, read_truth,
@@ -269,83 +267,4 @@ pub fn read_child_fields(
         tags::MESSAGE => message(alloc, reader),
         _ => Err(FormFault::Bad),
     }
-}
-
-#[tactic(auto, unfolding(crate::specs::Readings::child_frame))]
-fn frame_of(alloc: Global, bytes: &[u8]) -> Result<Frame, FormFault>
-    ensures { GivesAll result (child_frame bytes.now) }
-{
-    let mut reader = FieldReader::new(bytes);
-    let tag = read_byte(&mut reader)?;
-    let frame = read_child_fields(alloc, tag, &mut reader)?;
-    if reader.left() > 0 || !is_of_today(&frame) {
-        return Err(FormFault::Bad);
-    }
-    Ok(frame)
-}
-
-// Today's rounds have no originating elements, no messages at an element, and no questions.
-fn is_of_today(frame: &Frame) -> bool
-    ensures { result ≡ is_of_today frame.now }
-{
-    match frame {
-        Frame::Hello(_) => true,
-        Frame::Done { .. } => true,
-        Frame::Create(creation) => has_no_origins(creation),
-        Frame::Message(message) => message.element.is_none(),
-        _ => false,
-    }
-}
-
-fn has_no_origins(creation: &Creation) -> bool
-    ensures { result ≡ has_no_origins creation.now }
-{
-    match creation {
-        Creation::Source { origins, .. } => origins.is_empty(),
-        Creation::Resource { origins, .. } => origins.is_empty(),
-        Creation::Class { origins, .. } => origins.is_empty(),
-    }
-}
-
-/// The length that the four bytes at the front of a frame spell, or None where a frame can't have
-/// it, and where they aren't four.
-#[tactic(auto, unfolding(crate::specs::Readings::length_of))]
-pub fn frame_length(head: &[u8]) -> Option<u32>
-    ensures { result ≡ length_of head.now }
-{
-    if head.len() != 4 {
-        return None;
-    }
-    let count = u32::from_be_bytes([head[0], head[1], head[2], head[3]]);
-    if count == 0 || count as usize > MAX_FRAME - 4 {
-        None
-    } else {
-        Some(count)
-    }
-}
-
-fn child_frame(alloc: Global, bytes: &[u8]) -> Result<Option<Frame>, NoMemory>
-    ensures { IfOk result (λ found. found ≡ child_frame bytes.now) }
-{
-    match frame_of(alloc, bytes) {
-        Ok(frame) => Ok(Some(frame)),
-        Err(FormFault::Bad) => Ok(None),
-        Err(FormFault::Memory) => Err(NoMemory),
-    }
-}
-
-/// The child's frame whose tag and fields are these bytes, all of them: `Hello`, `Done`, `Create` or
-/// `Message`.
-///
-/// None comes where they are no such frame by the table of all frames, and where today's rounds have no such
-/// frame: a creation with originating elements, a message at an element, a question. The only error is
-/// `NoMemory`.
-pub fn read_child_frame(alloc: Global, bytes: &[u8]) -> Result<Option<Frame>, NoMemory>
-    ensures exact { IfOk result (λ found. found ≡ child_frame bytes.now) }
-    // What is read is a frame of the table, spelled so, and today's rounds have it.
-    ensures found { IfOk result (λ found. IfSome found (IsTodays bytes.now)) }
-    // Each frame of the table that is spelled so and that today's rounds have is read.
-    ensures only { (frame : Frame) → IsOfToday frame → AreFieldsOf bytes.now frame → Finds result frame }
-{
-    child_frame(alloc, bytes)
 }

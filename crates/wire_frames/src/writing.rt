@@ -7,7 +7,7 @@ ghost use Rattle.frame_forms.specs.MirrorForms.{bool_number};
 ghost use Rattle.frame_forms.specs.FrameTable.{claim_number};
 ghost use Rattle.wire_frames.specs.Frames.{shown, init_shown, reply_shown, info_shown, hello_shown, creation_shown, message_shown, created_number, refused_number, spelling, IsInTable, AreBytesOf};
 ghost use Rattle.wire_frames.specs.Outputs.{Adds, added, counted};
-ghost use Rattle.wire_frames.specs.Spellings.{list_spelled, fields_spelled, element_spelled, option_spelled, value_with_name_spelled, heading_spelled, texts_spelled, round_spelled, values_with_names_spelled, file_spelled, resource_spelled};
+ghost use Rattle.wire_frames.specs.Spellings.{list_spelled, fields_spelled, element_spelled, option_spelled, value_with_name_spelled, heading_spelled, texts_spelled, round_spelled, values_with_names_spelled, file_spelled, AddsResource};
 ghost use Rattle.wire_frames.specs.declared.writing.FrameFault.TheVariants as faults;
 
 use crate::form_writing::{
@@ -255,16 +255,16 @@ fn put_resource(
     output: &mut Output,
     location: u8,
     folder: &Name,
-    relative: &Name,
+    path: &Name,
     content: &List<u8>,
     origins: &List<ElementRef>,
 ) -> Result<(), NoMemory>
-    ensures { Adds result output.old output.new (resource_spelled location folder.now relative.now content.now origins.now) }
+    ensures { AddsResource result output.old output.new location folder.now path.now content.now origins.now }
 {
     output.u8(tags::RESOURCE)?;
     output.u8(location)?;
     output.text(folder)?;
-    output.text(relative)?;
+    output.text(path)?;
     output.bytes(content.as_slice())?;
     put_elements(output, origins.as_slice())
 }

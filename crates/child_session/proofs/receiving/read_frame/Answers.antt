@@ -1,28 +1,33 @@
-use Rattle.std.proofs.Common.{◌≡◌, None, Some, sym, ap, ◌∙◌, length}
-use Rattle.wire_frames.specs.Readings.{length_of, child_frame}
-use Rattle.child_session.proofs.Taking.{no_length, bad_length, cut_frame, whole_frame}
+use Rattle.std.proofs.Common.{refl, ap, ◌∙◌, arith}
+use Rattle.std.proofs.lemmas.List.{length-take}
+use Rattle.frame_reader.specs.Stages.{found_in}
+use Rattle.frame_reader.proofs.Wanted.{wants_some}
+use Rattle.frame_stream.proofs.StreamsLemmas.{none_begun}
+use Rattle.child_session.proofs.Taking.{changes_self, attends_then, takes_nothing, more_then, found_then}
 use Rattle.child_session.proofs.receiving.read_frame.Goals as goal
 
-pub returns-in_default-clause-taken : goal.returns-in_default-clause-taken
-returns-in_default-clause-taken g c = λ told. no_length _ _ _ (rw c.in_default.is at (c.in_ok-head.ensures.taken told))
+pub loop-reader-init : goal.loop-reader-init
+loop-reader-init g c = record {
+  later = omega arith;
+  starts = refl;
+  live = refl;
+  begun = ap found_in c.new-reader.ensures ∙ none_begun;
+  attends = λ told. record { same_says = refl; same_tried = refl; change = changes_self c.args.child _ };
+  taken = λ told. takes_nothing c.args.child _ c.new-reader.result c.new-reader.ensures;
+}
 
-pub returns-in_default-frame_length-clause-taken :
-    goal.returns-in_default-frame_length-clause-taken
-returns-in_default-frame_length-clause-taken g c = λ told.
-    let head = rw c.in-Some.is at (c.in_ok-head.ensures.taken told) in
-    let none : length_of c.in-Some.head.items ≡ None = ap length_of (sym c.deref.ensures.value) ∙ sym c.frame_length.ensures ∙ c.in_default-frame_length.is in
-    bad_length _ _ _ c.in-Some.head.items head.0 none head.1
+pub receive_more-requires-clause-room : goal.receive_more-requires-clause-room
+receive_more-requires-clause-room g c = omega (arith, wants_some c.loop-reader.reader c.loop-reader.invariant.begun, c.wanted.ensures, length-take c.min-wanted.result c.loop-reader.room)
 
-pub returns-in_default-2-clause-taken : goal.returns-in_default-2-clause-taken
-returns-in_default-2-clause-taken g c = λ told.
-    let head = rw c.in-Some.is at (c.in_ok-head.ensures.taken told) in
-    let some : length_of c.in-Some.head.items ≡ Some c.in-Some-frame_length.length = ap length_of (sym c.deref.ensures.value) ∙ sym c.frame_length.ensures ∙ c.in-Some-frame_length.is in
-    cut_frame _ _ _ _ c.in-Some.head.items c.in-Some-frame_length.length head.0 some head.1 (rw c.in_default-2.is at (c.in_ok-bytes.ensures.taken told))
+pub loop-reader-preserved : goal.loop-reader-preserved
+loop-reader-preserved g c = record {
+  later = omega (arith, c.loop-reader.invariant.later, c.receive_more.ensures.cause.later);
+  starts = c.receive_more.ensures.starts ∙ c.loop-reader.invariant.starts;
+  live = c.receive_more.ensures.live ∙ c.loop-reader.invariant.live;
+  begun = (rw c.in-Begun.is at c.in_ok-receive_more.ensures.longer).0;
+  attends = λ told. attends_then _ _ _ _ (c.loop-reader.invariant.attends told) (c.receive_more.ensures.attends told);
+  taken = λ told. more_then _ _ _ _ _ _ (c.loop-reader.invariant.taken told) (rw c.in-Begun.is at (c.in_ok-receive_more.ensures.taken told));
+}
 
-pub returns-in-Ok-clause-taken : goal.returns-in-Ok-clause-taken
-returns-in-Ok-clause-taken g c = λ told.
-    let head = rw c.in-Some.is at (c.in_ok-head.ensures.taken told) in
-    let some : length_of c.in-Some.head.items ≡ Some c.in-Some-frame_length.length = ap length_of (sym c.deref.ensures.value) ∙ sym c.frame_length.ensures ∙ c.in-Some-frame_length.is in
-    let body = rw c.in-Some-2.is at (c.in_ok-bytes.ensures.taken told) in
-    let read : c.in-Ok.found ≡ child_frame c.in-Some-2.bytes.items = c.in-Ok.ensures.exact ∙ ap child_frame c.deref-2.ensures.value in
-    whole_frame _ _ _ _ c.in-Some.head.items c.in-Some-2.bytes.items c.in-Some-frame_length.length c.in-Ok.found head.0 some body.0 read head.1 body.1
+pub returns-in-Over-clause-taken : goal.returns-in-Over-clause-taken
+returns-in-Over-clause-taken g c = λ told. found_then _ _ _ _ _ _ (c.loop-reader.invariant.taken told) (rw c.in-Over.is at (c.in_ok-receive_more.ensures.taken told))

@@ -1,7 +1,7 @@
 use Rattle.std.proofs.Common.{◌≡◌, ◌-◌, ◌≤◌}
 use Rattle.apt_outside.specs.Count.{Told}
 use Rattle.apt_outside.specs.Child.{Attends}
-use Rattle.child_session.specs.Round.{showing_of, GoesOn}
+use Rattle.child_session.specs.Round.{GoesOn}
 use Rattle.child_session.proofs.round.show_round.Given as goal
 
 -- the round goes on with the answers that are left
@@ -13,5 +13,5 @@ invariant-loop-count g l =
       starts : (C.state l.children).starts ≡ (C.state l.fn.children).starts;
       live : (C.state l.children).live ≡ (C.state l.fn.children).live;
       attends : Told C.tells (Attends l.child (C.state l.fn.children) (C.state l.children));
-      goes : Told C.tells (GoesOn l.child (showing_of l.limit l.fn.round) (C.state l.fn.children) (C.state l.children) l.fn.filer l.filer l.printed (l.limit - l.count) l.answer);
+      goes : Told C.tells (GoesOn l.child l.fn.showing (C.state l.fn.children) (C.state l.children) l.fn.filer l.filer l.messages (l.limit - l.count) l.answer);
     }

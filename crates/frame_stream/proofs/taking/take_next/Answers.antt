@@ -11,7 +11,7 @@ pub returns-in-Bad : goal.returns-in-Bad
 returns-in-Bad c = turns_bad c.args.scanner.now c.take.new.self c.args.byte c.in-Bad.place c.in-Bad.kind c.found.result c.in-Ok.ensures.ok c.found.ensures.found c.in-Bad.is
 
 pub returns-in-Ok-give : goal.returns-in-Ok-give
-returns-in-Ok-give c = given c.args.scanner.now c.take.new.self c.give.new.scanner c.args.byte c.in-Ok-give.frame c.in-Ok.ensures.ok c.in-Ok-give.ensures.frame c.in-Ok-give.ensures.ok
+returns-in-Ok-give c = given c.args.scanner.now c.take.new.self c.give.new.scanner c.args.byte c.in-Ok-give.frame c.in-Ok.ensures.ok c.in-Ok-give.ensures.frame c.in-Ok-give.ensures.stands c.in-Ok-give.ensures.ok
 
 pub returns-in-Err-give : goal.returns-in-Err-give
 returns-in-Err-give c = not_given c.args.scanner.now c.take.new.self c.give.new.scanner c.args.byte c.requires.begun c.in-Ok.ensures.ok c.in-Whole.ensures.frame c.in-Err-give.ensures.err

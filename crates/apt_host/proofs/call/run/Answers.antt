@@ -1,0 +1,29 @@
+use Rattle.std.proofs.Common.{◌≤◌, ℕ, arith}
+use Rattle.std.proofs.lemmas.Grind.{common_steps}
+use Rattle.apt_outside.specs.Count.{Rose}
+use Rattle.apt_host.specs.Shown.{asked}
+use Rattle.apt_host.specs.Verdicts.{verdict}
+use Rattle.apt_host.proofs.Writing.{written_all}
+use Rattle.apt_host.proofs.call.run.Goals as goal
+
+-- a count that rose in a part of the call rose in the whole
+rose_before : (old mid new : ℕ) → mid ≤ new → Rose old mid → Rose old new
+rose_before old mid new later rose = grind (arith, common_steps)
+
+rose_behind : (old mid new : ℕ) → old ≤ mid → Rose mid new → Rose old new
+rose_behind old mid new later rose = grind (arith, common_steps)
+
+pub returns-clause-written : goal.returns-clause-written
+returns-clause-written g c = λ told.
+    let T = g.T.Tree in
+    let C = g.C.Children in
+    let W = g.W.Sink in
+    let old = W.faults c.args.output.now in
+    let mid = W.faults c.work-status.new.output in
+    let new = W.faults c.finish.new.output in
+    written_all T.tells C.tells (asked c.args.words.now) (C.state c.args.children.now).says (T.files c.args.tree.now) (T.files c.work-status.new.tree)
+    (verdict c.work-status.result) (verdict c.finish.result) (Rose old mid) (Rose mid new) (Rose old new)
+    (W.written c.args.output.now) (W.written c.work-status.new.output) (W.written c.finish.new.output)
+    c.finish.ensures.status (rose_before old mid new c.finish.ensures.later) (rose_behind old mid new c.work-status.ensures.sink_cause.later)
+    (λ fails. rose_before old mid new c.finish.ensures.later (c.work-status.ensures.sink_cause.rose fails))
+    (c.work-status.ensures.written told) (c.finish.ensures.line told)

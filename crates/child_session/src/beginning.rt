@@ -1,0 +1,57 @@
+// Begins a session.
+ghost use Rattle.std.specs.Prelude.{◌≡◌};
+ghost use Rattle.apt_outside.specs.Count.{Told};
+ghost use Rattle.apt_outside.specs.Child.{call};
+ghost use Rattle.child_session.specs.Faults.{HasReason};
+ghost use Rattle.child_session.specs.Beginning.{StartsOne, Joins, RefusesHello, hello_in};
+ghost use Rattle.child_session.specs.Moments.{Begins};
+
+use crate::SessionFault;
+use crate::receiving::exchange;
+use apt_base::Name;
+use apt_outside::Children;
+use std::alloc::Global;
+use wire_frames::{Frame, Hello};
+
+// The Hello that an answer is, if it is one.
+fn hello_in(answer: Option<Frame>) -> Option<Hello>
+    ensures { result ≡ hello_in answer }
+{
+    match answer {
+        Some(Frame::Hello(hello)) => Some(hello),
+        _ => None,
+    }
+}
+
+/// Starts a child, sends it the first frame, and gives its number and its Hello.
+///
+/// `Unbuilt` comes exactly where its answer is no Hello. Where it is refused after the child was started, the child was
+/// stopped.
+pub fn begin<C: Children>(
+    alloc: Global,
+    children: &mut C,
+    name: &Name,
+    command: &[String],
+    init: &[u8],
+) -> Result<(u32, Hello), SessionFault>
+    ensures reason { HasReason (C.faults children.old) (C.faults children.new) result }
+    ensures refused { RefusesHello result }
+    ensures starts { StartsOne (C.state children.old).starts (C.state children.new).starts result }
+    ensures live { Joins (C.state children.old).live (C.state children.new).live result }
+    ensures says { Told C.tells ((C.state children.new).says ≡ (C.state children.old).says) }
+    ensures begins { Begins C.Children (call name.now command.now) init.now children.old children.new result }
+{
+    let child = children.start(name.as_str(), command)?;
+    let answer = match exchange(alloc, children, child, init) {
+        Ok(answer) => answer,
+        Err(fault) => {
+            children.stop(child);
+            return Err(SessionFault::from(fault));
+        }
+    };
+    let Some(hello) = hello_in(answer) else {
+        children.stop(child);
+        return Err(SessionFault::Unbuilt);
+    };
+    Ok((child, hello))
+}
