@@ -47,9 +47,6 @@ free-is m free room ts = nest-is room m ts ∙ ap (λ (c : Bool). enter_if m c r
 
 -- ---- rows of parts with commas between them, and maybe one behind the last
 
-abbrev pub comma_row : {A : Type 0} → Form A → Form (List A) → Form (List A)
-comma_row f rest = behind (sign 7) (turn list_or_none (maybe (turn one_and_rest (pair f (maybe rest)))))
-
 abbrev pub comma : List ℕ
 comma = operator 7 ∷ []
 

@@ -170,9 +170,6 @@ base_type = either (turn base.Primitive primitive_type) (turn base.Named class_t
 abbrev pub type_in : Shape → TypeText
 type_in x = type_of x.0 x.1
 
-unfoldable pub type_form : Form TypeText
-type_form = turn type_in (pair base_type (many dim))
-
 -- ClassType { [ ] }
 unfoldable pub class_array : Form Shape
 class_array = pair (turn base.Named class_type) (many dim)

@@ -137,15 +137,6 @@ impl Unit {
         &self.text
     }
 
-    /// Its text, out of the unit. It takes no memory.
-    pub fn into_text(self) -> UnitText
-        ensures value { result ≡ self }
-        ensures legal { is_legal result ≡ true }
-    {
-        let Unit { text } = self;
-        text
-    }
-
     /// An equal unit.
     pub fn copy(&self, alloc: Global) -> Result<Unit, NoMemory>
         ensures { IfOk result (λ unit. unit ≡ self.now) }

@@ -49,15 +49,6 @@ behind-then room {S} {A} {B} g s f k one ts = go (reads room g ts)
     go (fault at) = refl
     go (deep at) = refl
 
--- the same symbols with two meanings
-turn-then : (room : ℕ) {S A B : Type 0} (f : Form B) (g : B → S) (h : B → A) (k : S → List Symbol → Outcome A) → ((x : B) (rest : List Symbol) → k (g x) rest ≡ done (h x) rest) → Then room (turn g f) k (turn h f)
-turn-then room {S} {A} {B} f g h k same ts = go (reads room f ts)
-  where
-    go : (o : Outcome B) → turned h o ≡ (turned g o >>= k)
-    go (done x rest) = sym (same x rest)
-    go (fault at) = refl
-    go (deep at) = refl
-
 -- a form behind another, where this reads the second one
 last-then : (room : ℕ) {S A B : Type 0} (m : Form B) (s : B → S) (f : Form A) (k : S → List Symbol → Outcome A) → ((x : B) (rest : List Symbol) → k (s x) rest ≡ reads room f rest) → Then room (turn s m) k (behind m f)
 last-then room {S} {A} {B} m s f k same ts = go (reads room m ts)

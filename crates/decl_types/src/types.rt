@@ -4,7 +4,7 @@ ghost use Rattle.decl_grammar.specs.Reading.{Gives, has, starts, one_at};
 ghost use Rattle.decl_grammar.specs.Form.{ats, many, maybe, nest, pair, type_arguments, turned, with_front};
 ghost use Rattle.decl_types.specs.Members.{arguments_behind};
 ghost use Rattle.decl_grammar.specs.Rows.{read_as, row_behind};
-ghost use Rattle.decl_grammar.specs.Types.{list_or_none, annotation, annotations, modifier_annotation, primitive_sorts, primitive_type, named_part, next_part, class_type, dim, base_type, type_form, reference, wildcard_bound, type_argument, next_argument, arguments_form, annotated_class, annotated_reference, class_array, primitive_array, wildcard, bounded_text, type_in, kind_of_word};
+ghost use Rattle.decl_grammar.specs.Types.{list_or_none, annotation, annotations, modifier_annotation, primitive_sorts, primitive_type, named_part, next_part, class_type, dim, base_type, reference, wildcard_bound, type_argument, next_argument, arguments_form, annotated_class, annotated_reference, class_array, primitive_array, wildcard, bounded_text, type_in, kind_of_word};
 ghost use Rattle.decl_grammar.specs.Rule.{reads, read_nest};
 ghost use Rattle.decl_grammar.specs.declared.fault.ReadFault.TheVariants as faults;
 
@@ -433,21 +433,6 @@ pub fn type_arguments_of<'a, 's>(
         return arguments_in(alloc, room - 1, symbols);
     }
     Err(shut(is_next(symbols, 75), symbols))
-}
-
-/// A type (JLS 8.3).
-#[tactic(auto, unfolding(decl_grammar::specs::Types::type_form))]
-pub fn type_of<'a, 's>(
-    alloc: Global,
-    room: usize,
-    symbols: &'s [Symbol<'a>],
-) -> Result<(TypeText, &'s [Symbol<'a>]), ReadFault>
-    ensures { Gives (λ x. (x.0, x.1.now)) result (reads room type_form symbols.now) }
-{
-    let (base, rest) = base_type_of(alloc, room, symbols)?;
-    let (dims, rest) = dims_of(alloc, room, rest)?;
-    let around = List::from_vec(dims);
-    Ok((TypeText { around, base }, rest))
 }
 
 /// Annotations, which are passed over, and a class type.

@@ -128,16 +128,6 @@ fn read_bracket<'a, 's>(
     }
 }
 
-// Whether an expression may go on here, brackets aside.
-fn starts_later(symbols: &[Symbol<'_>]) -> bool
-    ensures { result ≡ starts later_sorts symbols.now }
-{
-    match symbols {
-        [] => false,
-        [symbol, ..] => goes_on(symbol.sort),
-    }
-}
-
 // What is behind the first item of an expression.
 #[tactic(auto, unfolding(decl_grammar::specs::Reading::one_at, decl_grammar::specs::Expressions::first_item))]
 fn first_item_of<'a, 's>(

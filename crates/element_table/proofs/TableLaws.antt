@@ -4,7 +4,6 @@ use Rattle.std.specs.List.{sum_by}
 use Rattle.std.specs.Option.{option_or}
 use Rattle.std.specs.Ordering.{nat_cmp, is_eq, eq_by_cmp}
 use Rattle.std.specs.declared.cmp.Ordering.TheVariants.{Less, Equal, Greater}
-use Rattle.std.specs.Str.{bytes_eq}
 use Rattle.std.specs.Cmp.Lexicographic.{slice_cmp, nat_list_cmp_total}
 use Rattle.std.specs.FinMap as fin
 use Rattle.std.specs.FinMap.{find, get-insert, entries-insert, get-entries}
@@ -39,10 +38,6 @@ chosen P false x y here there = there
 at_insert : (P : Option UnitText → Type 0) (units : Units) (name : List ℕ) (unit : UnitText) (q : List ℕ) → (q ≡ name → P (Some unit)) → P (fin.get units q) → P (fin.get (fin.insert units name unit) q)
 at_insert P units name unit q here there =
     subst P (sym (get-insert nat_list_cmp_total units name unit q)) (chosen P (eq_by_cmp (slice_cmp nat_cmp) q name) (Some unit) (fin.get units q) (λ e. here (same_name q name e)) there)
-
--- a unit more, by a test of names
-get-more : (units : Units) (name : List ℕ) (unit : UnitText) (q : List ℕ) → fin.get (fin.insert units name unit) q ≡ cond (bytes_eq q name) (Some unit) (fin.get units q)
-get-more units name unit q = get-insert nat_list_cmp_total units name unit q ∙ ap (λ b. cond b (Some unit) (fin.get units q)) (is_eq-slice_cmp q name)
 
 none : {A : Type 0} (o : Option A) → is_some o ≡ false → o ≡ None
 none None e = refl

@@ -21,7 +21,7 @@ entry_form file = text_form file.path ++ to_be_bytes w32 file.store ++ to_be_byt
 unfoldable pub record_form : List StoredFile → List ℕ
 record_form files = record_head ++ to_be_bytes w32 (length files) ++ flat_map entry_form files
 
--- what has room in its fields: fewer than 2^32 files, each with a path of fewer than 2^32 bytes
+-- what fits its fields: fewer than 2^32 files, each with a path of fewer than 2^32 bytes
 pub record Fits (files : List StoredFile) : Type 0 where
   pub count : length files < 2 ^ 32
   pub paths : All (λ file. length file.path < 2 ^ 32) files
@@ -59,7 +59,7 @@ read_record bytes = do
 abbrev pub IsOnlySpelling : List StoredFile → List ℕ → Type 0
 IsOnlySpelling files bytes = (other : List ℕ) → ((i : ℕ) → slice_index other i < 256) → read_record other ≡ Some files → other ≡ bytes
 
--- an entry that is read again: it has room in its fields, and its path is a text in UTF-8
+-- an entry that is read again: it fits its fields, and its path is a text in UTF-8
 pub record IsEntry (file : StoredFile) : Type 0 where
   pub path : length file.path < 2 ^ 32
   pub text : is_text file.path ≡ true

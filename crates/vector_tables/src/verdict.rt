@@ -43,7 +43,7 @@ pub fn verdict_on(alloc: Global, bytes: &[u8]) -> Result<Option<Verdict>, AllocE
     Ok(Some(Verdict::Begun))
 }
 
-// What bytes are of which so many are this frame.
+// What bytes are, of which the first ones are this frame.
 fn frame_verdict(
     alloc: Global,
     frame: Frame,
