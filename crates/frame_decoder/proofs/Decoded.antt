@@ -34,7 +34,7 @@ found_whole (whole a behind) x rest e = ap (λ (y : _ × List ℕ). whole y.0 y.
 found_whole begun x rest e = absurd cc
 found_whole (bad more kind) x rest e = absurd cc
 
-decoded-stands : (bytes : List ℕ) (frame : Frame) → decoded bytes ≡ Some frame → scanned frame_form bytes ≡ whole (shown frame) []
+pub decoded-stands : (bytes : List ℕ) (frame : Frame) → decoded bytes ≡ Some frame → scanned frame_form bytes ≡ whole (shown frame) []
 unfolding decoded
 decoded-stands bytes frame e = found_whole (scanned frame_form bytes) (shown frame) [] (sym (frame-shown bytes) ∙ ap shown_of (alone_some (frame_next bytes) frame e))
 

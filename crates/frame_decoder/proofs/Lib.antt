@@ -4,3 +4,4 @@ pub mod PartsScanned
 pub mod Ascending
 pub mod TableRows
 pub mod Decoded
+pub mod ReadBack

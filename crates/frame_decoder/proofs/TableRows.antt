@@ -92,7 +92,7 @@ mirror_row : (tag : ℕ) (make : Mirror → Question) → at_tag about_mirrors t
     → shown_of (readers.mapped ask_of (about_next about_mirrors (mirror_next 256) tag) rest) ≡ found (scans.mapped fields (scanned mirror rest))
 mirror_row = about_row about_mirrors (mirror_next 256) (scanned mirror) (mirror-same 256)
 
-two_mirrors-same : Same two_mirrors_next (scanned (mirror then mirror))
+pub two_mirrors-same : Same two_mirrors_next (scanned (mirror then mirror))
 two_mirrors-same = pair-same (mirror_next 256) (scanned mirror) (mirror_next 256) (scanned mirror) (mirror-same 256) (mirror-same 256)
 
 two_mirrors_row : (tag : ℕ) (make : Mirror × Mirror → Question) → at_tag about_two_mirrors tag ≡ Some make → (fields : Mirror × Mirror → Fields) → ((a : Mirror × Mirror) → shown (ask_of (make a)) ≡ fields a) → (rest : List ℕ)
@@ -101,7 +101,7 @@ two_mirrors_row = about_row about_two_mirrors two_mirrors_next (scanned (mirror 
 
 -- ---- the host's rows
 
-init-same : Same init_next (λ bytes. scans.mapped init_of (scanned (text then u16 then ascending_by_key text) bytes))
+pub init-same : Same init_next (λ bytes. scans.mapped init_of (scanned (text then u16 then ascending_by_key text) bytes))
 unfolding init_next
 init-same =
     made-same init_of (text_next >> (u16_next >> options_next)) (scanned (text then u16 then ascending_by_key text))
@@ -110,7 +110,7 @@ init-same =
 ascending_twice-same : Same (ascending_next >> ascending_next) (scanned (ascending_texts then ascending_texts))
 ascending_twice-same = pair-same ascending_next (scanned ascending_texts) ascending_next (scanned ascending_texts) ascending-same ascending-same
 
-round-same : Same round_next (λ bytes. scans.mapped round_of (scanned (u32 then bool then bool then ascending_texts then ascending_texts) bytes))
+pub round-same : Same round_next (λ bytes. scans.mapped round_of (scanned (u32 then bool then bool then ascending_texts then ascending_texts) bytes))
 unfolding round_next
 round-same =
     made-same round_of (u32_next >> (bool_next >> (bool_next >> (ascending_next >> ascending_next)))) (scanned (u32 then bool then bool then ascending_texts then ascending_texts))
@@ -118,7 +118,7 @@ round-same =
     (pair-same bool_next (scanned bool) (bool_next >> (ascending_next >> ascending_next)) (scanned (bool then ascending_texts then ascending_texts)) bool_form-same
     (pair-same bool_next (scanned bool) (ascending_next >> ascending_next) (scanned (ascending_texts then ascending_texts)) bool_form-same ascending_twice-same)))
 
-info-same : Same info_next (λ bytes. scans.mapped info_of (scanned (u8_below 11 then u16 then text then text then bool) bytes))
+pub info-same : Same info_next (λ bytes. scans.mapped info_of (scanned (u8_below 11 then u16 then text then text then bool) bytes))
 unfolding info_next
 info-same =
     made-same info_of (below_next 11 >> (u16_next >> (text_next >> (text_next >> bool_next)))) (scanned (u8_below 11 then u16 then text then text then bool))
@@ -126,27 +126,27 @@ info-same =
     (pair-same u16_next (scanned u16) (text_next >> (text_next >> bool_next)) (scanned (text then text then bool)) u16-same
     (pair-same text_next (scanned text) (text_next >> bool_next) (scanned (text then bool)) text-same (pair-same text_next (scanned text) bool_next (scanned bool) text-same bool_form-same))))
 
-texts-same : Same (list_next text_next) (scanned (list_of text))
+pub texts-same : Same (list_next text_next) (scanned (list_of text))
 texts-same = list-same text_next (scanned text) text-same
 
-annotation_list-same : Same (list_next (annotation_next 256)) (scanned (list_of annotation))
+pub annotation_list-same : Same (list_next (annotation_next 256)) (scanned (list_of annotation))
 unfolding annotation_next
 annotation_list-same = list-same (annotation_next 256) (scanned annotation) one
   where
     one : Same (annotation_next 256) (scanned annotation)
     one = annotations-same 256
 
-values-same : Same (list_next (entry_next 256)) (scanned (list_of (text then value)))
+pub values-same : Same (list_next (entry_next 256)) (scanned (list_of (text then value)))
 unfolding entry_next
 values-same = list-same (entry_next 256) (scanned (text then value)) one
   where
     one : Same (entry_next 256) (scanned (text then value))
     one = pair-same text_next (scanned text) (value_next 256) (scanned value) text-same (value-same 256)
 
-mirrors-same : Same (list_next (mirror_next 256)) (scanned (list_of mirror))
+pub mirrors-same : Same (list_next (mirror_next 256)) (scanned (list_of mirror))
 mirrors-same = list-same (mirror_next 256) (scanned mirror) (mirror-same 256)
 
-nothing-same : Same nothing_next (λ bytes. whole tt bytes)
+pub nothing-same : Same nothing_next (λ bytes. whole tt bytes)
 nothing-same bytes = refl
 
 created_row : (rest : List ℕ) → shown_of (readers.mapped reply_of (readers.mapped created_of (numbered (slice_get all_created))) rest) ≡ found (scans.mapped {B = Fields} (λ v. (23, v)) (scanned (u8_below 5) rest))
@@ -168,7 +168,7 @@ refused_row (suc (suc zero) ∷ rest) = refl
 refused_row (suc (suc (suc zero)) ∷ rest) = refl
 refused_row (suc (suc (suc (suc n))) ∷ rest) = rw (le-ltb (suc (suc (suc (suc n)))) 4 (omega arith)) refl
 
-three_elements-same : Same (element_next >> (element_next >> element_next)) (scanned (element then element then element))
+pub three_elements-same : Same (element_next >> (element_next >> element_next)) (scanned (element then element then element))
 three_elements-same = pair-same element_next (scanned element) (element_next >> element_next) (scanned (element then element)) element-same (pair-same element_next (scanned element) element_next (scanned element) element-same element-same)
 
 -- ---- all rows

@@ -8,6 +8,7 @@ use Rattle.apt_base.specs.declared.element.ElementRef.{ElementRef}
 use Rattle.type_mirror.specs.declared.mirror.Mirror.{Mirror}
 use Rattle.type_mirror.specs.declared.value.Value.{Value}
 use Rattle.type_mirror.specs.declared.value.Annotation.{Annotation}
+use Rattle.frame_forms.specs.Frames.{most_nested}
 use Rattle.wire_frames.specs.declared.reply.Created.{Created}
 use Rattle.wire_frames.specs.declared.reply.Created.TheVariants as created
 use Rattle.wire_frames.specs.declared.reply.Refused.{Refused}
@@ -18,7 +19,6 @@ use Rattle.wire_frames.specs.declared.frame.Frame.{Frame}
 use Rattle.wire_frames.specs.declared.frame.Frame.TheVariants as frames
 use Rattle.wire_frames.specs.Readings.{below_next, element_next}
 use Rattle.frame_decoder.specs.PartReadings.{nothing_next, mirror_next, value_next, annotation_in}
-use Rattle.frame_decoder.specs.QuestionReadings.{most_nested}
 
 -- ---- lists that ascend
 

@@ -4,6 +4,7 @@ use Rattle.apt_base.specs.Fields.{◌>>=◌, u16_next, text_next}
 use Rattle.apt_base.specs.Forms.{Reader, ◌>>◌, mapped, list_next}
 use Rattle.apt_base.specs.declared.element.ElementRef.{ElementRef}
 use Rattle.type_mirror.specs.declared.mirror.Mirror.{Mirror}
+use Rattle.frame_forms.specs.Frames.{most_nested}
 use Rattle.wire_frames.specs.declared.question.Question.{Question}
 use Rattle.wire_frames.specs.declared.question.Question.TheVariants as questions
 use Rattle.wire_frames.specs.Readings.{element_next}
@@ -72,9 +73,6 @@ about_next questions thing tag bytes = do
   Some (question, a.1)
 
 -- ---- all questions
-
-abbrev pub most_nested : ℕ
-most_nested = 256
 
 abbrev pub two_mirrors_next : Reader (Mirror × Mirror)
 two_mirrors_next = mirror_next most_nested >> mirror_next most_nested

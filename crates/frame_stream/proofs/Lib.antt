@@ -1,2 +1,3 @@
 pub mod StreamsLemmas
 pub mod Pieces
+pub mod StreamLawsLemmas

@@ -1,5 +1,5 @@
 // Reads the frames of a stream.
-ghost use Rattle.std.specs.Prelude.{◌≡◌, ◌≤◌, [], length};
+ghost use Rattle.std.specs.Prelude.{◌≡◌, ◌≤◌, [], length, IfOk};
 ghost use Rattle.frame_reader.specs.Stages.{fed, wanted_in};
 ghost use Rattle.frame_stream.specs.Streams.{Comes, ComesOf};
 ghost use Rattle.frame_stream.specs.declared.reader.ReadFault.TheVariants as faults;
@@ -41,6 +41,31 @@ pub struct Progress {
     pub taken: usize,
     /// What the last one of them is answered, as by `Reader::feed`: None where all were taken and end no frame.
     pub answer: Result<Option<Frame>, ReadFault>,
+}
+
+fn copy_answer(
+    alloc: Global,
+    answer: &Result<Option<Frame>, ReadFault>,
+) -> Result<Result<Option<Frame>, ReadFault>, NoMemory>
+    ensures { IfOk result (λ copy. copy ≡ answer.now) }
+{
+    match answer {
+        Ok(None) => Ok(Ok(None)),
+        Ok(Some(frame)) => Ok(Ok(Some(frame.copy(alloc)?))),
+        Err(fault) => Ok(Err(*fault)),
+    }
+}
+
+impl Progress {
+    /// An equal progress. It fails only for want of memory.
+    pub fn copy(&self, alloc: Global) -> Result<Progress, NoMemory>
+        ensures { IfOk result (λ progress. progress ≡ self.now) }
+    {
+        Ok(Progress {
+            taken: self.taken,
+            answer: copy_answer(alloc, &self.answer)?,
+        })
+    }
 }
 
 /// Reads the frames of a stream. Contracts see it as the bytes since the last frame.

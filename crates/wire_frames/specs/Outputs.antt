@@ -1,5 +1,5 @@
 -- Where fields go: they are counted, or written.
-use Rattle.std.specs.Prelude.{◌≡◌, ℕ, ◌+◌, ◌-◌, ◌^◌, List, [], ◌++◌, length, min, Result, OnOk}
+use Rattle.std.specs.Prelude.{◌≡◌, ℕ, ◌+◌, ◌-◌, ◌^◌, Bool, true, false, List, [], ◌++◌, length, min, Result, MatchResult}
 use Rattle.wire_frames.specs.declared.output.Output.{Output}
 use Rattle.wire_frames.specs.declared.output.Output.TheVariants.{Counted, Written}
 
@@ -20,6 +20,11 @@ abbrev pub written_to : Output → List ℕ
 written_to (Counted size) = []
 written_to (Written written) = written
 
--- where a call went well, these bytes were added
+-- whether it writes
+unfoldable pub is_written : Output → Bool
+is_written (Counted size) = false
+is_written (Written written) = true
+
+-- A call that went well added these bytes. One that failed was to write: where bytes are counted, none fails.
 abbrev pub Adds : {T E : Type 0} → Result T E → Output → Output → List ℕ → Type 0
-Adds result old new bytes = OnOk result (new ≡ added old bytes)
+Adds result old new bytes = MatchResult result (λ _. new ≡ added old bytes) (λ _. is_written old ≡ true)

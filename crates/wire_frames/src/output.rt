@@ -3,14 +3,14 @@ ghost use Rattle.std.specs.Prelude.{◌≡◌, [], ◌∷◌, ◌++◌, OnOk};
 ghost use Rattle.std.specs.Int.{w16, w32, to_be_bytes};
 ghost use Rattle.apt_base.specs.Fields.{i64_form, bytes_form};
 ghost use Rattle.frame_forms.specs.MirrorForms.{bool_number};
-ghost use Rattle.wire_frames.specs.Outputs.{added, size_of, written_to};
+ghost use Rattle.wire_frames.specs.Outputs.{Adds, size_of, written_to};
 
 use apt_base::{FieldWriter, List, Name, NoMemory, write_count, write_text};
 use std::alloc::Global;
 
 /// Where fields go.
 ///
-/// Each method adds the spelling of a value. It fails only for want of memory.
+/// Each method adds the spelling of a value. It fails only for want of memory, and never where it counts.
 #[derive(Drop)]
 pub(crate) enum Output {
     /// They are counted, up to the largest `usize`.
@@ -21,9 +21,9 @@ pub(crate) enum Output {
 
 impl Output {
     /// A number of one byte.
-    #[tactic(auto, unfolding(crate::specs::Outputs::added))]
+    #[tactic(auto, unfolding(crate::specs::Outputs::added, crate::specs::Outputs::is_written))]
     pub(crate) fn u8(&mut self, value: u8) -> Result<(), NoMemory>
-        ensures { OnOk result (self.new ≡ added self.old (value ∷ [])) }
+        ensures { Adds result self.old self.new (value ∷ []) }
     {
         match self {
             Output::Counted(size) => {
@@ -35,9 +35,9 @@ impl Output {
     }
 
     /// A number of two bytes, its big end first.
-    #[tactic(auto, unfolding(crate::specs::Outputs::added))]
+    #[tactic(auto, unfolding(crate::specs::Outputs::added, crate::specs::Outputs::is_written))]
     pub(crate) fn u16(&mut self, value: u16) -> Result<(), NoMemory>
-        ensures { OnOk result (self.new ≡ added self.old (to_be_bytes w16 value)) }
+        ensures { Adds result self.old self.new (to_be_bytes w16 value) }
     {
         match self {
             Output::Counted(size) => {
@@ -49,9 +49,9 @@ impl Output {
     }
 
     /// A number of four bytes, its big end first.
-    #[tactic(auto, unfolding(crate::specs::Outputs::added))]
+    #[tactic(auto, unfolding(crate::specs::Outputs::added, crate::specs::Outputs::is_written))]
     pub(crate) fn u32(&mut self, value: u32) -> Result<(), NoMemory>
-        ensures { OnOk result (self.new ≡ added self.old (to_be_bytes w32 value)) }
+        ensures { Adds result self.old self.new (to_be_bytes w32 value) }
     {
         match self {
             Output::Counted(size) => {
@@ -63,9 +63,9 @@ impl Output {
     }
 
     /// A number of eight bytes in two's complement, its big end first.
-    #[tactic(auto, unfolding(crate::specs::Outputs::added))]
+    #[tactic(auto, unfolding(crate::specs::Outputs::added, crate::specs::Outputs::is_written))]
     pub(crate) fn i64(&mut self, value: i64) -> Result<(), NoMemory>
-        ensures { OnOk result (self.new ≡ added self.old (i64_form value)) }
+        ensures { Adds result self.old self.new (i64_form value) }
     {
         match self {
             Output::Counted(size) => {
@@ -78,15 +78,15 @@ impl Output {
 
     /// One byte, 0 for `false` and 1 for `true`.
     pub(crate) fn bool(&mut self, value: bool) -> Result<(), NoMemory>
-        ensures { OnOk result (self.new ≡ added self.old (bool_number value ∷ [])) }
+        ensures { Adds result self.old self.new (bool_number value ∷ []) }
     {
         if value { self.u8(1) } else { self.u8(0) }
     }
 
     /// The number of the items of a list, in four bytes.
-    #[tactic(auto, unfolding(crate::specs::Outputs::added, apt_base::specs::Forms::count_form))]
+    #[tactic(auto, unfolding(crate::specs::Outputs::added, crate::specs::Outputs::is_written, apt_base::specs::Forms::count_form))]
     pub(crate) fn count(&mut self, items: usize) -> Result<(), NoMemory>
-        ensures { OnOk result (self.new ≡ added self.old (to_be_bytes w32 items)) }
+        ensures { Adds result self.old self.new (to_be_bytes w32 items) }
     {
         match self {
             Output::Counted(size) => {
@@ -98,9 +98,9 @@ impl Output {
     }
 
     /// The number of the text's bytes in four bytes, and the text in UTF-8.
-    #[tactic(auto, unfolding(crate::specs::Outputs::added, apt_base::specs::Forms::name_form))]
+    #[tactic(auto, unfolding(crate::specs::Outputs::added, crate::specs::Outputs::is_written, apt_base::specs::Forms::name_form))]
     pub(crate) fn text(&mut self, name: &Name) -> Result<(), NoMemory>
-        ensures { OnOk result (self.new ≡ added self.old (bytes_form name.now)) }
+        ensures { Adds result self.old self.new (bytes_form name.now) }
     {
         match self {
             Output::Counted(size) => {
@@ -112,9 +112,9 @@ impl Output {
     }
 
     /// The number of the bytes in four bytes, and the bytes.
-    #[tactic(auto, unfolding(crate::specs::Outputs::added))]
+    #[tactic(auto, unfolding(crate::specs::Outputs::added, crate::specs::Outputs::is_written))]
     pub(crate) fn bytes(&mut self, bytes: &[u8]) -> Result<(), NoMemory>
-        ensures { OnOk result (self.new ≡ added self.old (bytes_form bytes.now)) }
+        ensures { Adds result self.old self.new (bytes_form bytes.now) }
     {
         match self {
             Output::Counted(size) => {

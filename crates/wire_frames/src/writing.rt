@@ -342,12 +342,15 @@ fn put_fields(output: &mut Output, frame: &Frame) -> Result<(), NoMemory>
 }
 
 // The number of bytes in a frame's tag and fields, or the largest `usize` where there are more.
-fn size_of(frame: &Frame) -> Result<usize, NoMemory>
-    ensures { IfOk result (λ size. size ≡ counted 0 (length (fields_spelled (shown frame.now)))) }
+fn size_of(frame: &Frame) -> usize
+    ensures { result ≡ counted 0 (length (fields_spelled (shown frame.now))) }
 {
     let mut output = Output::Counted(0);
-    put_fields(&mut output, frame)?;
-    Ok(output.size())
+    match put_fields(&mut output, frame) {
+        Ok(()) => output.size(),
+        // No count fails.
+        Err(_) => 0,
+    }
 }
 
 // The length, and the tag and the fields.
@@ -365,8 +368,9 @@ fn encoded(alloc: Global, frame: &Frame) -> Result<List<u8>, FrameFault>
     ensures spelled { IfOk result (λ bytes. bytes ≡ spelling frame.now) }
     ensures fits { OnOk result (length (spelling frame.now) ≤ MAX_FRAME) }
     ensures large { IsErrOf result faults.TooLarge → MAX_FRAME < length (spelling frame.now) }
+    ensures past { MAX_FRAME < length (spelling frame.now) → result ≡ Err faults.TooLarge }
 {
-    let size = size_of(frame)?;
+    let size = size_of(frame);
     if size > MAX_FRAME - 4 {
         return Err(FrameFault::TooLarge);
     }
@@ -376,14 +380,15 @@ fn encoded(alloc: Global, frame: &Frame) -> Result<List<u8>, FrameFault>
 /// The bytes of a frame: the length of its tag and fields in four bytes, the tag, and the fields in
 /// order.
 ///
-/// `TooLarge` comes exactly where these would be more than `MAX_FRAME`, and before any memory is taken;
-/// the other error is `Memory`. Every value of `Frame` has these bytes, also one that no frame is read as: a
+/// `TooLarge` comes exactly where these would be more than `MAX_FRAME`, and before any memory is taken, so
+/// that no such frame is answered `Memory`, the other error. Every value of `Frame` has these bytes, also one that no frame is read as: a
 /// number that is out of its range, a text that repeats where none may, or one that does not ascend, is
 /// spelled as it is, and of mirrors and values that are nested more than 256 deep the inner ones are left out.
 pub fn encode(alloc: Global, frame: &Frame) -> Result<List<u8>, FrameFault>
     ensures spelled { IfOk result (λ bytes. bytes ≡ spelling frame.now) }
     ensures fits { OnOk result (length (spelling frame.now) ≤ MAX_FRAME) }
     ensures large { IsErrOf result faults.TooLarge → MAX_FRAME < length (spelling frame.now) }
+    ensures past { MAX_FRAME < length (spelling frame.now) → result ≡ Err faults.TooLarge }
     // A frame that the table has is read back from these bytes, and no other one.
     ensures again { IsInTable frame.now → IfOk result (λ bytes. AreBytesOf bytes frame.now) }
 {
