@@ -1,11 +1,14 @@
 -- A frame is sent, and the answer is read.
-use Rattle.std.proofs.Common.{◌≡◌, ℕ, suc, ◌-◌, List, [], ◌∷◌, ◌++◌, length, Option, None, Some, option_map, Result, Ok, Err, IfOk, IfSome, IsSome, IsSomeAnd, refl, sym, ap, ◌∙◌, subst, length-append, arith}
+use Rattle.std.proofs.Common.{◌≡◌, ◌⊎◌, ℕ, suc, ◌-◌, List, [], ◌∷◌, ◌++◌, length, Option, None, Some, option_map, Result, Ok, Err, IfOk, IfSome, IsSome, IsSomeAnd, IsErrOf, inl, inr, refl, sym, ap, ◌∙◌, subst, length-append, arith}
 use Rattle.std.specs.Prelude.{option_and_then}
-use Rattle.apt_outside.specs.Child.{Says, Child, State, Changes, Sends, written_by}
+use Rattle.apt_outside.specs.Child.{Says, Child, State, Changes, Sends, AllKept, StaysSent, written_by}
+use Rattle.apt_outside.specs.declared.fault.Fault.{Fault}
+use Rattle.apt_outside.specs.declared.fault.Fault.TheVariants.{Failed, Memory}
 use Rattle.wire_frames.specs.declared.frame.Frame.{Frame}
 use Rattle.frame_stream.specs.Streams.{frame_at}
-use Rattle.child_session.specs.Talk.{Stream, rest_after, frame_behind, answer_to, HasAnswered, Exchanged, Exchanges, FindsFrame, TakesFrame}
+use Rattle.child_session.specs.Talk.{Stream, rest_after, frame_behind, answer_to, HasAnswered, Exchanged, Exchanges, FindsFrame, TakesFrame, SendsOnce}
 use Rattle.child_session.proofs.FramesInFront.{rest_after-append, rest_after-next}
+use Rattle.child_session.proofs.Taking.{through, kept_stays}
 
 -- where the frame before it is answered, what waits begins with the answer
 next_answer : (stream : Stream) (sent : List (List ℕ)) (frame : List ℕ) (waiting : List ℕ) → rest_after (length sent) (stream (sent ++ frame ∷ [])) ≡ Some waiting → answer_to stream (sent ++ frame ∷ []) ≡ option_map (λ x. x.0) (frame_at waiting)
@@ -84,6 +87,25 @@ module _ (child : ℕ) (k0 k1 k2 : State) (frame : List ℕ) (found : Option Fra
 
   pub exchanges : Changes child k0.known k1.known → Sends child frame k0 k1 → Changes child k1.known k2.known → TakesFrame child k1 k2 found → Exchanges child frame k0 k2 found
   exchanges change sends change' takes = record { exchanged = given _ (k0.known child) (λ a is before. at_child change sends change' takes a is before) }
+
+-- ---- what the child was sent
+
+module _ (child : ℕ) (frame : List ℕ) (k0 k1 : State) where
+  -- the frame was not sent
+  pub sends_not : (fault : Fault) → (IsErrOf {T = Unit {0}} (Err fault) Memory → AllKept k0.known k1.known) → SendsOnce child frame k0 k1 (Err fault)
+  sends_not Failed kept = tt
+  sends_not Memory kept = some (k0.known child) (k1.known child) (kept_stays child k0 k1 (kept refl)).same_sent
+    where
+      some : (x y : Option Child) → IfSome x (λ before. IsSomeAnd y (λ after. after.sent ≡ before.sent)) → IfSome x (λ before. IsSomeAnd y (λ after. (after.sent ≡ before.sent) ⊎ (after.sent ≡ before.sent ++ frame ∷ [])))
+      some None y h = tt
+      some (Some a) None h = absurd h
+      some (Some a) (Some b) h = inl h
+
+  -- it was sent, and then the answer was read
+  pub sends_so : (k2 : State) → Sends child frame k0 k1 → (result : Result (Option Frame) Fault) → (IsErrOf result Memory → StaysSent child k1 k2) → IfOk result (TakesFrame child k1 k2) → SendsOnce child frame k0 k2 result
+  sends_so k2 sends (Ok answer) stays takes = through (k0.known child) (k1.known child) (k2.known child) _ _ _ (λ a b c f s. s.0 ∙ f) sends.sent takes.first
+  sends_so k2 sends (Err Failed) stays takes = tt
+  sends_so k2 sends (Err Memory) stays takes = through (k0.known child) (k1.known child) (k2.known child) (λ a b. b.sent ≡ a.sent ++ frame ∷ []) (λ b c. c.sent ≡ b.sent) (λ a c. (c.sent ≡ a.sent) ⊎ (c.sent ≡ a.sent ++ frame ∷ [])) (λ a b c f s. inr (s ∙ f)) sends.sent (stays refl).same_sent
 
 -- a fact of what a call gave leads to another
 pub ok_map : {T E : Type 0} (r : Result T E) (P Q : T → Type 0) → ((x : T) → P x → Q x) → IfOk r P → IfOk r Q

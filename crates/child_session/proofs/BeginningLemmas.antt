@@ -1,17 +1,14 @@
 -- What comes of a child that is started and sent the first frame, from its start to its answer, and to its stop where that is no Hello.
-use Rattle.std.proofs.Common.{◌≡◌, ◌+◌, ℕ, List, [], ◌∷◌, ◌++◌, Option, None, Some, Err, IfSome, IsSome, IsSomeAnd, inl, inr, refl, sym, ap, ◌∙◌, subst}
+use Rattle.std.proofs.Common.{◌≡◌, ◌⊎◌, ◌+◌, ℕ, List, [], ◌∷◌, ◌++◌, Option, None, Some, Err, IfSome, IsSome, IsSomeAnd, inl, inr, refl, sym, ap, ◌∙◌, subst}
 use Rattle.apt_outside.specs.Child.{Try, Child, State, begun, Attends, StaysSent, OthersKept, AllKept, Tries}
 use Rattle.apt_outside.specs.declared.fault.Fault.{Fault}
 use Rattle.apt_outside.specs.declared.fault.Fault.TheVariants as outside
 use Rattle.wire_frames.specs.declared.frame.Frame.{Frame}
 use Rattle.wire_frames.specs.declared.frame.Hello.{Hello}
 use Rattle.child_session.specs.Faults.{fault_of}
-use Rattle.child_session.specs.Talk.{rest_after, answer_to, HasAnswered, Exchanged, Exchanges}
-use Rattle.child_session.specs.Beginning.{hello_in, first_hello, IsOf, IsBegun, HasBegun, SaysHello, SaysNone, Fails, Begins}
-
-some_of : (o : Option Child) (P : Child → Type 0) → IsSomeAnd o P → (b : Child) × (o ≡ Some b) × P b
-some_of None P h = absurd h
-some_of (Some b) P h = (b, refl, h)
+use Rattle.child_session.specs.Talk.{rest_after, answer_to, HasAnswered, Exchanged, Exchanges, SendsOnce}
+use Rattle.child_session.specs.Beginning.{hello_in, first_hello, IsOf, IsBegun, IsUnheard, HasBegun, SaysHello, SaysNone, Stopped, Begins}
+use Rattle.child_session.proofs.Taking.{some_of}
 
 some_answer : (answer : Option Frame) (hello : Hello) → hello_in answer ≡ Some hello → IsSome answer
 some_answer None hello e = absurd cc
@@ -19,36 +16,45 @@ some_answer (Some f) hello e = refl
 
 -- ---- no child was started
 
-began_not : (call : Try) (k0 k1 : State) (fault : Fault) → AllKept k0.known k1.known → k1.starts ≡ k0.starts → Tries call k0 k1 (Err fault) → Fails call k0 k1
-began_not call k0 k1 outside.Failed kept starts tries = inr (inl (record { known = kept; starts = starts; tried = tries.failed refl }))
-began_not call k0 k1 outside.Memory kept starts tries = inl (record { known = kept; starts = starts; tried = tries.memory refl })
-
-failed_so : (call : Try) (init : List ℕ) (k0 k1 : State) (fault : Fault) → Fails call k0 k1 → Begins call init k0 k1 (Err (fault_of fault))
-failed_so call init k0 k1 outside.Failed fails = fails
-failed_so call init k0 k1 outside.Memory fails = fails
-
 pub begins_not : (call : Try) (init : List ℕ) (k0 k1 : State) (fault : Fault) → AllKept k0.known k1.known → k1.starts ≡ k0.starts → Tries call k0 k1 (Err fault) → Begins call init k0 k1 (Err (fault_of fault))
-begins_not call init k0 k1 fault kept starts tries = failed_so call init k0 k1 fault (began_not call k0 k1 fault kept starts tries)
+begins_not call init k0 k1 outside.Failed kept starts tries = inl (record { known = kept; starts = starts; tried = tries.failed refl })
+begins_not call init k0 k1 outside.Memory kept starts tries = inl (record { known = kept; starts = starts; tried = tries.memory refl })
 
 -- ---- a child was started
 
 module _ (child : ℕ) (call : Try) (init : List ℕ) (k0 k1 k2 : State) (unknown : k0.known child ≡ None) (same : k1.says ≡ k0.says) (at1 : k1.known child ≡ Some (begun k0.says call)) (others : OthersKept child k0.known k1.known)
     (tried : k1.tried ≡ k0.tried ++ call ∷ []) (attends : Attends child k1 k2) where
   -- a fault came, and it was stopped
-  pub begins_failed : (k3 : State) → Attends child k2 k3 → k3.starts ≡ k0.starts + 1 → (fault : Fault) → Begins call init k0 k3 (Err (fault_of fault))
-  begins_failed k3 stops starts fault =
-      let b = attends.change.same_child (begun k0.says call) at1 in
-      let c = stops.change.same_child b.0 b.1 in
-      failed_so call init k0 k3 fault (inr (inr (record {
-        child = child;
-        tells = record {
-          unknown = unknown;
-          others = λ k ne. stops.change.others k ne ∙ attends.change.others k ne ∙ others k ne;
-          fact = subst (λ o. IsSomeAnd o (IsOf call)) (sym c.1) (record { name = c.2 ∙ b.2; command = c.3 ∙ b.3 });
-        };
-        starts = starts;
-        tried = stops.same_tried ∙ attends.same_tried ∙ tried;
-      })))
+  module _ (k3 : State) (stops : Attends child k2 k3) (stays : StaysSent child k2 k3) (starts : k3.starts ≡ k0.starts + 1) where
+    stopped : (P : Child → Type 0) → ((b c : Child) → k2.known child ≡ Some b → IsOf call c → c.sent ≡ b.sent → P c) → Stopped call P k0 k3
+    stopped P fact =
+        let b = attends.change.same_child (begun k0.says call) at1 in
+        let c = stops.change.same_child b.0 b.1 in
+        let sent : c.0.sent ≡ b.0.sent = subst (λ o. IsSomeAnd o (λ c. c.sent ≡ b.0.sent)) c.1 (subst (λ o. IfSome o (λ b. IsSomeAnd (k3.known child) (λ c. c.sent ≡ b.sent))) b.1 stays.same_sent) in
+        record {
+          child = child;
+          tells = record {
+            unknown = unknown;
+            others = λ k ne. stops.change.others k ne ∙ attends.change.others k ne ∙ others k ne;
+            fact = subst (λ o. IsSomeAnd o P) (sym c.1) (fact b.0 c.0 b.1 (record { name = c.2 ∙ b.2; command = c.3 ∙ b.3 }) sent);
+          };
+          starts = starts;
+          tried = stops.same_tried ∙ attends.same_tried ∙ tried;
+        }
+
+    unheard : (b c : Child) → k2.known child ≡ Some b → IsOf call c → c.sent ≡ b.sent → SendsOnce child init k1 k2 (Err outside.Memory) → IsUnheard call init c
+    unheard b c at2 is same sends =
+        let sent : (b.sent ≡ []) ⊎ (b.sent ≡ init ∷ []) = subst (λ o. IsSomeAnd o (λ b. (b.sent ≡ []) ⊎ (b.sent ≡ init ∷ []))) at2
+        (subst (λ o. IfSome o (λ a. IsSomeAnd (k2.known child) (λ b. (b.sent ≡ a.sent) ⊎ (b.sent ≡ a.sent ++ init ∷ [])))) at1 sends) in
+        record { is = is; sent = either sent }
+      where
+        either : (b.sent ≡ []) ⊎ (b.sent ≡ init ∷ []) → (c.sent ≡ []) ⊎ (c.sent ≡ init ∷ [])
+        either (inl none) = inl (same ∙ none)
+        either (inr one) = inr (same ∙ one)
+
+    pub begins_failed : (fault : Fault) → SendsOnce child init k1 k2 (Err fault) → Begins call init k0 k3 (Err (fault_of fault))
+    begins_failed outside.Failed sends = inr (stopped (IsOf call) (λ b c at2 is same. is))
+    begins_failed outside.Memory sends = inr (stopped (IsUnheard call init) (λ b c at2 is same. unheard b c at2 is same sends))
 
   module _ (answer : Option Frame) (exchanges : Exchanges child init k1 k2 answer) where
     has_answered : HasAnswered k0.says (begun k0.says call)

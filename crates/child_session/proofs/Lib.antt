@@ -3,4 +3,5 @@ pub mod Taking
 pub mod Answering
 pub mod Feeding
 pub mod Rounds
+pub mod Serving
 pub mod BeginningLemmas

@@ -1,8 +1,10 @@
 -- How a round goes on, and what comes of it.
-use Rattle.std.proofs.Common.{◌≡◌, ℕ, zero, suc, Bool, true, false, cond, List, [], ◌∷◌, ◌++◌, Option, None, Some, Result, Ok, Err, IfSome, IsSome, IsSomeAnd, refl, sym, ap, ◌∙◌, subst}
+use Rattle.std.proofs.Common.{◌≡◌, ◌<◌, ◌≤◌, ◌+◌, ℕ, zero, suc, Bool, true, false, cond, List, [], ◌∷◌, ◌++◌, Option, None, Some, Result, Ok, Err, IfSome, IsSome, IsSomeAnd, inl, inr, refl, sym, ap, ◌∙◌, subst, arith}
 use Rattle.apt_base.specs.declared.kinds.Claim.{Claim}
 use Rattle.apt_base.specs.declared.element.ElementRef.{ElementRef}
-use Rattle.apt_outside.specs.Child.{Says, Child, State, Changes}
+use Rattle.apt_outside.specs.Child.{Says, Child, State, Known, Changes}
+use Rattle.apt_outside.specs.declared.fault.Fault.{Fault}
+use Rattle.apt_outside.specs.declared.fault.Fault.TheVariants as outside
 use Rattle.wire_frames.specs.declared.frame.Frame.{Frame}
 use Rattle.wire_frames.specs.declared.frame.Frame.TheVariants as frame
 use Rattle.apt_filer.specs.Filing.{Filings}
@@ -15,9 +17,11 @@ use Rattle.child_session.specs.declared.round.Turn.{Turn}
 use Rattle.child_session.specs.declared.round.Turn.TheVariants.{Ends, Differs, Asks, Leaves}
 use Rattle.child_session.specs.declared.round.Showing.{Showing}
 use Rattle.child_session.specs.declared.round.Answer.{Answer}
-use Rattle.child_session.specs.Faults.{IsFreeFault}
+use Rattle.child_session.specs.Faults.{fault_of, IsFreeFault}
 use Rattle.child_session.specs.Talk.{Stream, answer_to, HasAnswered, Exchanged, Exchanges}
-use Rattle.child_session.specs.Round.{keeps, done_with, has_no_origins, turn_by_origins, turn_by_element, turn_at, after_turn, reply_frame, filed_after, printed_after, Act, Overasked, round_from, act_of, Comes, OnAnswered, Shown, Shows, Underway, GoesOn}
+use Rattle.child_session.specs.Round.{keeps, done_with, has_no_origins, turn_by_origins, turn_by_element, turn_at, after_turn, reply_frame, filed_after, printed_after, Act, Overasked, round_from, act_within, act_of, filings_of, IsFiled, Comes, OnAnswered, Shown, Shows, Underway, GoesOn}
+use Rattle.child_session.specs.Served.{Served}
+use Rattle.child_session.proofs.Taking.{some_of}
 
 abbrev Frames : Type 0
 Frames = List (List ℕ)
@@ -38,7 +42,31 @@ any_turn : (stream : Stream) (declared : Claim) (left : ℕ) (sent : Frames) (ma
 any_turn stream declared zero sent made printed = ((λ s f m. Overasked sent made), turn_zero stream declared sent made printed)
 any_turn stream declared (suc left) sent made printed = (round_from stream declared left, turn_suc stream declared left sent made printed)
 
+-- what the filer has where the child may ask no more, and where it may ask once more
+filed_turn : (turn : Turn) (sent : Frames) (made : Filings) (printed : List Message) → filings_of (after_turn turn sent made printed (λ s f m. Overasked sent made)) ≡ made
+filed_turn (Ends claimed) sent made printed = refl
+filed_turn (Differs said) sent made printed = refl
+filed_turn (Asks request) sent made printed = refl
+filed_turn Leaves sent made printed = refl
+
+filed_here : (stream : Stream) (declared : Claim) (sent : Frames) (made : Filings) (printed : List Message) → filings_of (round_from stream declared 0 sent made printed) ≡ made
+filed_here stream declared sent made printed = ap filings_of (turn_zero stream declared sent made printed) ∙ filed_turn (turn_at declared (answer_to stream sent)) sent made printed
+
+filed_next : (stream : Stream) (declared : Claim) (sent : Frames) (made : Filings) (printed : List Message) (request : Request) → turn_at declared (answer_to stream sent) ≡ Asks request → filings_of (round_from stream declared 1 sent made printed) ≡ filed_after made request
+filed_next stream declared sent made printed request turn =
+    ap filings_of (turn_suc stream declared 0 sent made printed ∙ ap (λ t. after_turn t sent made printed (round_from stream declared 0)) turn)
+    ∙ filed_here stream declared (sent ++ reply_frame made request ∷ []) (filed_after made request) (printed_after printed request)
+
 module _ (says : Says) where
+  -- a fact of a child at two moments, and the child later
+  carried : (child : ℕ) (mid new : Known) → Changes child mid new → (x : Option Child) (E F : Child → Child → Type 0) → ((a b c : Child) → E a b → c.name ≡ b.name → c.command ≡ b.command → F a c)
+      → IfSome x (λ a. HasAnswered says a → IsSomeAnd (mid child) (E a)) → IfSome x (λ a. HasAnswered says a → IsSomeAnd (new child) (F a))
+  carried child mid new change None E F h p = tt
+  carried child mid new change (Some a) E F h p = λ before.
+      let b = some_of (mid child) (E a) (p before) in
+      let c = change.same_child b.0 b.1 in
+      subst (λ o. IsSomeAnd o (F a)) (sym c.1) (h a b.0 c.0 b.2 c.2 c.3)
+
   pub later : (x y : Option Child) (E F : Child → Child → Type 0) → ((a b : Child) → E a b → F a b) → IfSome x (λ a. HasAnswered says a → IsSomeAnd y (E a)) → IfSome x (λ a. HasAnswered says a → IsSomeAnd y (F a))
   later None y E F h p = tt
   later (Some a) None E F h p = λ before. absurd (p before)
@@ -74,6 +102,33 @@ element_differs : (element : Option ElementRef) (message : Message) (said : Bool
 element_differs None message said e = cc
 element_differs (Some element) message said e = cc
 
+done_keeps : (declared : Claim) (said claimed : Bool) → done_with declared said ≡ Ends claimed → keeps declared claimed ≡ true
+done_keeps declared said claimed e = by (keeps declared said) refl
+  where
+    by : (b : Bool) → keeps declared said ≡ b → keeps declared claimed ≡ true
+    by false is = absurd (let f : Differs said ≡ Ends claimed = sym (ap (λ b. cond b (Ends said) (Differs said)) is) ∙ e in cc)
+    by true is = let f : Ends said ≡ Ends claimed = sym (ap (λ b. cond b (Ends said) (Differs said)) is) ∙ e in let same : said ≡ claimed = cc in subst (λ c. keeps declared c ≡ true) same is
+
+origins_end : (b : Bool) (creation : Creation) (claimed : Bool) → turn_by_origins b creation ≡ Ends claimed → ⊥
+origins_end true creation claimed e = cc
+origins_end false creation claimed e = cc
+
+element_ends : (element : Option ElementRef) (message : Message) (claimed : Bool) → turn_by_element element message ≡ Ends claimed → ⊥
+element_ends None message claimed e = cc
+element_ends (Some element) message claimed e = cc
+
+-- what ends a round keeps what was declared
+pub end_keeps : (declared : Claim) (answer : Option Frame) (claimed : Bool) → turn_at declared answer ≡ Ends claimed → keeps declared claimed ≡ true
+end_keeps declared None claimed e = absurd cc
+end_keeps declared (Some (frame.Done said)) claimed e = done_keeps declared said claimed e
+end_keeps declared (Some (frame.Init init)) claimed e = absurd cc
+end_keeps declared (Some (frame.Round number over error offered roots)) claimed e = absurd cc
+end_keeps declared (Some (frame.Reply reply)) claimed e = absurd cc
+end_keeps declared (Some (frame.Hello hello)) claimed e = absurd cc
+end_keeps declared (Some (frame.Create creation)) claimed e = absurd (origins_end (has_no_origins creation) creation claimed e)
+end_keeps declared (Some (frame.Message message)) claimed e = absurd (element_ends message.element message claimed e)
+end_keeps declared (Some (frame.Ask question)) claimed e = absurd cc
+
 -- what differs breaks what was declared
 pub differs_breaks : (declared : Claim) (answer : Option Frame) (said : Bool) → turn_at declared answer ≡ Differs said → keeps declared said ≡ false
 differs_breaks declared None said e = absurd cc
@@ -86,20 +141,33 @@ differs_breaks declared (Some (frame.Create creation)) said e = absurd (origins_
 differs_breaks declared (Some (frame.Message message)) said e = absurd (element_differs message.element message said e)
 differs_breaks declared (Some (frame.Ask question)) said e = absurd cc
 
+pub fault_is_free : (fault : Fault) → IsFreeFault (fault_of fault)
+fault_is_free outside.Failed = tt
+fault_is_free outside.Memory = tt
+
 module _ (child : ℕ) (showing : Showing) (made : Filings) where
-  pub way_begins : (k0 k1 : State) (answer : Option Frame) → Exchanges child showing.round k0 k1 answer → GoesOn child showing k0 k1 made made [] showing.limit answer
+  pub way_begins : (k0 k1 : State) (answer : Option Frame) → Exchanges child showing.round k0 k1 answer → GoesOn child showing k0 k1 made made [] 0 answer
   way_begins k0 k1 answer e = record {
-    way = later k0.says (k0.known child) (k1.known child) (Exchanged k0.says showing.round answer) (Underway k0.says showing made made [] showing.limit answer)
-        (λ a b x. record { name = x.name; command = x.command; answer_is = x.answer_is; answered = x.answered; rest = ap (λ sent. round_from (k0.says a.name a.command) showing.claim showing.limit sent made []) x.sent }) e.exchanged;
+    way = later k0.says (k0.known child) (k1.known child) (Exchanged k0.says showing.round answer) (Underway k0.says showing made made [] 0 answer)
+        (λ a b x. record {
+          name = x.name;
+          command = x.command;
+          answer_is = x.answer_is;
+          answered = x.answered;
+          rest = λ left.
+              let stream : Stream = k0.says a.name a.command in
+              let same : left ≡ 0 + left = omega arith in
+              ap (λ sent. round_from stream showing.claim left sent made []) x.sent ∙ ap (λ n. act_within stream showing n a.sent made) same;
+        }) e.exchanged;
   }
 
   -- one answer more
-  pub way_goes : (k0 k1 k2 : State) (made1 made2 : Filings) (printed1 printed2 : List Message) (left : ℕ) (answer answer' : Option Frame) (request : Request)
-      → k1.says ≡ k0.says → GoesOn child showing k0 k1 made made1 printed1 (suc left) answer
+  pub way_goes : (k0 k1 k2 : State) (made1 made2 : Filings) (printed1 printed2 : List Message) (turns : ℕ) (answer answer' : Option Frame) (request : Request)
+      → k1.says ≡ k0.says → GoesOn child showing k0 k1 made made1 printed1 turns answer
       → turn_at showing.claim answer ≡ Asks request → made2 ≡ filed_after made1 request → printed2 ≡ printed_after printed1 request
-      → Exchanges child (reply_frame made1 request) k1 k2 answer' → GoesOn child showing k0 k2 made made2 printed2 left answer'
-  way_goes k0 k1 k2 made1 made2 printed1 printed2 left answer answer' request same w turn made_are printed_are e = record {
-    way = joined k0.says (k0.known child) (k1.known child) (k2.known child) (Underway k0.says showing made made1 printed1 (suc left) answer) (Exchanged k0.says (reply_frame made1 request) answer') (Underway k0.says showing made made2 printed2 left answer')
+      → Exchanges child (reply_frame made1 request) k1 k2 answer' → GoesOn child showing k0 k2 made made2 printed2 (turns + 1) answer'
+  way_goes k0 k1 k2 made1 made2 printed1 printed2 turns answer answer' request same w turn made_are printed_are e = record {
+    way = joined k0.says (k0.known child) (k1.known child) (k2.known child) (Underway k0.says showing made made1 printed1 turns answer) (Exchanged k0.says (reply_frame made1 request) answer') (Underway k0.says showing made made2 printed2 (turns + 1) answer')
         (λ a b x. x.answered (some_turn showing.claim answer request turn))
         (λ a b c x y.
         let stream : Stream = k0.says a.name a.command in
@@ -107,68 +175,121 @@ module _ (child : ℕ) (showing : Showing) (made : Filings) where
         let frame : List ℕ = reply_frame made1 request in
         let made_next : Filings = filed_after made1 request in
         let printed_next : List Message = printed_after printed1 request in
-        let step : round_from stream showing.claim (suc left) b.sent made1 printed1 ≡ round_from stream showing.claim left (b.sent ++ frame ∷ []) made_next printed_next =
-        turn_suc stream showing.claim left b.sent made1 printed1 ∙ ap (λ o. after_turn (turn_at showing.claim o) b.sent made1 printed1 (round_from stream showing.claim left)) (sym x.answer_is)
-        ∙ ap (λ t. after_turn t b.sent made1 printed1 (round_from stream showing.claim left)) turn in
         record {
           name = y.name ∙ x.name;
           command = y.command ∙ x.command;
           answer_is = y.answer_is ∙ ap (λ s. answer_to s c.sent) stream_is;
           answered = y.answered;
-          rest = ap (λ sent. round_from stream showing.claim left sent made2 printed2) y.sent
+          rest = λ left.
+              let step : round_from stream showing.claim (suc left) b.sent made1 printed1 ≡ round_from stream showing.claim left (b.sent ++ frame ∷ []) made_next printed_next =
+              turn_suc stream showing.claim left b.sent made1 printed1 ∙ ap (λ o. after_turn (turn_at showing.claim o) b.sent made1 printed1 (round_from stream showing.claim left)) (sym x.answer_is)
+              ∙ ap (λ t. after_turn t b.sent made1 printed1 (round_from stream showing.claim left)) turn in
+              let count : turns + suc left ≡ turns + 1 + left = omega arith in
+              ap (λ sent. round_from stream showing.claim left sent made2 printed2) y.sent
               ∙ ap (λ made. round_from stream showing.claim left (b.sent ++ frame ∷ []) made printed2) made_are
-              ∙ ap (λ printed. round_from stream showing.claim left (b.sent ++ frame ∷ []) made_next printed) printed_are ∙ sym step ∙ x.rest;
+              ∙ ap (λ printed. round_from stream showing.claim left (b.sent ++ frame ∷ []) made_next printed) printed_are ∙ sym step ∙ x.rest (suc left)
+              ∙ ap (λ n. act_within stream showing n a.sent made) count;
         })
         w.way (subst (λ says. IfSome (k1.known child) (λ b. HasAnswered says b → IsSomeAnd (k2.known child) (Exchanged says (reply_frame made1 request) answer' b))) same e.exchanged);
   }
 
-  -- what a last turn comes to
-  module _ (k0 k1 : State) (made1 : Filings) (printed : List Message) (left : ℕ) (answer : Option Frame) (w : GoesOn child showing k0 k1 made made1 printed left answer) where
-    last : (result : Result Answer SessionFault) → ((a b : Child) → Underway k0.says showing made made1 printed left answer a b → Shown k0.says showing made made1 result a b) → Shows child showing k0 k1 made made1 result
-    last result h = record { shown = later k0.says (k0.known child) (k1.known child) (Underway k0.says showing made made1 printed left answer) (Shown k0.says showing made made1 result) h w.way }
+  module _ (says : Says) (made1 : Filings) (printed : List Message) (turns : ℕ) (answer : Option Frame) (a b : Child) (x : Underway says showing made made1 printed turns answer a b) where
+    -- what the filer has by now
+    filed_now : turns ≤ showing.limit → IsFiled (says a.name a.command) showing a.sent made made1
+    filed_now few =
+        let stream : Stream = says a.name a.command in
+        let count : turns + 0 ≡ turns = omega arith in
+        record {
+          turns = turns;
+          few = few;
+          is = sym (filed_here stream showing.claim b.sent made1 printed) ∙ ap filings_of (x.rest 0) ∙ ap (λ n. filings_of (act_within stream showing n a.sent made)) count;
+        }
 
-    turned : (a b : Child) → Underway k0.says showing made made1 printed left answer a b → (turn : Turn) → turn_at showing.claim answer ≡ turn → (go : Go) × (act_of (k0.says a.name a.command) showing a.sent made ≡ after_turn turn b.sent made1 printed go)
+    -- and once this request was served, or not
+    filed_then : (made2 : Filings) (request : Request) → turns < showing.limit → turn_at showing.claim answer ≡ Asks request → Served request made1 made2 → IsFiled (says a.name a.command) showing a.sent made made2
+    filed_then made2 request few turn (inl kept) = subst (IsFiled (says a.name a.command) showing a.sent made) (sym kept) (filed_now (omega (arith, few)))
+    filed_then made2 request few turn (inr one) =
+        let stream : Stream = says a.name a.command in
+        let asks : turn_at showing.claim (answer_to stream b.sent) ≡ Asks request = ap (turn_at showing.claim) (sym x.answer_is) ∙ turn in
+        record {
+          turns = turns + 1;
+          few = omega (arith, few);
+          is = one ∙ sym (filed_next stream showing.claim b.sent made1 printed request asks) ∙ ap filings_of (x.rest 1);
+        }
+
+  -- what a last turn comes to
+  module _ (k0 k1 : State) (made1 : Filings) (printed : List Message) (turns left : ℕ) (answer : Option Frame) (all : turns + left ≡ showing.limit) (w : GoesOn child showing k0 k1 made made1 printed turns answer) where
+    last : (result : Result Answer SessionFault) → ((a b : Child) → Underway k0.says showing made made1 printed turns answer a b → Comes (act_of (k0.says a.name a.command) showing a.sent made) showing result b.sent made1 × OnAnswered result (HasAnswered k0.says b)) → Shows child showing k0 k1 made made1 result
+    last result h = record {
+      shown = later k0.says (k0.known child) (k1.known child) (Underway k0.says showing made made1 printed turns answer) (Shown k0.says showing made made1 result)
+          (λ a b x. let few : turns ≤ showing.limit = omega (arith, all) in let is = h a b x in record { name = x.name; command = x.command; comes = is.0; filed = filed_now k0.says made1 printed turns answer a b x few; answered = is.1 }) w.way;
+    }
+
+    -- the whole round is what is left of it
+    left_is : (a b : Child) → Underway k0.says showing made made1 printed turns answer a b → act_of (k0.says a.name a.command) showing a.sent made ≡ round_from (k0.says a.name a.command) showing.claim left b.sent made1 printed
+    left_is a b x = sym (x.rest left ∙ ap (λ n. act_within (k0.says a.name a.command) showing n a.sent made) all)
+
+    turned : (a b : Child) → Underway k0.says showing made made1 printed turns answer a b → (turn : Turn) → turn_at showing.claim answer ≡ turn → (go : Go) × (act_of (k0.says a.name a.command) showing a.sent made ≡ after_turn turn b.sent made1 printed go)
     turned a b x turn is =
         let any = any_turn (k0.says a.name a.command) showing.claim left b.sent made1 printed in
-        (any.0, sym x.rest ∙ any.1 ∙ ap (λ o. after_turn (turn_at showing.claim o) b.sent made1 printed any.0) (sym x.answer_is) ∙ ap (λ t. after_turn t b.sent made1 printed any.0) is)
+        (any.0, left_is a b x ∙ any.1 ∙ ap (λ o. after_turn (turn_at showing.claim o) b.sent made1 printed any.0) (sym x.answer_is) ∙ ap (λ t. after_turn t b.sent made1 printed any.0) is)
 
     pub way_ends : (claimed : Bool) → turn_at showing.claim answer ≡ Ends claimed → Shows child showing k0 k1 made made1 (Ok (record { messages = printed; claimed = claimed }))
-    way_ends claimed turn = last (Ok (record { messages = printed; claimed = claimed })) (λ a b x. record { name = x.name; command = x.command; comes = (turned a b x (Ends claimed) turn).1; answered = x.answered (some_end showing.claim answer claimed turn) })
+    way_ends claimed turn = last (Ok (record { messages = printed; claimed = claimed })) (λ a b x. ((turned a b x (Ends claimed) turn).1, x.answered (some_end showing.claim answer claimed turn)))
 
     -- it breaks what its processor declared
     pub way_differs : (said : Bool) → turn_at showing.claim answer ≡ Differs said → Shows child showing k0 k1 made made1 (Err (ClaimBroken showing.claim said))
-    way_differs said turn = last (Err (ClaimBroken showing.claim said)) (λ a b x. record { name = x.name; command = x.command; comes = ((turned a b x (Differs said) turn).1, refl); answered = tt })
+    way_differs said turn = last (Err (ClaimBroken showing.claim said)) (λ a b x. (((turned a b x (Differs said) turn).1, refl), tt))
 
     pub way_leaves : turn_at showing.claim answer ≡ Leaves → Shows child showing k0 k1 made made1 (Err Unbuilt)
-    way_leaves turn = last (Err Unbuilt) (λ a b x. record { name = x.name; command = x.command; comes = (turned a b x Leaves turn).1; answered = tt })
+    way_leaves turn = last (Err Unbuilt) (λ a b x. ((turned a b x Leaves turn).1, tt))
 
     -- it may ask no more
     pub way_is_full : (request : Request) → left ≡ 0 → turn_at showing.claim answer ≡ Asks request → Shows child showing k0 k1 made made1 (Err (TooManyQuestions showing.limit))
     way_is_full request none turn = last (Err (TooManyQuestions showing.limit)) (λ a b x.
         let stream : Stream = k0.says a.name a.command in
-        record {
-          name = x.name;
-          command = x.command;
-          comes = (
-            sym x.rest ∙ ap (λ n. round_from stream showing.claim n b.sent made1 printed) none ∙ turn_zero stream showing.claim b.sent made1 printed
-                ∙ ap (λ o. after_turn (turn_at showing.claim o) b.sent made1 printed (λ s f m. Overasked b.sent made1)) (sym x.answer_is)
-                ∙ ap (λ t. after_turn t b.sent made1 printed (λ s f m. Overasked b.sent made1)) turn,
-            refl,
-          );
-          answered = tt;
-        })
-
-  free : (k0 k1 : State) (made1 : Filings) (result : Result Answer SessionFault) → ((a b : Child) → Comes (act_of (k0.says a.name a.command) showing a.sent made) showing result b.sent made1) → ((b : Child) → OnAnswered result (HasAnswered k0.says b)) → Changes child k0.known k1.known
-      → (o : Option Child) → k0.known child ≡ o → IfSome o (λ a. HasAnswered k0.says a → IsSomeAnd (k1.known child) (Shown k0.says showing made made1 result a))
-  free k0 k1 made1 result comes answered change None is = tt
-  free k0 k1 made1 result comes answered change (Some a) is = λ before.
-      let b = change.same_child a is in
-      subst (λ o. IsSomeAnd o (Shown k0.says showing made made1 result a)) (sym b.1) (record { name = b.2; command = b.3; comes = comes a b.0; answered = answered b.0 })
+        let over : act_of stream showing a.sent made ≡ Overasked b.sent made1 =
+        left_is a b x ∙ ap (λ n. round_from stream showing.claim n b.sent made1 printed) none ∙ turn_zero stream showing.claim b.sent made1 printed
+        ∙ ap (λ o. after_turn (turn_at showing.claim o) b.sent made1 printed (λ s f m. Overasked b.sent made1)) (sym x.answer_is)
+        ∙ ap (λ t. after_turn t b.sent made1 printed (λ s f m. Overasked b.sent made1)) turn in
+        ((over, refl), tt))
 
   -- a fault of the children or want of memory may come at any point
-  pub way_is_free : (k0 k1 : State) (made1 : Filings) (fault : SessionFault) → IsFreeFault fault → Changes child k0.known k1.known → Shows child showing k0 k1 made made1 (Err fault)
-  way_is_free k0 k1 made1 Failed is_free change = record { shown = free k0 k1 made1 (Err Failed) (λ a b. tt) (λ b. tt) change (k0.known child) refl }
-  way_is_free k0 k1 made1 Memory is_free change = record { shown = free k0 k1 made1 (Err Memory) (λ a b. tt) (λ b. tt) change (k0.known child) refl }
-  way_is_free k0 k1 made1 Unbuilt is_free change = absurd is_free
-  way_is_free k0 k1 made1 (TooManyQuestions limit) is_free change = absurd is_free
-  way_is_free k0 k1 made1 (ClaimBroken declared said) is_free change = absurd is_free
+  free_comes : (fault : SessionFault) → IsFreeFault fault → (act : Act) (sent : Frames) (filings : Filings) → Comes act showing (Err fault) sent filings
+  free_comes Failed is_free act sent filings = tt
+  free_comes Memory is_free act sent filings = tt
+  free_comes Unbuilt is_free act sent filings = absurd is_free
+  free_comes (TooManyQuestions limit) is_free act sent filings = absurd is_free
+  free_comes (ClaimBroken declared said) is_free act sent filings = absurd is_free
+
+  -- before the child answered
+  pub way_begins_not : (k0 k1 : State) (fault : SessionFault) → IsFreeFault fault → Changes child k0.known k1.known → Shows child showing k0 k1 made made (Err fault)
+  way_begins_not k0 k1 fault is_free change = record { shown = shown (k0.known child) refl }
+    where
+      shown : (o : Option Child) → k0.known child ≡ o → IfSome o (λ a. HasAnswered k0.says a → IsSomeAnd (k1.known child) (Shown k0.says showing made made (Err fault) a))
+      shown None is = tt
+      shown (Some a) is = λ before.
+          let b = change.same_child a is in
+          let stream : Stream = k0.says a.name a.command in
+          subst (λ o. IsSomeAnd o (Shown k0.says showing made made (Err fault) a)) (sym b.1) (record {
+            name = b.2;
+            command = b.3;
+            comes = free_comes fault is_free (act_of stream showing a.sent made) b.0.sent made;
+            filed = record { turns = 0; few = omega arith; is = sym (filed_here stream showing.claim (a.sent ++ showing.round ∷ []) made []) };
+            answered = tt;
+          })
+
+  -- in a turn
+  pub way_stops : (k0 k1 k2 : State) (made1 made2 : Filings) (printed : List Message) (turns : ℕ) (answer : Option Frame) (request : Request) (fault : SessionFault)
+      → IsFreeFault fault → turns < showing.limit → GoesOn child showing k0 k1 made made1 printed turns answer → turn_at showing.claim answer ≡ Asks request → Served request made1 made2
+      → Changes child k1.known k2.known → Shows child showing k0 k2 made made2 (Err fault)
+  way_stops k0 k1 k2 made1 made2 printed turns answer request fault is_free few w turn served change = record {
+    shown = carried k0.says child k1.known k2.known change (k0.known child) (Underway k0.says showing made made1 printed turns answer) (Shown k0.says showing made made2 (Err fault))
+        (λ a b c x name command. record {
+          name = name ∙ x.name;
+          command = command ∙ x.command;
+          comes = free_comes fault is_free (act_of (k0.says a.name a.command) showing a.sent made) c.sent made2;
+          filed = filed_then k0.says made1 printed turns answer a b x made2 request few turn served;
+          answered = tt;
+        }) w.way;
+  }

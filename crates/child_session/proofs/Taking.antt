@@ -1,6 +1,6 @@
 -- One call on a child after another.
 use Rattle.std.proofs.Common.{◌≡◌, ℕ, ◌<◌, List, [], ◌++◌, length, Option, None, Some, IfSome, IsSomeAnd, refl, sym, ap, ◌∙◌, subst, append_assoc, append-nil, length-append, arith}
-use Rattle.apt_outside.specs.Child.{Child, Known, State, OfChild, Changes, Attends}
+use Rattle.apt_outside.specs.Child.{Child, Known, State, OfChild, Changes, Attends, AllKept, StaysSent}
 use Rattle.wire_frames.specs.declared.frame.Frame.{Frame}
 use Rattle.frame_reader.specs.declared.found.Found.TheVariants as founds
 use Rattle.frame_reader.specs.Stages.{found_in}
@@ -29,6 +29,10 @@ attends_then child a b c first second = record {
   change = changes_then child a.known b.known c.known first.change second.change;
 }
 
+pub some_of : (o : Option Child) (P : Child → Type 0) → IsSomeAnd o P → (b : Child) × (o ≡ Some b) × P b
+some_of None P h = absurd h
+some_of (Some b) P h = (b, refl, h)
+
 -- a fact of one moment and a later one, through a moment between them
 pub through : (x y z : Option Child) (P Q R : Child → Child → Type 0) → ((a b c : Child) → P a b → Q b c → R a c) → IfSome x (λ a. IsSomeAnd y (P a)) → IfSome y (λ b. IsSomeAnd z (Q b)) → IfSome x (λ a. IsSomeAnd z (R a))
 through None y z P Q R step first second = tt
@@ -51,6 +55,19 @@ more_then child a b c old new first second = subst (TakesBytes child a c) (sym s
 
 pub takes_nothing : (child : ℕ) (a : State) (bytes : List ℕ) → bytes ≡ [] → TakesBytes child a a bytes
 takes_nothing child a bytes none = subst (TakesBytes child a a) (sym none) (record { split = takes_none (a.known child) })
+
+-- ---- what a child was sent
+
+pub kept_stays : (child : ℕ) (a b : State) → AllKept a.known b.known → StaysSent child a b
+kept_stays child a b kept = record { same_sent = subst (λ y. IfSome (a.known child) (λ before. IsSomeAnd y (λ after. after.sent ≡ before.sent))) (sym (kept child)) (same (a.known child)) }
+  where
+    same : (o : Option Child) → IfSome o (λ before. IsSomeAnd o (λ after. after.sent ≡ before.sent))
+    same None = tt
+    same (Some c) = refl
+
+-- bytes were taken, and then nothing was sent
+pub stays_then : (child : ℕ) (a b c : State) (bytes : List ℕ) → TakesBytes child a b bytes → StaysSent child b c → StaysSent child a c
+stays_then child a b c bytes first second = record { same_sent = through (a.known child) (b.known child) (c.known child) _ _ _ (λ p q r f s. s ∙ f.0) first.split second.same_sent }
 
 -- ---- a frame that comes in pieces
 

@@ -63,22 +63,25 @@ pub record Unstarted (call : Try) (old new : State) : Type 0 where
   pub starts : new.starts ≡ old.starts
   pub tried : new.tried ≡ old.tried ++ call ∷ []
 
--- a child was started, and stopped
-pub record Stopped (call : Try) (old new : State) : Type 0 where
+-- a child was started, of which this is told, and stopped
+pub record Stopped (call : Try) (P : Child → Type 0) (old new : State) : Type 0 where
   pub child : ℕ
-  pub tells : TellsOf child (IsOf call) old new
+  pub tells : TellsOf child P old new
   pub starts : new.starts ≡ old.starts + 1
   pub tried : new.tried ≡ old.tried ++ call ∷ []
 
--- after a fault outside, or want of memory
-abbrev pub Fails : Try → State → State → Type 0
-Fails call old new = Untried old new ⊎ (Unstarted call old new ⊎ Stopped call old new)
+-- it was sent nothing, or this frame alone
+pub record IsUnheard (call : Try) (init : List ℕ) (child : Child) : Type 0 where
+  pub is : IsOf call child
+  pub sent : (child.sent ≡ []) ⊎ (child.sent ≡ init ∷ [])
 
+-- After a fault of the children a start was tried, and the child, if there is one, was stopped; they do not say what it was sent. After
+-- want of memory no start was tried, or the child was stopped before it was heard.
 abbrev pub Begins : Try → List ℕ → State → State → Result (ℕ × Hello) SessionFault → Type 0
 Begins call init old new (Ok begun) = SaysHello call init old new begun.0 begun.1
 Begins call init old new (Err Unbuilt) = SaysNone call init old new
-Begins call init old new (Err Failed) = Fails call old new
-Begins call init old new (Err Memory) = Fails call old new
+Begins call init old new (Err Failed) = Unstarted call old new ⊎ Stopped call (IsOf call) old new
+Begins call init old new (Err Memory) = Untried old new ⊎ Stopped call (IsUnheard call init) old new
 Begins call init old new (Err (TooManyQuestions limit)) = ⊥
 Begins call init old new (Err (ClaimBroken declared said)) = ⊥
 

@@ -15,6 +15,10 @@ use Rattle.child_session.specs.declared.round.Answer.{Answer}
 abbrev pub Gives : {C T E : Type 0} → children.Ghosts C → C → C → Result T E → (State → State → T → Type 0) → Type 0
 Gives c old new result P = Told c.tells (IfOk result (P (c.state old) (c.state new)))
 
+-- a relation of what they were, what they are, and what was answered
+abbrev pub Answers : {C T E : Type 0} → children.Ghosts C → C → C → Result T E → (State → State → Result T E → Type 0) → Type 0
+Answers c old new result P = Told c.tells (P (c.state old) (c.state new) result)
+
 -- a child was started and sent the first frame
 abbrev pub Begins : {C : Type 0} → children.Ghosts C → Try → List ℕ → C → C → Result (ℕ × Hello) SessionFault → Type 0
 Begins c call init old new result = Told c.tells (beginning.Begins call init (c.state old) (c.state new) result)

@@ -1,6 +1,6 @@
 -- What the answer to a round comes to: a child creates files and prints messages, one after another, each is answered, and
 -- then it is done and says whether its processor claims what it was offered. A round is a function of what the child says, and of what was created before it.
-use Rattle.std.specs.Prelude.{◌≡◌, ℕ, zero, suc, not, ◌==◌, Bool, true, false, List, [], ◌∷◌, ◌++◌, length, Option, None, Some, IsSome, if◌then◌else◌, Result, Ok, Err}
+use Rattle.std.specs.Prelude.{◌≡◌, ◌≤◌, ℕ, zero, suc, ◌+◌, not, ◌==◌, Bool, true, false, List, [], ◌∷◌, ◌++◌, length, Option, None, Some, IsSome, if◌then◌else◌, Result, Ok, Err}
 use Rattle.apt_base.specs.declared.kinds.Claim.{Claim}
 use Rattle.apt_base.specs.declared.kinds.Claim.TheVariants.{Always, Never, Varies}
 use Rattle.apt_outside.specs.Child.{Says, Child, State}
@@ -115,9 +115,25 @@ unfoldable pub round_from : Stream → Claim → ℕ → List (List ℕ) → Fil
 round_from stream declared zero sent filings printed = after_turn (turn_at declared (answer_to stream sent)) sent filings printed (λ s f m. Overasked sent filings)
 round_from stream declared (suc left) sent filings printed = after_turn (turn_at declared (answer_to stream sent)) sent filings printed (round_from stream declared left)
 
--- what a round comes to that a child with these frames is shown, where the filer has these files
+-- what a round comes to that a child with these frames is shown, where the filer has these files and the child may ask this many times
+abbrev pub act_within : Stream → Showing → ℕ → List (List ℕ) → Filings → Act
+act_within stream showing most sent filings = round_from stream showing.claim most (sent ++ showing.round ∷ []) filings []
+
 abbrev pub act_of : Stream → Showing → List (List ℕ) → Filings → Act
-act_of stream showing sent filings = round_from stream showing.claim showing.limit (sent ++ showing.round ∷ []) filings []
+act_of stream showing sent filings = act_within stream showing showing.limit sent filings
+
+-- what the filer has in the end
+abbrev pub filings_of : Act → Filings
+filings_of (Answered sent filings printed claimed) = filings
+filings_of (Broken sent filings) = filings
+filings_of (Overasked sent filings) = filings
+filings_of (Differed sent filings said) = filings
+
+-- the filer has what it has after this many turns of the round, or after all of them where there are fewer
+pub record IsFiled (stream : Stream) (showing : Showing) (sent : List (List ℕ)) (filings filings' : Filings) : Type 0 where
+  pub turns : ℕ
+  pub few : turns ≤ showing.limit
+  pub is : filings' ≡ filings_of (act_within stream showing turns sent filings)
 
 -- ---- what a call says of it
 
@@ -130,9 +146,9 @@ Comes act showing (Err (ClaimBroken declared said)) sent filings = (act ≡ Diff
 Comes act showing (Err Failed) sent filings = Unit {0}
 Comes act showing (Err Memory) sent filings = Unit {0}
 
--- whatever the child tells, it is refused by its limit and its claim alone
-abbrev pub IsDue : {T : Type 0} → Showing → Result T SessionFault → Type 0
-IsDue showing (Ok answer) = Unit {0}
+-- whatever the child tells, its claim is held against what was declared, and it is refused by its limit and its claim alone
+abbrev pub IsDue : Showing → Result Answer SessionFault → Type 0
+IsDue showing (Ok answer) = keeps showing.claim answer.claimed ≡ true
 IsDue showing (Err (TooManyQuestions most)) = most ≡ showing.limit
 IsDue showing (Err (ClaimBroken declared said)) = (declared ≡ showing.claim) × (keeps declared said ≡ false)
 IsDue showing (Err Unbuilt) = Unit {0}
@@ -149,18 +165,20 @@ pub record Shown (says : Says) (showing : Showing) (filings filings' : Filings) 
   pub name : after.name ≡ before.name
   pub command : after.command ≡ before.command
   pub comes : Comes (act_of (says before.name before.command) showing before.sent filings) showing result after.sent filings'
+  -- also after a fault of the children or want of memory
+  pub filed : IsFiled (says before.name before.command) showing before.sent filings filings'
   pub answered : OnAnswered result (HasAnswered says after)
 
 pub record Shows (child : ℕ) (showing : Showing) (old new : State) (filings filings' : Filings) (result : Result Answer SessionFault) : Type 0 where
   pub shown : WasAnswered child old new (Shown old.says showing filings filings' result)
 
--- a round is under way: this answer came to the frames sent up to now, and what is left of it decides what comes of the whole
-pub record Underway (says : Says) (showing : Showing) (filings filings' : Filings) (printed : List Message) (left : ℕ) (answer : Option Frame) (before after : Child) : Type 0 where
+-- a round is under way: this answer came after this many turns, and however often the child may ask from here on, that decides what comes of the whole
+pub record Underway (says : Says) (showing : Showing) (filings filings' : Filings) (printed : List Message) (turns : ℕ) (answer : Option Frame) (before after : Child) : Type 0 where
   pub name : after.name ≡ before.name
   pub command : after.command ≡ before.command
   pub answer_is : answer ≡ answer_to (says before.name before.command) after.sent
   pub answered : IsSome answer → HasAnswered says after
-  pub rest : round_from (says before.name before.command) showing.claim left after.sent filings' printed ≡ act_of (says before.name before.command) showing before.sent filings
+  pub rest : (left : ℕ) → round_from (says before.name before.command) showing.claim left after.sent filings' printed ≡ act_within (says before.name before.command) showing (turns + left) before.sent filings
 
-pub record GoesOn (child : ℕ) (showing : Showing) (old new : State) (filings filings' : Filings) (printed : List Message) (left : ℕ) (answer : Option Frame) : Type 0 where
-  pub way : WasAnswered child old new (Underway old.says showing filings filings' printed left answer)
+pub record GoesOn (child : ℕ) (showing : Showing) (old new : State) (filings filings' : Filings) (printed : List Message) (turns : ℕ) (answer : Option Frame) : Type 0 where
+  pub way : WasAnswered child old new (Underway old.says showing filings filings' printed turns answer)

@@ -1,10 +1,13 @@
 -- What a child says to the frames that it was sent: the frame at each place of its stream, and what the answer to a round comes to.
-use Rattle.std.specs.Prelude.{◌≡◌, ◌<◌, ℕ, zero, suc, ◌+◌, ◌-◌, List, [], ◌∷◌, ◌++◌, length, Option, None, Some, option_map, option_and_then, IsSome, IfSome, IsSomeAnd}
-use Rattle.apt_outside.specs.Child.{Says, Child, State, OfChild, written_by}
+use Rattle.std.specs.Prelude.{◌≡◌, ◌⊎◌, ◌<◌, ℕ, zero, suc, ◌-◌, List, [], ◌∷◌, ◌++◌, length, Option, None, Some, option_map, option_and_then, Result, Ok, Err, IsErrOf, IsSome, IfSome, IsSomeAnd}
+use Rattle.apt_outside.specs.Child.{Says, Child, State, OfChild, StaysSent, written_by}
+use Rattle.apt_outside.specs.declared.fault.Fault.{Fault}
+use Rattle.apt_outside.specs.declared.fault.Fault.TheVariants.{Failed, Memory}
 use Rattle.wire_frames.specs.declared.frame.Frame.{Frame}
 use Rattle.frame_reader.specs.declared.found.Found.TheVariants as founds
 use Rattle.frame_reader.specs.Stages.{found_in}
-use Rattle.frame_stream.specs.Streams.{frame_at}
+use Rattle.frame_stream.specs.declared.reader.ReadFault.{ReadFault}
+use Rattle.frame_stream.specs.Streams.{frame_at, ComesOf}
 use Rattle.child_session.specs.declared.receiving.Progress.{Progress}
 use Rattle.child_session.specs.declared.receiving.Progress.TheVariants.{Begun, Over}
 
@@ -45,6 +48,17 @@ pub record Exchanged (says : Says) (frame : List ℕ) (answer : Option Frame) (b
 pub record Exchanges (child : ℕ) (frame : List ℕ) (old new : State) (answer : Option Frame) : Type 0 where
   pub exchanged : WasAnswered child old new (Exchanged old.says frame answer)
 
+-- What the child was sent by a call that sends this frame: the frame, and after want of memory the frame or nothing. After a fault
+-- of the children it is not told.
+abbrev pub SendsOnce : ℕ → List ℕ → State → State → Result (Option Frame) Fault → Type 0
+SendsOnce child frame old new (Ok answer) = OfChild child old new (λ before after. after.sent ≡ before.sent ++ frame ∷ [])
+SendsOnce child frame old new (Err Memory) = OfChild child old new (λ before after. (after.sent ≡ before.sent) ⊎ (after.sent ≡ before.sent ++ frame ∷ []))
+SendsOnce child frame old new (Err Failed) = Unit {0}
+
+-- a call that sends nothing, after want of memory
+abbrev pub StaysAtMemory : {T : Type 0} → ℕ → State → State → Result T Fault → Type 0
+StaysAtMemory child old new result = IsErrOf result Memory → StaysSent child old new
+
 -- these bytes were taken from the front of those that wait
 pub record TakesBytes (child : ℕ) (old new : State) (bytes : List ℕ) : Type 0 where
   pub split : OfChild child old new (λ before after. (after.sent ≡ before.sent) × (before.waiting ≡ bytes ++ after.waiting))
@@ -64,6 +78,11 @@ pub record TakesFrame (child : ℕ) (old new : State) (found : Option Frame) : T
   pub first : OfChild child old new (λ before after. (after.sent ≡ before.sent) × FindsFrame before.waiting found after.waiting)
 
 -- ---- a frame that comes in pieces
+
+-- the front of a piece was fed to a reader, and the last byte of it is answered so
+pub record TakesFront (answer : Result (Option Frame) ReadFault) (piece old new : List ℕ) : Type 0 where
+  pub taken : ℕ
+  pub comes : ComesOf answer taken piece old new
 
 -- what bytes that were fed to a reader lead to, and what it has then: they begin a frame, or whatever comes behind them a frame is found, or that there is none
 abbrev pub LeadsTo : Progress → List ℕ → List ℕ → Type 0

@@ -25,8 +25,8 @@ fn hello_in(answer: Option<Frame>) -> Option<Hello>
 
 /// Starts a child, sends it the first frame, and gives its number and its Hello.
 ///
-/// `Unbuilt` comes exactly where its answer is no Hello. Where it is refused after the child was started, the child was
-/// stopped.
+/// `Unbuilt` comes only where its answer is no Hello, and always there where the children tell what they say. `Failed` comes
+/// where a start was tried, `Memory` also where none was. Where it is refused after the child was started, the child was stopped.
 pub fn begin<C: Children>(
     alloc: Global,
     children: &mut C,

@@ -4,8 +4,8 @@ ghost use Rattle.apt_outside.specs.Count.{HasCause, Told};
 ghost use Rattle.apt_outside.specs.Child.{Attends};
 ghost use Rattle.frame_reader.specs.Stages.{found_in, wanted_in};
 ghost use Rattle.frame_reader.specs.declared.found.Found.TheVariants as founds;
-ghost use Rattle.child_session.specs.Talk.{Reaches, IsLonger, LeadsTo, TakesFrame, Exchanges};
-ghost use Rattle.child_session.specs.Moments.{Gives};
+ghost use Rattle.child_session.specs.Talk.{TakesFront, Reaches, IsLonger, LeadsTo, TakesFrame, Exchanges, SendsOnce, StaysAtMemory};
+ghost use Rattle.child_session.specs.Moments.{Gives, Answers};
 
 use apt_base::NoMemory;
 use apt_outside::{Children, Fault};
@@ -24,21 +24,26 @@ pub enum Progress {
     Over(Option<Frame>),
 }
 
+/// Feeds a reader the front of some bytes, and gives what the last one that it takes is answered.
+fn feed_front(reader: &mut Reader, bytes: &[u8]) -> Result<Option<Frame>, ReadFault>
+    ensures { TakesFront result bytes.now reader.old reader.new }
+{
+    let progress = reader.feed_slice(bytes);
+    progress.answer
+}
+
 /// Feeds a reader bytes that come next of a frame.
 fn feed_all(reader: &mut Reader, bytes: &[u8]) -> Result<Progress, NoMemory>
     requires begun { found_in reader.old ≡ founds.Begun }
     requires next { length bytes.now ≤ wanted_in reader.old }
     ensures { IfOk result (λ progress. LeadsTo progress (reader.old ++ bytes.now) reader.new) }
 {
-    for byte in bytes {
-        match reader.feed(*byte) {
-            Ok(None) => {}
-            Ok(Some(frame)) => return Ok(Progress::Over(Some(frame))),
-            Err(ReadFault::Bad { .. }) => return Ok(Progress::Over(None)),
-            Err(ReadFault::Memory) => return Err(NoMemory),
-        }
+    match feed_front(reader, bytes) {
+        Ok(None) => Ok(Progress::Begun),
+        Ok(Some(frame)) => Ok(Progress::Over(Some(frame))),
+        Err(ReadFault::Bad { .. }) => Ok(Progress::Over(None)),
+        Err(ReadFault::Memory) => Err(NoMemory),
     }
-    Ok(Progress::Begun)
 }
 
 /// Takes bytes that wait into the room, which has none for a byte behind the frame, and feeds them to the reader.
@@ -56,6 +61,7 @@ fn receive_more<C: Children>(
     ensures starts { (C.state children.new).starts ≡ (C.state children.old).starts }
     ensures live { (C.state children.new).live ≡ (C.state children.old).live }
     ensures attends { Told C.tells (Attends child (C.state children.old) (C.state children.new)) }
+    ensures memory { Answers C.Children children.old children.new result (StaysAtMemory child) }
     ensures longer { IfOk result (IsLonger reader.old reader.new) }
     ensures taken { Gives C.Children children.old children.new result (Reaches child reader.old reader.new) }
 {
@@ -81,6 +87,7 @@ fn read_frame<C: Children>(
     ensures starts { (C.state children.new).starts ≡ (C.state children.old).starts }
     ensures live { (C.state children.new).live ≡ (C.state children.old).live }
     ensures attends { Told C.tells (Attends child (C.state children.old) (C.state children.new)) }
+    ensures memory { Answers C.Children children.old children.new result (StaysAtMemory child) }
     ensures taken { Gives C.Children children.old children.new result (TakesFrame child) }
 {
     let mut room = [0u8; ROOM];
@@ -94,7 +101,10 @@ fn read_frame<C: Children>(
     }
 }
 
-/// Sends a frame to a child, and gives its answer: the next frame, or none where its bytes are no frame.
+/// Sends a frame to a child, and gives its answer: the next frame, or none where its bytes are no frame, or it ends before
+/// the frame is whole.
+///
+/// After `Memory` it was sent the frame or nothing.
 pub fn exchange<C: Children>(
     alloc: Global,
     children: &mut C,
@@ -106,6 +116,7 @@ pub fn exchange<C: Children>(
     ensures starts { (C.state children.new).starts ≡ (C.state children.old).starts }
     ensures live { (C.state children.new).live ≡ (C.state children.old).live }
     ensures attends { Told C.tells (Attends child (C.state children.old) (C.state children.new)) }
+    ensures sent { Answers C.Children children.old children.new result (SendsOnce child frame.now) }
     ensures answer { Gives C.Children children.old children.new result (Exchanges child frame.now) }
 {
     children.send(child, frame)?;

@@ -1,11 +1,12 @@
 // Shows a round to a child.
-ghost use Rattle.std.specs.Prelude.{◌≡◌, Contains, IfOk, OnOk};
+ghost use Rattle.std.specs.Prelude.{◌≡◌, Contains, IfOk, OnOk, OnErr};
 ghost use Rattle.apt_outside.specs.Count.{Told};
 ghost use Rattle.wire_frames.specs.Frames.{spelling};
 ghost use Rattle.wire_frames.specs.declared.frame.Frame.TheVariants as frames;
 ghost use Rattle.child_session.specs.Faults.{HasReason, IsFree};
 ghost use Rattle.apt_outside.specs.Child.{Attends};
 ghost use Rattle.child_session.specs.Round.{IsDue, keeps, done_with, has_no_origins, turn_by_origins, turn_by_element, turn_at, reply_to, filed_after, printed_after, Replies};
+ghost use Rattle.child_session.specs.Served.{Served, AllServed};
 ghost use Rattle.child_session.specs.Moments.{Gives, Shows};
 
 use crate::SessionFault;
@@ -141,7 +142,7 @@ fn reply_bytes(alloc: Global, reply: Reply) -> Result<List<u8>, NoMemory>
     }
 }
 
-/// Does what a child asks for, and gives the reply.
+/// Does what a child asks for, and gives the reply. For want of memory the filer is as it was.
 fn serve(
     filer: &mut Filer,
     printed: &mut List<Message>,
@@ -149,6 +150,7 @@ fn serve(
 ) -> Result<Reply, NoMemory>
     ensures reply { IfOk result (λ reply. reply ≡ reply_to filer.old request) }
     ensures filed { OnOk result (filer.new ≡ filed_after filer.old request) }
+    ensures unfiled { OnErr result (filer.new ≡ filer.old) }
     ensures printed { OnOk result (printed.new ≡ printed_after printed.old request) }
 {
     match request {
@@ -177,6 +179,7 @@ fn take_turn<C: Children>(
     ensures starts { (C.state children.new).starts ≡ (C.state children.old).starts }
     ensures live { (C.state children.new).live ≡ (C.state children.old).live }
     ensures attends { Told C.tells (Attends child (C.state children.old) (C.state children.new)) }
+    ensures served { Served request filer.old filer.new }
     ensures filed { OnOk result (filer.new ≡ filed_after filer.old request) }
     ensures printed { OnOk result (printed.new ≡ printed_after printed.old request) }
     ensures free { IsFree result }
@@ -190,9 +193,10 @@ fn take_turn<C: Children>(
 /// Shows a round to a child, and gives what it prints and whether its processor claims. What it creates is added to
 /// the files that were made before.
 ///
-/// `Unbuilt` comes exactly where the child's bytes are not the frames of a round, `TooManyQuestions` exactly where it asks
-/// once more than it may, and `ClaimBroken` exactly where it is done and says another thing than its processor declared
-/// with `Always` or `Never` (JSR 269, `Processor.process`). After each the filer has what was accepted up to then.
+/// Where the children tell what they say, `Unbuilt` comes exactly where the child's bytes are not the frames of a round,
+/// `TooManyQuestions` exactly where it asks once more than it may, and `ClaimBroken` exactly where it is done and says another
+/// thing than its processor declared with `Always` or `Never` (JSR 269, `Processor.process`). `Failed` is a fault of the
+/// children, and `Memory` want of memory. After each the filer has what was accepted up to then.
 pub fn show_round<C: Children>(
     alloc: Global,
     children: &mut C,
@@ -206,6 +210,7 @@ pub fn show_round<C: Children>(
     ensures live { (C.state children.new).live ≡ (C.state children.old).live }
     ensures attends { Told C.tells (Attends child (C.state children.old) (C.state children.new)) }
     ensures due { IsDue showing.now result }
+    ensures served { AllServed showing.now.limit filer.old filer.new }
     ensures shown { Shows C.Children child showing.now children.old children.new filer.old filer.new result }
 {
     let limit = showing.limit;

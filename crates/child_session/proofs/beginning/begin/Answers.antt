@@ -38,7 +38,7 @@ returns-in-Err-clause-begins g c = λ told.
     let tries = subst (λ n. Tries (n, command) before started (Ok c.in_ok-child.child)) name_is (c.in_ok-child.ensures.tried told) in
     subst (λ e. beginning.Begins (c.args.name.now, command) c.args.init.now before (C.state c.stop.new.self) (Err e)) (sym c.from.ensures)
     (begins_failed c.in_ok-child.child (c.args.name.now, command) c.args.init.now before started (C.state c.exchange.new.children) (c.in_ok-child.ensures.unknown told) (c.in_ok-child.ensures.says told) begins.begun begins.others tries.ok
-    (c.exchange.ensures.attends told) (C.state c.stop.new.self) (c.stop.ensures.attends told) (c.stop.ensures.starts ∙ c.exchange.ensures.starts ∙ c.in_ok-child.ensures.starts.rose) c.in-Err.fault)
+    (c.exchange.ensures.attends told) (C.state c.stop.new.self) (c.stop.ensures.attends told) (c.stop.ensures.sent told) (c.stop.ensures.starts ∙ c.exchange.ensures.starts ∙ c.in_ok-child.ensures.starts.rose) c.in-Err.fault (c.in-Err.ensures.sent told))
 
 pub returns-in_default-clause-begins : goal.returns-in_default-clause-begins
 returns-in_default-clause-begins g c = λ told.
