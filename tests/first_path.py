@@ -340,6 +340,24 @@ def a_claim_that_is_broken(project):
 
 
 @case
+def any_names_that_a_processor_supports(project):
+    hello = by_hand("00000016 40 00000002 00000001 2a 00000003") + b"q.*" + by_hand("00000000 01")
+    steps = ["read", say(hello), *["read", say(by_hand("00000002 41 00"))] * 2, "rest"]
+    run = project.run(project.scripted(steps))
+    expect("the output", run.output, REPORT_OF_NO_FILE)
+    expect("the status", run.status, DONE_STATUS)
+    expect("what the child was sent", project.sent(), INIT + FIRST_ROUND + LAST_ROUND)
+
+
+@case
+def options_that_a_processor_supports(project):
+    hello = by_hand("00000016 40 00000001 00000003 712e41 00000001 00000001 6b 02")
+    run = project.run(project.scripted(["read", say(hello), *["read", say(DONE)] * 2, "rest"]))
+    expect("the output", run.output, REPORT_OF_NO_FILE)
+    expect("the status", run.status, DONE_STATUS)
+
+
+@case
 def a_done_with_one_byte_more(project):
     steps = ["read", say(HELLO), "read", say(by_hand("00000003 410100")), "rest"]
     refused(project, project.scripted(steps), UNBUILT_TALK, "UnbuiltTalk(maker)")

@@ -1,39 +1,42 @@
 -- From what was spelled to what a build leaves.
-use Rattle.std.proofs.Common.{◌≡◌, ◌≢◌, ℕ, zero, suc, ◌<◌, ◌^◌, List, [], ◌∷◌, length, map, get_or, All, Option, None, Some, Result, Ok, Err, inl, refl, sym, ap, ◌∙◌, subst, Contains, arith}
+use Rattle.std.proofs.Common.{◌≡◌, ◌≢◌, ℕ, zero, suc, ◌<◌, ◌^◌, List, [], ◌∷◌, length, map, get_or, All, None, Result, Ok, Err, inl, inr, refl, sym, ap, ◌∙◌, subst, Contains, append-nil, arith}
 use Rattle.std.specs.Prelude.{AllPairs, ◌+◌, ◌==◌, cond, not, Bool, true, false}
 use Rattle.std.specs.FinMap as fin
 use Rattle.std.proofs.lemmas.List.Elements.{All-head, All-tail, All-cons}
 use Rattle.std.proofs.lemmas.List.{length-map}
 use Rattle.apt_outside.specs.Count.{Told}
 use Rattle.apt_outside.specs.Files.{Files, file_at}
-use Rattle.apt_outside.specs.Child.{Says, Try, State, AllKept}
-use Rattle.tree_store.specs.declared.record.StoredFile.{StoredFile}
+use Rattle.apt_outside.specs.Child.{Says, Try, State}
+use Rattle.tree_store.specs.declared.fault.StoreFault.{StoreFault}
+use Rattle.tree_store.specs.declared.fault.StoreFault.TheVariants as store
 use Rattle.apt_base.specs.Fields.{is_text}
 use Rattle.tree_store.specs.RecordFormat.{record_form, IsEntry}
-use Rattle.tree_store.specs.Output.{store_path, record_path, output_of, StoresStand}
+use Rattle.tree_store.specs.Output.{store_path, output_of, StoresStand}
 use Rattle.tree_store.specs.Storing.{Numbered, paths_of, AreTaken, AreDistinct, AreAbsent, ChangesAmong, Holds}
 use Rattle.tree_store.proofs.OutputLemmas.{output_of-record_form, from_entries-entries}
 use Rattle.tree_store.proofs.Publishing.{absent_from_taken, Holds-written}
 use Rattle.round_engine.specs.declared.numbering.Made.{Made}
 use Rattle.round_engine.specs.Numbering.{AreLeast}
 use Rattle.round_engine.specs.declared.running.Finished.{Finished}
-use Rattle.round_engine.specs.Refusals.{Refusal, Tree}
+use Rattle.round_engine.specs.Refusals.{Refusal, Tree, Sink, Children}
 use Rattle.element_table.specs.TypeTable.{TypeTable}
-use Rattle.round_engine.specs.Run.{files_among}
-use Rattle.round_engine.specs.Clean.{AreNumbered, is_error, is_warning, count_of}
+use Rattle.round_engine.specs.Units.{and_then}
+use Rattle.round_engine.specs.Run.{files_among, run_of}
+use Rattle.round_engine.specs.Clean.{AreNumbered, ShowsWhole, Talked, is_error, is_warning, count_of}
 use Rattle.round_engine.proofs.NumberingLemmas.{All-from_AreLeast, AllPairs-from_AreLeast}
 use Rattle.apt_host.specs.declared.status.Status.{Status}
 use Rattle.apt_host.specs.Words.{Build}
-use Rattle.apt_host.specs.Project.{units_of}
-use Rattle.apt_host.specs.CleanBuild.{Summary, summary, Outcome, outcome_of, outcome_of_run, clean}
+use Rattle.apt_host.specs.Project.{Read, plan_by, read_as, read_of, units_of}
+use Rattle.apt_host.specs.CleanBuild.{Summary, summary, Outcome, names_in, outcome_of, outcome_of_run, clean}
 use Rattle.apt_host.specs.CleanBuild as outcome
 use Rattle.apt_host.specs.Report.{report_of, errors_report, report_text}
-use Rattle.apt_host.specs.Verdicts.{Verdict, Done, Errors, Refused, Failed, Memory, is_free, is_tree, fails, OrFree, verdict, verdict_of}
+use Rattle.apt_host.specs.Verdicts.{Verdict, Done, Errors, Refused, Failed, Memory, is_free, has_run, is_tree, is_children, fails, OrFree, verdict, verdict_of}
 use Rattle.apt_host.specs.Listed.{listed, entry_of, numbered_of, file_of, Gains, GainsFirst, Places, FitsEntry}
+use Rattle.apt_host.specs.Endings.{of_store, EndsEarly}
 use Rattle.apt_host.specs.Entering.{RefusesAs}
-use Rattle.apt_host.specs.Making.{ShowsRunOver, count_of_processors, name_of, finished_summary, concluded, concluding_report, outcome_with, Makes, TalkedBy}
-use Rattle.apt_host.specs.Promises.{Talked, ToldOf, Answers, Stores, Publishes, PublishesOutcome, PublishesClean, Leaves, LeavesUndone, StoresOutcome, StoresFirst, IsFront, Reports, Adds, TellsMore, ShowsOver}
-use Rattle.apt_host.proofs.MakingLemmas.{outcome_is}
+use Rattle.apt_host.specs.Making.{finished_summary, concluded, concluding_report, outcome_with, Makes}
+use Rattle.apt_host.specs.Promises.{TalkedOf, ToldOf, Answers, Stores, Publishes, PublishesOutcome, PublishesClean, Leaves, LeavesUndone, StoresOutcome, StoresFirst, IsFront, Reports, Adds, Starts, Tries, TellsMore, ShowsBy, ShowsOver}
+use Rattle.apt_host.proofs.MakingLemmas.{talked_then}
 use Rattle.apt_host.proofs.Writing.{talked, front_more}
 use Rattle.apt_host.proofs.Leaving.{stands_by}
 
@@ -147,8 +150,8 @@ module _ (taken : List ℕ) (finished : Finished) (numbered : AreNumbered taken 
         (λ ne. stands_by v old new ne leaves_all stand)
 
 -- the report of a build in which no error was printed
-pub report_is : (processor : List ℕ) (finished : Finished) → finished.errors ≡ 0 → report_of (finished_summary processor finished) (map listed (map entry_of finished.files)) ≡ concluding_report processor finished
-report_is processor finished none = sym (ap (λ n. cond (n == 0) (report_of (finished_summary processor finished) (map listed (map entry_of finished.files))) (errors_report (finished_summary processor finished))) none)
+pub report_is : (processors : List (List ℕ)) (finished : Finished) → finished.errors ≡ 0 → report_of (finished_summary processors finished) (map listed (map entry_of finished.files)) ≡ concluding_report processors finished
+report_is processors finished none = sym (ap (λ n. cond (n == 0) (report_of (finished_summary processors finished) (map listed (map entry_of finished.files))) (errors_report (finished_summary processors finished))) none)
 
 -- ---- a build that ended before its run was finished
 
@@ -156,98 +159,153 @@ by_case : {P : Type 0} (b : Bool) → (b ≡ true → P) → (b ≡ false → P)
 by_case true first second = first refl
 by_case false first second = second refl
 
-module _ (tells talks : Bool) (processor : Option Try) (says : Says) (project : Files) where
+-- what is read of a project with these processors, once its sources are entered
+abbrev read_with : List Try → Result TypeTable Refusal → Result Read Refusal
+read_with processors entered = and_then entered (λ table. Ok (read_as processors table))
+
+module _ (tells talks : Bool) (processors : List Try) (says : Says) (project : Files) where
   -- a source is refused, or the tree failed or memory was wanted
-  answer_of_read : (v : Verdict) → RefusesAs (units_of project) v → OrFree (verdict_of (clean says processor project)) v
+  answer_of_read : (v : Verdict) → RefusesAs (units_of project) v → OrFree (verdict_of (clean says processors project)) v
   answer_of_read Done refuses = absurd refuses
   answer_of_read (Errors count) refuses = absurd refuses
-  answer_of_read (Refused refusal) refuses = λ free. sym (ap (λ o. verdict_of (outcome_of says processor o)) refuses)
+  answer_of_read (Refused refusal) refuses = λ free. sym (ap (λ o. verdict_of (outcome_of says (read_with processors o))) refuses)
   answer_of_read (Failed object) refuses = λ free. absurd cc
   answer_of_read Memory refuses = λ free. absurd cc
 
-  pub answers_read : (v : Verdict) → Told tells (RefusesAs (units_of project) v) → Answers tells talks (Build processor) says project v
-  answers_read v refuses = λ told. talked talks processor (units_of project) _ (answer_of_read v (refuses told))
+  pub answers_read : (v : Verdict) → Told tells (RefusesAs (units_of project) v) → Answers tells talks (Build processors) says project v
+  answers_read v refuses = λ told. talked talks (read_of processors project) _ (answer_of_read v (refuses told))
 
-  pub answers_free : (v : Verdict) → is_free v ≡ true → Answers tells talks (Build processor) says project v
-  answers_free v free = λ told. talked talks processor (units_of project) _ (λ unfree. absurd (let e : true ≡ false = sym free ∙ unfree in cc))
+  pub answers_free : (v : Verdict) → is_free v ≡ true → Answers tells talks (Build processors) says project v
+  answers_free v free = λ told. talked talks (read_of processors project) _ (λ unfree. absurd (let e : true ≡ false = sym free ∙ unfree in cc))
 
-  pub publishes_not : (new : Files) (v : Verdict) → v ≢ Done → PublishesClean tells talks (Build processor) says project new v
-  publishes_not new v ne = λ told. talked talks processor (units_of project) _ (λ done. absurd (ne done))
+  pub publishes_not : (new : Files) (v : Verdict) → v ≢ Done → PublishesClean tells talks (Build processors) says project new v
+  publishes_not new v ne = λ told. talked talks (read_of processors project) _ (λ done. absurd (ne done))
+
+-- the whole run was shown
+shows_whole : (P Q : Type 0) (v : Verdict) → P → ShowsBy v P Q
+shows_whole P Q Done p = p
+shows_whole P Q (Errors count) p = p
+shows_whole P Q (Refused refusal) p = p
+shows_whole P Q (Failed Tree) p = inl p
+shows_whole P Q (Failed Sink) p = p
+shows_whole P Q (Failed (Children processor)) p = tt
+shows_whole P Q Memory p = tt
+
+-- a run ended early
+shows_early : (P Q : Type 0) (v : Verdict) → EndsEarly is_children v → (is_free v ≡ false → P) → ShowsBy v P Q
+shows_early P Q Done early shown = absurd early
+shows_early P Q (Errors count) early shown = absurd early
+shows_early P Q (Refused refusal) early shown = shown refl
+shows_early P Q (Failed Tree) early shown = absurd (let e : false ≡ true = early in cc)
+shows_early P Q (Failed Sink) early shown = absurd (let e : false ≡ true = early in cc)
+shows_early P Q (Failed (Children processor)) early shown = tt
+shows_early P Q Memory early shown = tt
 
 -- nothing was shown to a child
-unread_over : (processor : Option Try) (entered : Result TypeTable Refusal) (state : State) (v : Verdict) → RefusesAs entered v → ShowsOver processor entered state state v
-unread_over None entered state v refuses = tt
-unread_over (Some processor) (Err refusal) state v refuses = λ k. refl
-unread_over (Some processor) (Ok table) state Done refuses = absurd refuses
-unread_over (Some processor) (Ok table) state (Errors count) refuses = absurd refuses
-unread_over (Some processor) (Ok table) state (Refused refusal) refuses = absurd (let e : Ok table ≡ Err refusal = refuses in cc)
-unread_over (Some processor) (Ok table) state (Failed object) refuses = λ free. absurd cc
-unread_over (Some processor) (Ok table) state Memory refuses = λ free. absurd cc
+unread_over : (processors : List Try) (entered : Result TypeTable Refusal) (state : State) (v : Verdict) → RefusesAs entered v → ShowsOver (read_with processors entered) state state v
+unread_over processors (Err refusal) state v refuses = λ k. refl
+unread_over processors (Ok table) state Done refuses = absurd refuses
+unread_over processors (Ok table) state (Errors count) refuses = absurd refuses
+unread_over processors (Ok table) state (Refused refusal) refuses = absurd (let e : Ok table ≡ Err refusal = refuses in cc)
+unread_over processors (Ok table) state (Failed Tree) refuses = inr refl
+unread_over processors (Ok table) state (Failed Sink) refuses = absurd (let e : false ≡ true = refuses in cc)
+unread_over processors (Ok table) state (Failed (Children processor)) refuses = tt
+unread_over processors (Ok table) state Memory refuses = tt
 
-free_over : (processor : Option Try) (entered : Result TypeTable Refusal) (state : State) (v : Verdict) → is_free v ≡ true → ShowsOver processor entered state state v
-free_over None entered state v free = tt
-free_over (Some processor) (Err refusal) state v free = λ k. refl
-free_over (Some processor) (Ok table) state v free = λ unfree. absurd (let e : true ≡ false = sym free ∙ unfree in cc)
+pub shows_unread : (processors : List Try) (project : Files) (state : State) (v : Verdict) → RefusesAs (units_of project) v → ShowsOver (read_of processors project) state state v
+shows_unread processors project state v refuses = unread_over processors (units_of project) state v refuses
+
+pub shows_store : (read : Result Read Refusal) (state : State) (fault : StoreFault) → ShowsOver read state state (verdict (of_store fault))
+shows_store (Err refusal) state fault = λ k. refl
+shows_store (Ok read) state store.Failed = inr refl
+shows_store (Ok read) state store.Memory = tt
+
+pub shows_memory : (read : Result Read Refusal) (state : State) → ShowsOver read state state Memory
+shows_memory (Err refusal) state = λ k. refl
+shows_memory (Ok read) state = tt
+
+-- no child was started or tried for a build that stops before its run
+pub starts_none : (processors : List Try) (state : State) (v : Verdict) → has_run v ≡ false → Starts (Build processors) v state state
+starts_none processors state v stops = record { finished = λ run. absurd (let e : true ≡ false = sym run ∙ stops in cc); least = omega arith; most = omega arith }
+
+pub tells_none : (processors : List Try) (state : State) → TellsMore (Build processors) state state
+tells_none processors state = record { group = []; few = omega arith; tells = record { different = tt; unknown = tt; others = λ child outside. refl } }
+
+pub tries_none : (processors : List Try) (state : State) → Tries (Build processors) state state
+tries_none processors state = record { count = 0; few = omega arith; tried = sym (append-nil state.tried) }
+
+-- a project whose sources were entered is not refused
+pub read_not_refused : (processors : List Try) (project : Files) (table : TypeTable) (refusal : Refusal) → units_of project ≡ Ok table → read_of processors project ≢ Err refusal
+read_not_refused processors project table refusal is e = let same : Ok (read_as processors table) ≡ Err refusal = sym (ap (read_with processors) is) ∙ e in cc
 
 -- ---- a build whose run is known
 
-made_of : (talks : Bool) (processor : Option Try) (M : Type 0) → TalkedBy talks processor M → talks ≡ true → M
-made_of talks None M makes told = makes
-made_of talks (Some processor) M makes told = makes told
+made_of : (talks : Bool) (processors : List Try) (M : Type 0) → Talked talks processors M → talks ≡ true → M
+made_of talks [] M makes told = makes
+made_of talks (processor ∷ others) M makes told = makes told
 
-talked_over : (talks : Bool) (processor : Option Try) (entered : Result TypeTable Refusal) (table : TypeTable) (M P : Type 0) → entered ≡ Ok table → TalkedBy talks processor M → (M → P) → Talked talks processor entered P
-talked_over talks None entered table M P is makes then = then makes
-talked_over talks (Some processor) (Err refusal) table M P is makes then = absurd (let e : Err refusal ≡ Ok table = is in cc)
-talked_over talks (Some processor) (Ok others) table M P is makes then = λ told. then (makes told)
+talked_over : (talks : Bool) (processors : List Try) (entered : Result TypeTable Refusal) (table : TypeTable) (M P : Type 0) → entered ≡ Ok table → Talked talks processors M → (M → P) → TalkedOf talks (read_with processors entered) P
+talked_over talks processors entered table M P is makes then = subst (λ o. TalkedOf talks (read_with processors o) P) (sym is) (talked_then talks processors M P makes then)
 
 -- the frames of a run over this table
-shown_over : (processor : Option Try) (entered : Result TypeTable Refusal) (table : TypeTable) (before after : State) (v : Verdict) → entered ≡ Ok table → (is_free v ≡ false → ShowsRunOver processor table before after) → ShowsOver processor entered before after v
-shown_over None entered table before after v is shown = tt
-shown_over (Some processor) entered table before after v is shown = subst (λ o. ShowsOver (Some processor) o before after v) (sym is) shown
+shown_over : (processors : List Try) (entered : Result TypeTable Refusal) (table : TypeTable) (before after : State) (v : Verdict) → entered ≡ Ok table
+    → ShowsBy v (ShowsWhole processors (run_of before.says (plan_by processors) table) before after) (after ≡ before) → ShowsOver (read_with processors entered) before after v
+shown_over processors entered table before after v is shown = subst (λ o. ShowsOver (read_with processors o) before after v) (sym is) shown
 
-module _ (tells talks : Bool) (processor : Option Try) (project : Files) (table : TypeTable) (before after : State) (is : Told tells (units_of project ≡ Ok table)) where
+module _ (tells talks : Bool) (processors : List Try) (project : Files) (table : TypeTable) (before after : State) (is : Told tells (units_of project ≡ Ok table)) where
+  abbrev MakesAs : Result Finished Status → Type 0
+  MakesAs result = Makes (read_as processors table) before after result
+
   -- a run that was refused
-  module _ (status : Status) (makes : TalkedBy talks processor (Makes processor table before after (Err status))) where
+  module _ (status : Status) (makes : Talked talks processors (MakesAs (Err status))) where
     abbrev MakesHere : Type 0
-    MakesHere = Makes processor table before after (Err status)
+    MakesHere = MakesAs (Err status)
 
-    pub answers_refused : Answers tells talks (Build processor) before.says project (verdict status)
-    answers_refused = λ told. talked_over talks processor (units_of project) table MakesHere _ (is told) makes
-        (λ m. subst (λ o. OrFree (verdict_of (outcome_of before.says processor o)) (verdict status)) (sym (is told)) m.comes)
+    pub answers_refused : Answers tells talks (Build processors) before.says project (verdict status)
+    answers_refused = λ told. talked_over talks processors (units_of project) table MakesHere _ (is told) makes
+        (λ m. subst (λ o. OrFree (verdict_of (outcome_of before.says (read_with processors o))) (verdict status)) (sym (is told)) m.comes)
 
-    pub shown_refused : Told tells (Told talks (ShowsOver processor (units_of project) before after (verdict status)))
-    shown_refused = λ told said. shown_over processor (units_of project) table before after (verdict status) (is told) (λ free. (made_of talks processor MakesHere makes said).shown (ap not free))
+    pub shown_refused : EndsEarly is_children (verdict status) → Told tells (Told talks (ShowsOver (read_of processors project) before after (verdict status)))
+    shown_refused early = λ told said. shown_over processors (units_of project) table before after (verdict status) (is told)
+        (shows_early (ShowsWhole processors (run_of before.says (plan_by processors) table) before after) (after ≡ before) (verdict status) early (λ free. (made_of talks processors MakesHere makes said).shown (ap not free)))
 
-    pub more_refused : Told talks (TellsMore (Build processor) before after)
-    more_refused = λ said. (made_of talks processor MakesHere makes said).more
+    pub more_refused : Told talks (TellsMore (Build processors) before after)
+    more_refused = λ said. (made_of talks processors MakesHere makes said).more
 
   -- a run that was finished
-  module _ (taken : List ℕ) (finished : Finished) (numbered : AreNumbered taken finished.files) (makes : TalkedBy talks processor (Makes processor table before after (Ok finished))) where
+  module _ (taken : List ℕ) (finished : Finished) (numbered : AreNumbered taken finished.files) (makes : Talked talks processors (MakesAs (Ok finished))) where
     abbrev MadeHere : Type 0
-    MadeHere = Makes processor table before after (Ok finished)
+    MadeHere = MakesAs (Ok finished)
+
+    abbrev names_here : List (List ℕ)
+    names_here = names_in (plan_by processors)
 
     abbrev summary_here : Summary
-    summary_here = finished_summary (name_of processor) finished
+    summary_here = finished_summary names_here finished
 
     abbrev outcome_here : Outcome
-    outcome_here = outcome_with (name_of processor) finished numbered.published
+    outcome_here = outcome_with names_here finished numbered.published
 
-    summed : MadeHere → summary (count_of_processors processor) finished.rounds (name_of processor) finished.messages finished.unread ≡ summary_here
-    summed m = ap (λ n. record { started = n; rounds = finished.rounds; processor = name_of processor; messages = finished.messages; unread = finished.unread; errors = count_of is_error finished.messages; warnings = count_of is_warning finished.messages + length finished.unread }) (sym m.comes.starts)
-        ∙ ap (λ n. record { started = finished.started; rounds = finished.rounds; processor = name_of processor; messages = finished.messages; unread = finished.unread; errors = n; warnings = count_of is_warning finished.messages + length finished.unread }) (sym m.comes.has.errors)
-        ∙ ap (λ n. record { started = finished.started; rounds = finished.rounds; processor = name_of processor; messages = finished.messages; unread = finished.unread; errors = finished.errors; warnings = n }) (sym m.comes.has.warnings)
+    -- as many children were started as there are names
+    started_is : MadeHere → length names_here ≡ finished.started
+    started_is m = length-map processors (λ (processor : Try). processor.0) ∙ sym m.comes.started
+
+    summed : MadeHere → summary names_here finished.rounds finished.messages finished.unread ≡ summary_here
+    summed m = ap (λ n. record { started = n; rounds = finished.rounds; processors = names_here; messages = finished.messages; unread = finished.unread; errors = count_of is_error finished.messages; warnings = count_of is_warning finished.messages + length finished.unread }) (started_is m)
+        ∙ ap (λ n. record { started = finished.started; rounds = finished.rounds; processors = names_here; messages = finished.messages; unread = finished.unread; errors = n; warnings = count_of is_warning finished.messages + length finished.unread }) (sym m.comes.has.errors)
+        ∙ ap (λ n. record { started = finished.started; rounds = finished.rounds; processors = names_here; messages = finished.messages; unread = finished.unread; errors = finished.errors; warnings = n }) (sym m.comes.has.warnings)
 
     -- the files that were made are those of the run
     files_are : (m : MadeHere) → files_among m.comes.made ≡ numbered.published
     files_are m = sym (from_entries-entries (files_among m.comes.made)) ∙ ap (λ es. fin.from_entries es) (sym m.comes.has.files ∙ numbered.entries) ∙ from_entries-entries numbered.published
 
     -- the clean build's outcome
-    outcome_is_here : tells ≡ true → MadeHere → outcome_here ≡ clean before.says processor project
-    outcome_is_here told m = sym (ap (outcome_of before.says processor) (is told) ∙ outcome_is before.says processor table ∙ ap (outcome_of_run (count_of_processors processor) (name_of processor)) m.comes.is
+    outcome_is_here : tells ≡ true → MadeHere → outcome_here ≡ clean before.says processors project
+    outcome_is_here told m = sym (ap (λ o. outcome_of before.says (read_with processors o)) (is told) ∙ ap (outcome_of_run (plan_by processors)) m.comes.is
         ∙ ap (λ s. outcome.finished s (files_among m.comes.made)) (summed m) ∙ ap (λ files. outcome.finished summary_here files) (files_are m))
 
-    pub outcome_told : ToldOf tells talks processor project (outcome_here ≡ clean before.says processor project)
-    outcome_told = λ told. talked_over talks processor (units_of project) table MadeHere _ (is told) makes (outcome_is_here told)
+    pub outcome_told : ToldOf tells talks processors project (outcome_here ≡ clean before.says processors project)
+    outcome_told = λ told. talked_over talks processors (units_of project) table MadeHere _ (is told) makes (outcome_is_here told)
 
     -- errors were printed, or none was
     some_errors : (finished.errors == 0) ≡ false → outcome_here ≡ outcome.Errors summary_here
@@ -263,7 +321,7 @@ module _ (tells talks : Bool) (processor : Option Try) (project : Files) (table 
     verdict_here = either (λ none. ap (λ b. cond b Done (Errors finished.errors)) none ∙ sym (ap verdict_of (no_errors none)))
         (λ some. ap (λ b. cond b Done (Errors finished.errors)) some ∙ sym (ap verdict_of (some_errors some)))
 
-    report_here : report_text outcome_here ≡ concluding_report (name_of processor) finished
+    report_here : report_text outcome_here ≡ concluding_report names_here finished
     report_here = either
         (λ none. ap report_text (no_errors none) ∙ ap (report_of summary_here) (sym (listed_are taken finished numbered numbered.published numbered.entries))
         ∙ sym (ap (λ b. cond b (report_of summary_here (map listed (map entry_of finished.files))) (errors_report summary_here)) none))
@@ -271,12 +329,13 @@ module _ (tells talks : Bool) (processor : Option Try) (project : Files) (table 
 
     module _ (v : Verdict) (answer : OrFree (concluded finished) v) where
       -- the verdict is that of the clean build
-      pub answers_finished : Answers tells talks (Build processor) before.says project v
-      answers_finished = λ told. talked_over talks processor (units_of project) table MadeHere _ (is told) makes
+      pub answers_finished : Answers tells talks (Build processors) before.says project v
+      answers_finished = λ told. talked_over talks processors (units_of project) table MadeHere _ (is told) makes
           (λ m. subst (λ o. OrFree (verdict_of o) v) (outcome_is_here told m) (subst (λ w. OrFree w v) verdict_here answer))
 
-      pub shown_finished : Told tells (Told talks (ShowsOver processor (units_of project) before after v))
-      shown_finished = λ told said. shown_over processor (units_of project) table before after v (is told) (λ free. (made_of talks processor MadeHere makes said).shown refl)
+      pub shown_finished : Told tells (Told talks (ShowsOver (read_of processors project) before after v))
+      shown_finished = λ told said. shown_over processors (units_of project) table before after v (is told)
+          (shows_whole (ShowsWhole processors (run_of before.says (plan_by processors) table) before after) (after ≡ before) v ((made_of talks processors MadeHere makes said).shown refl))
 
       module _ (old new : Files) (are : Told tells (AreTaken old taken)) (same : Told tells (old ≡ project)) where
         published_here : tells ≡ true → (v ≡ Done → Places (map numbered_of finished.files) (record_form (map entry_of finished.files)) old new) → v ≡ Done → PublishesOutcome outcome_here old new
@@ -285,8 +344,8 @@ module _ (tells talks : Bool) (processor : Option Try) (project : Files) (table 
             (λ some. absurd (let e : Done ≡ Errors finished.errors = sym done ∙ answer (ap is_free done) ∙ ap (λ b. cond b Done (Errors finished.errors)) some in cc))
 
         -- what a finished build published is the clean build's
-        pub publishes_finished : Told tells (v ≡ Done → Places (map numbered_of finished.files) (record_form (map entry_of finished.files)) old new) → PublishesClean tells talks (Build processor) before.says project new v
-        publishes_finished placed = λ told. talked_over talks processor (units_of project) table MadeHere _ (is told) makes
+        pub publishes_finished : Told tells (v ≡ Done → Places (map numbered_of finished.files) (record_form (map entry_of finished.files)) old new) → PublishesClean tells talks (Build processors) before.says project new v
+        publishes_finished placed = λ told. talked_over talks processors (units_of project) table MadeHere _ (is told) makes
             (λ m done. subst (λ o. PublishesOutcome o project new) (outcome_is_here told m) (subst (λ t. PublishesOutcome outcome_here t new) (same told) (published_here told (placed told) done)))
 
         stores_here : (text : List ℕ) → tells ≡ true → (fails is_tree v ≡ true → finished.errors ≡ 0) → GainsFirst v text (map numbered_of finished.files) old new → StoresFirst outcome_here v text project new
@@ -295,8 +354,8 @@ module _ (tells talks : Bool) (processor : Option Try) (project : Files) (table 
 
         -- what was written is the report of the outcome
         pub reports_finished : (rose : Type 0) (written written' : List ℕ) → (fails is_tree v ≡ true → finished.errors ≡ 0)
-            → Adds (λ text. IsFront ⊥ (concluding_report (name_of processor) finished) v text × Told tells (GainsFirst v text (map numbered_of finished.files) old new)) written written'
-            → Adds (Reports tells talks (Build processor) before.says project new v rose) written written'
+            → Adds (λ text. IsFront ⊥ (concluding_report names_here finished) v text × Told tells (GainsFirst v text (map numbered_of finished.files) old new)) written written'
+            → Adds (Reports tells talks (Build processors) before.says project new v rose) written written'
         reports_finished rose written written' none (text, (front, gains), added) = (
           text,
           record {
@@ -308,5 +367,5 @@ module _ (tells talks : Bool) (processor : Option Try) (project : Files) (table 
           added,
         )
 
-    pub more_finished : Told talks (TellsMore (Build processor) before after)
-    more_finished = λ said. (made_of talks processor MadeHere makes said).more
+    pub more_finished : Told talks (TellsMore (Build processors) before after)
+    more_finished = λ said. (made_of talks processors MadeHere makes said).more

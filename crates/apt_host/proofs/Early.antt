@@ -1,11 +1,11 @@
 -- What a part of a build that did not do its work is not.
-use Rattle.std.proofs.Common.{◌≡◌, ◌≢◌, ℕ, Bool, true, false, refl, sym, ◌∙◌, subst}
+use Rattle.std.proofs.Common.{◌≡◌, ◌≢◌, ℕ, Bool, false, None, refl, sym, ◌∙◌, subst}
 use Rattle.std.proofs.lemmas.Bool.{false≢true}
 use Rattle.tree_store.specs.declared.fault.StoreFault.{StoreFault}
 use Rattle.tree_store.specs.declared.fault.StoreFault.TheVariants as store
 use Rattle.round_engine.specs.Refusals.{BadWords, Object, Tree, Sink, Children}
-use Rattle.apt_host.specs.Verdicts.{Verdict, Done, Errors, Refused, Failed, Memory, verdict, is_finished, is_tree, is_sink, is_output, fails, OrFree}
-use Rattle.apt_host.specs.Endings.{of_store, EndsEarly, IsConcluded}
+use Rattle.apt_host.specs.Verdicts.{Verdict, Done, Errors, Refused, Failed, Memory, verdict, is_finished, has_run, is_tree, is_sink, named_in, fails}
+use Rattle.apt_host.specs.Endings.{of_store, EndsEarly}
 
 module _ (is : Object → Bool) where
   pub not_done_early : (v : Verdict) → EndsEarly is v → v ≢ Done
@@ -21,6 +21,15 @@ module _ (is : Object → Bool) where
   unfinished_early (Failed object) early = refl
   unfinished_early Memory early = refl
 
+  pub not_run_early : (v : Verdict) → is Sink ≡ false → EndsEarly is v → has_run v ≡ false
+  not_run_early Done other early = absurd early
+  not_run_early (Errors count) other early = absurd early
+  not_run_early (Refused refusal) other early = refl
+  not_run_early (Failed Tree) other early = refl
+  not_run_early (Failed Sink) other early = absurd (false≢true (sym other ∙ early))
+  not_run_early (Failed (Children processor)) other early = refl
+  not_run_early Memory other early = refl
+
   pub no_sink_early : (v : Verdict) → is Sink ≡ false → EndsEarly is v → fails is_sink v ≡ false
   no_sink_early Done other early = absurd early
   no_sink_early (Errors count) other early = absurd early
@@ -34,3 +43,7 @@ module _ (is : Object → Bool) where
 pub store_early : (fault : StoreFault) → EndsEarly is_tree (verdict (of_store fault))
 store_early store.Failed = refl
 store_early store.Memory = tt
+
+pub store_unnamed : (fault : StoreFault) → named_in (verdict (of_store fault)) ≡ None
+store_unnamed store.Failed = refl
+store_unnamed store.Memory = refl

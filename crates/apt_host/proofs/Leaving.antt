@@ -1,13 +1,15 @@
 -- What a build leaves in the tree, and whom its refusal names.
-use Rattle.std.proofs.Common.{◌≡◌, ◌≢◌, ℕ, List, refl, sym, ap, ◌∙◌, subst}
+use Rattle.std.proofs.Common.{◌≡◌, ◌≢◌, List, map, None, IfSome, Contains, Result, Ok, Err, refl, sym, ap, ◌∙◌, subst}
 use Rattle.apt_outside.specs.Files.{Files}
-use Rattle.tree_store.specs.Output.{output_of, StoresStand}
+use Rattle.apt_outside.specs.Child.{Try, State}
+use Rattle.tree_store.specs.Output.{StoresStand}
 use Rattle.tree_store.specs.Storing.{AddsToStore}
-use Rattle.round_engine.specs.Refusals.{Tree, Sink, Children}
+use Rattle.round_engine.specs.Refusals.{Refusal, BadWords, UnbuiltForm, UnbuiltTalk, TooManyQuestions, ClaimBroken, GeneratedDuplicate, TooManyRounds, TooLarge, Tree, Sink, Children}
 use Rattle.apt_host.specs.Words.{Request, Build, Bad}
-use Rattle.apt_host.specs.Verdicts.{Verdict, Done, Errors, Refused, Failed, Memory, OrFree, is_output}
-use Rattle.apt_host.specs.Endings.{EndsEarly}
-use Rattle.apt_host.specs.Promises.{Leaves, LeavesUndone, KeepsOutput, NamesChild, OffTable, Finishes}
+use Rattle.apt_host.specs.Verdicts.{Verdict, Done, Errors, Refused, Failed, Memory, OrFree, is_output, named_in}
+use Rattle.apt_host.specs.Endings.{IsConcluded}
+use Rattle.apt_host.specs.Project.{Read, read_of}
+use Rattle.apt_host.specs.Promises.{Leaves, NamesChild, Finishes, Starts, ShowsOver, ShowsRun, IsDue}
 use Rattle.apt_host.proofs.Writing.{memory_or_not}
 
 -- ---- the tree
@@ -41,8 +43,79 @@ stands_by v old new ne leaves stand = (leaves_memory v old new ne leaves).stand 
 pub not_done : (before after : Verdict) → Finishes before after → after ≡ Memory → before ≢ Done
 not_done before after finishes memory done = let e : Memory ≡ Done = sym memory ∙ (finishes.done (ap Rattle.apt_host.specs.Verdicts.is_finished done) ∙ done) in cc
 
+-- ---- the children
+
+-- a refusal whose line wants memory
+starts_memory : (request : Request) (v : Verdict) (old new : State) → Starts request v old new → Starts request Memory old new
+starts_memory request v old new starts = record { finished = λ run. absurd cc; least = starts.least; most = starts.most }
+
+pub starts_finish : (request : Request) (v w : Verdict) (old new : State) → Finishes v w → Starts request v old new → Starts request w old new
+starts_finish request v w old new finishes starts = memory_or_not w (Starts request w old new)
+    (λ memory. subst (λ u. Starts request u old new) (sym memory) (starts_memory request v old new starts))
+    (λ ne. subst (λ u. Starts request u old new) (sym (finishes.same ne)) starts)
+
+shown_memory : (read : Result Read Refusal) (v : Verdict) (old new : State) → ShowsOver read old new v → ShowsOver read old new Memory
+shown_memory (Err refusal) v old new shown = shown
+shown_memory (Ok read) v old new shown = tt
+
+shows_run_memory : (request : Request) (project : Files) (v : Verdict) (old new : State) → ShowsRun request project old new v → ShowsRun request project old new Memory
+shows_run_memory (Build processors) project v old new shown = shown_memory (read_of processors project) v old new shown
+shows_run_memory (Bad at) project v old new shown = tt
+
+pub shows_finish : (request : Request) (project : Files) (v w : Verdict) (old new : State) → Finishes v w → ShowsRun request project old new v → ShowsRun request project old new w
+shows_finish request project v w old new finishes shown = memory_or_not w (ShowsRun request project old new w)
+    (λ memory. subst (λ u. ShowsRun request project old new u) (sym memory) (shows_run_memory request project v old new shown))
+    (λ ne. subst (λ u. ShowsRun request project old new u) (sym (finishes.same ne)) shown)
+
 -- ---- the name
 
-names_memory : (request : Request) → NamesChild request Memory
-names_memory (Build processor) = tt
-names_memory (Bad at) = tt
+-- no processor is named for want of memory
+pub names_memory : (request : Request) → NamesChild request Memory
+names_memory (Build processors) = tt
+names_memory (Bad at) = refl
+
+-- a verdict that names none names none but these
+pub names_none : (processors : List Try) (v : Verdict) → named_in v ≡ None → NamesChild (Build processors) v
+names_none processors v none = subst (λ name. IfSome name (Contains (map (λ (processor : Try). processor.0) processors))) (sym none) tt
+
+pub names_concluded : (processors : List Try) (v : Verdict) → IsConcluded v → NamesChild (Build processors) v
+names_concluded processors Done concluded = tt
+names_concluded processors (Errors count) concluded = tt
+names_concluded processors (Refused refusal) concluded = absurd concluded
+names_concluded processors (Failed Tree) concluded = tt
+names_concluded processors (Failed Sink) concluded = tt
+names_concluded processors (Failed (Children processor)) concluded = absurd cc
+names_concluded processors Memory concluded = tt
+
+pub names_finish : (request : Request) (v w : Verdict) → Finishes v w → NamesChild request v → NamesChild request w
+names_finish request v w finishes named = memory_or_not w (NamesChild request w)
+    (λ memory. subst (λ u. NamesChild request u) (sym memory) (names_memory request))
+    (λ ne. subst (λ u. NamesChild request u) (sym (finishes.same ne)) named)
+
+-- ---- what is due
+
+pub due_unnamed : (v : Verdict) → named_in v ≡ None → IsDue v
+due_unnamed Done none = tt
+due_unnamed (Errors count) none = tt
+due_unnamed (Refused (BadWords at)) none = tt
+due_unnamed (Refused (UnbuiltForm path)) none = tt
+due_unnamed (Refused (UnbuiltTalk processor)) none = tt
+due_unnamed (Refused (TooManyQuestions processor most)) none = absurd cc
+due_unnamed (Refused (ClaimBroken processor declared said)) none = absurd cc
+due_unnamed (Refused (GeneratedDuplicate name)) none = tt
+due_unnamed (Refused TooManyRounds) none = tt
+due_unnamed (Refused (TooLarge what limit)) none = tt
+due_unnamed (Failed object) none = tt
+due_unnamed Memory none = tt
+
+pub due_concluded : (v : Verdict) → IsConcluded v → IsDue v
+due_concluded Done concluded = tt
+due_concluded (Errors count) concluded = tt
+due_concluded (Refused refusal) concluded = absurd concluded
+due_concluded (Failed object) concluded = tt
+due_concluded Memory concluded = tt
+
+pub due_finish : (v w : Verdict) → Finishes v w → IsDue v → IsDue w
+due_finish v w finishes due = memory_or_not w (IsDue w)
+    (λ memory. subst IsDue (sym memory) tt)
+    (λ ne. subst IsDue (sym (finishes.same ne)) due)

@@ -1,5 +1,5 @@
 -- How sources are entered one by one.
-use Rattle.std.proofs.Common.{◌≡◌, ℕ, suc, ◌+◌, ◌<◌, ◌≤◌, Bool, true, false, cond, List, [], ◌∷◌, ◌++◌, drop, length, get_or, Result, Ok, Err, inl, inr, refl, sym, ap, ◌∙◌, subst, drop-cons, add-one, arith}
+use Rattle.std.proofs.Common.{◌≡◌, ℕ, suc, ◌+◌, ◌<◌, ◌≤◌, Bool, true, false, cond, List, [], ◌∷◌, ◌++◌, length, Result, Ok, Err, inl, inr, refl, sym, ap, ◌∙◌, subst, arith}
 use Rattle.std.specs.Prelude.{nat_lt}
 use Rattle.std.proofs.lemmas.Bool.{lt-ltb, le-ltb}
 use Rattle.apt_outside.specs.Files.{Files}
@@ -8,7 +8,6 @@ use Rattle.tree_store.specs.Sources.{sources_of}
 use Rattle.tree_store.specs.declared.sources.RawSource.{RawSource}
 use Rattle.round_engine.specs.declared.source_fault.SourceFault.{SourceFault}
 use Rattle.round_engine.specs.declared.source_fault.SourceFault.TheVariants as code
-use Rattle.round_engine.specs.Refusals as stop
 use Rattle.round_engine.specs.Refusals.{Refusal, UnbuiltForm, past}
 use Rattle.round_engine.specs.Units.{Obstacle, Unbuilt, Duplicate, TooLarge, Entered, enter_source, and_then}
 use Rattle.round_engine.specs.Entering.{Obstructs}

@@ -1,22 +1,19 @@
 -- What is written, by the verdict.
-use Rattle.std.proofs.Common.{◌≡◌, ◌≢◌, ◌⊎◌, ℕ, Bool, true, false, List, [], ◌++◌, Option, None, Some, Result, Ok, Err, refl, sym, ap, ◌∙◌, subst, inl, inr, take, append-nil, append_assoc}
+use Rattle.std.proofs.Common.{◌≡◌, ◌≢◌, ℕ, Bool, true, false, List, [], ◌∷◌, ◌++◌, Result, Ok, Err, refl, sym, ap, ◌∙◌, subst, inl, inr, take, append-nil, append_assoc}
 use Rattle.apt_outside.specs.Files.{Files}
 use Rattle.apt_outside.specs.Child.{Says, Try}
-use Rattle.tree_store.specs.declared.fault.StoreFault.{StoreFault}
-use Rattle.tree_store.specs.declared.fault.StoreFault.TheVariants as store
 use Rattle.apt_outside.specs.declared.fault.Fault.{Fault}
 use Rattle.apt_outside.specs.declared.fault.Fault.TheVariants as outside
 use Rattle.apt_outside.specs.Stream.{Appends}
-use Rattle.apt_host.specs.Endings.{of_store, sink_verdict}
-use Rattle.round_engine.specs.Refusals.{Refusal, BadWords, Object, Tree, Sink, Children}
-use Rattle.element_table.specs.TypeTable.{TypeTable}
+use Rattle.apt_host.specs.Endings.{sink_verdict}
+use Rattle.round_engine.specs.Refusals.{Refusal, BadWords, Tree, Sink, Children}
+use Rattle.round_engine.specs.Clean.{Talked}
 use Rattle.apt_host.specs.Words.{Request, Build, Bad}
-use Rattle.apt_host.specs.Project.{units_of}
+use Rattle.apt_host.specs.Project.{Read, read_of}
 use Rattle.apt_host.specs.CleanBuild.{Summary, Outcome, clean}
-use Rattle.apt_host.specs.Report.{report_of}
 use Rattle.apt_host.specs.CleanBuild as outcome
-use Rattle.apt_host.specs.Verdicts.{Verdict, verdict, Done, Errors, Refused, Failed, Memory, is_finished, is_sink, fails}
-use Rattle.apt_host.specs.Promises.{Talked, ToldOf, IsFront, IsLine, IsOutcome, Reports, Adds, Writes, Finishes}
+use Rattle.apt_host.specs.Verdicts.{Verdict, Done, Errors, Refused, Failed, Memory, is_finished, is_sink, fails}
+use Rattle.apt_host.specs.Promises.{TalkedOf, IsFront, IsLine, IsOutcome, Reports, Adds, Writes, Finishes}
 
 -- a status is want of memory, or it is not
 pub memory_or_not : (v : Verdict) (A : Type 0) → (v ≡ Memory → A) → (v ≢ Memory → A) → A
@@ -27,10 +24,13 @@ memory_or_not (Refused refusal) A is other = other (λ e. cc)
 memory_or_not (Failed object) A is other = other (λ e. cc)
 
 -- a fact that holds holds where it is told
-pub talked : (talks : Bool) (processor : Option Try) (entered : Result TypeTable Refusal) (P : Type 0) → P → Talked talks processor entered P
-talked talks None entered P p = p
-talked talks (Some processor) (Err refusal) P p = p
-talked talks (Some processor) (Ok table) P p = λ told. p
+talked_by : (talks : Bool) (processors : List Try) (P : Type 0) → P → Talked talks processors P
+talked_by talks [] P p = p
+talked_by talks (processor ∷ others) P p = λ told. p
+
+pub talked : (talks : Bool) (read : Result Read Refusal) (P : Type 0) → P → TalkedOf talks read P
+talked talks (Err refusal) P p = p
+talked talks (Ok read) P p = talked_by talks read.plan.processors P p
 
 -- ---- the report
 
@@ -110,12 +110,12 @@ module _ (tells talks : Bool) (request : Request) (says : Says) (project project
   }
 
   outcome_for : Request → Outcome
-  outcome_for (Build processor) = clean says processor project
+  outcome_for (Build processors) = clean says processors project
   outcome_for (Bad at) = outcome.Refused (BadWords at)
 
   own_outcome : (r : Request) → IsOutcome tells talks r says project (outcome_for r)
   unfolding outcome_for
-  own_outcome (Build processor) = λ told. talked talks processor (units_of project) (clean says processor project ≡ clean says processor project) refl
+  own_outcome (Build processors) = λ told. talked talks (read_of processors project) (clean says processors project ≡ clean says processors project) refl
   own_outcome (Bad at) = refl
 
   -- nothing was written yet

@@ -1,23 +1,21 @@
 -- What a build over a project gives, from nothing: the rounds run anew, whatever an earlier build left.
-use Rattle.std.specs.Prelude.{ℕ, ◌+◌, List, [], length, Option, None, Some, Result, Ok, Err, if◌then◌else◌, ◌==◌}
+use Rattle.std.specs.Prelude.{ℕ, ◌+◌, List, length, map, Result, Ok, Err, if◌then◌else◌, ◌==◌}
 use Rattle.apt_outside.specs.Files.{Files}
 use Rattle.apt_outside.specs.Child.{Says, Try}
 use Rattle.round_engine.specs.declared.messages.Placed.{Placed}
-use Rattle.element_table.specs.TypeTable.{TypeTable}
 use Rattle.round_engine.specs.Refusals.{Refusal}
-use Rattle.round_engine.specs.Run.{Run, files_among, run_of}
-use Rattle.round_engine.specs.Run as run
+use Rattle.round_engine.specs.Run.{Plan, Run, files_among, run_of}
 use Rattle.round_engine.specs.Clean.{is_error, is_warning, count_of}
-use Rattle.apt_host.specs.Project.{units_of}
+use Rattle.apt_host.specs.Project.{Read, read_of}
 
 -- what a report says of a run, beside its files
 pub record Summary : Type 0 where
-  -- how many children were started
+  -- how many children were started: one for each processor
   pub started : ℕ
   -- how many rounds there were, the last included
   pub rounds : ℕ
-  -- the name of the processor, and what it printed
-  pub processor : List ℕ
+  -- the names of the processors in order, and what they printed
+  pub processors : List (List ℕ)
   pub messages : List Placed
   -- the names of the sources that were created in the last round
   pub unread : List (List ℕ)
@@ -33,11 +31,11 @@ pub data Outcome : Type 0 where
   Built : (files : Files) (summary : Summary) → Outcome
 
 -- a source that is not read gives a warning too
-abbrev pub summary : ℕ → ℕ → List ℕ → List Placed → List (List ℕ) → Summary
-summary started rounds processor messages unread = record {
-  started = started;
+abbrev pub summary : List (List ℕ) → ℕ → List Placed → List (List ℕ) → Summary
+summary processors rounds messages unread = record {
+  started = length processors;
   rounds = rounds;
-  processor = processor;
+  processors = processors;
   messages = messages;
   unread = unread;
   errors = count_of is_error messages;
@@ -48,14 +46,18 @@ summary started rounds processor messages unread = record {
 abbrev pub finished : Summary → Files → Outcome
 finished s files = if s.errors == 0 then Built files s else Errors s
 
-abbrev pub outcome_of_run : ℕ → List ℕ → Run → Outcome
-outcome_of_run started processor (run.Finished sent rounds made messages unread) = finished (summary started rounds processor messages unread) (files_among made)
-outcome_of_run started processor (run.Refused sent refusal) = Refused refusal
+-- the names of the processors of a plan
+abbrev pub names_in : Plan → List (List ℕ)
+names_in plan = map (λ (processor : Try). processor.0) plan.processors
 
-abbrev pub outcome_of : Says → Option Try → Result TypeTable Refusal → Outcome
-outcome_of says processor (Err refusal) = Refused refusal
-outcome_of says None (Ok table) = outcome_of_run 0 [] (run.Finished [] 2 [] [] [])
-outcome_of says (Some processor) (Ok table) = outcome_of_run 1 processor.0 (run_of says processor table)
+-- a finished run has started one child for each processor
+abbrev pub outcome_of_run : Plan → Run → Outcome
+outcome_of_run plan (Ok run) = finished (summary (names_in plan) run.rounds run.messages run.unread) (files_among run.made)
+outcome_of_run plan (Err stopped) = Refused stopped.refusal
 
-abbrev pub clean : Says → Option Try → Files → Outcome
-clean says processor project = outcome_of says processor (units_of project)
+abbrev pub outcome_of : Says → Result Read Refusal → Outcome
+outcome_of says (Err refusal) = Refused refusal
+outcome_of says (Ok read) = outcome_of_run read.plan (run_of says read.plan read.table)
+
+abbrev pub clean : Says → List Try → Files → Outcome
+clean says processors project = outcome_of says (read_of processors project)

@@ -1,5 +1,5 @@
 -- What the report and the store have of a file that was made.
-use Rattle.std.specs.Prelude.{◌≡◌, ◌≢◌, ℕ, ◌<◌, ◌^◌, ◌-◌, Bool, List, [], length, map, All}
+use Rattle.std.specs.Prelude.{◌≡◌, ◌≢◌, ℕ, ◌<◌, ◌^◌, List, [], length, map, All}
 use Rattle.std.specs.FinMap as fin
 use Rattle.apt_outside.specs.Files.{Files}
 use Rattle.tree_store.specs.declared.record.StoredFile.{StoredFile}
@@ -37,12 +37,12 @@ file_of made = (made.path, made.bytes)
 abbrev pub FitsEntry : Made → Type 0
 FitsEntry made = (made.store < 2 ^ 32) × (length made.path < 2 ^ 32) × (length made.bytes < 2 ^ 32)
 
--- what a report says of a finished run
-abbrev pub summary_of : List ℕ → code.Summary → Summary
-summary_of processor summary = record {
+-- what a report says of a finished run of processors with these names
+abbrev pub summary_of : List (List ℕ) → code.Summary → Summary
+summary_of processors summary = record {
   started = summary.started;
   rounds = summary.rounds;
-  processor = processor;
+  processors = processors;
   messages = summary.messages;
   unread = summary.unread;
   errors = summary.errors;

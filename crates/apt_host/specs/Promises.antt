@@ -1,7 +1,7 @@
 -- What `run` promises, by what its words ask for.
-use Rattle.std.specs.Prelude.{◌≡◌, ◌≢◌, ◌⊎◌, ℕ, ◌+◌, ◌≤◌, Bool, true, false, List, [], ◌∷◌, ◌++◌, map, length, take, Option, None, Some, Result, Ok, Err}
+use Rattle.std.specs.Prelude.{◌≡◌, ◌≢◌, ◌⊎◌, ℕ, ◌+◌, ◌≤◌, Bool, true, List, [], ◌++◌, map, length, take, Contains, None, IfSome, Result, Ok, Err}
 use Rattle.std.specs.FinMap as fin
-use Rattle.apt_outside.specs.Count.{Rose, Told}
+use Rattle.apt_outside.specs.Count.{Told}
 use Rattle.apt_outside.specs.Files.{Files}
 use Rattle.apt_outside.specs.Child.{Says, Try, State, AllKept}
 use Rattle.tree_store.specs.declared.record.StoredFile.{StoredFile}
@@ -9,42 +9,42 @@ use Rattle.tree_store.specs.RecordFormat.{record_form}
 use Rattle.tree_store.specs.Output.{store_path, output_of, record_path, StoresStand}
 use Rattle.tree_store.specs.Storing.{Numbered, AreTaken, AddsToStore, ChangesAmong, Holds}
 use Rattle.round_engine.specs.Numbering.{AreLeast}
+use Rattle.round_engine.specs.Refusals as stop
 use Rattle.round_engine.specs.Refusals.{Refusal, BadWords, Object, Tree, Sink, Children}
-use Rattle.element_table.specs.TypeTable.{TypeTable}
 use Rattle.round_engine.specs.Run.{run_of}
-use Rattle.round_engine.specs.Shown.{ShowsNew, TellsOneMore}
-use Rattle.round_engine.specs.Clean.{frames_of}
+use Rattle.round_engine.specs.Shown as shown
+use Rattle.round_engine.specs.Shown.{TriesInOrder}
+use Rattle.round_engine.specs.Clean.{Talked, ShowsWhole}
 use Rattle.apt_host.specs.Words.{Request, Build, Bad}
-use Rattle.apt_host.specs.Project.{units_of}
+use Rattle.apt_host.specs.Project.{Read, read_of}
 use Rattle.apt_host.specs.CleanBuild.{Outcome, clean}
 use Rattle.apt_host.specs.CleanBuild as outcome
 use Rattle.apt_host.specs.Report.{report_text}
 use Rattle.apt_host.specs.Listed.{GainsFirst}
-use Rattle.apt_host.specs.Verdicts.{Verdict, Done, Errors, Refused, Failed, Memory, OrFree, OrMemory, is_free, is_finished, verdict_of, refusal_of}
+use Rattle.apt_host.specs.Verdicts.{Verdict, Done, Errors, Refused, Failed, Memory, OrFree, OrMemory, is_finished, has_run, named_in, verdict_of, refusal_of}
 
 -- ---- what is told
 
--- a fact on which what a child says bears, if a child is asked: the words name a processor, and the sources are read
-abbrev pub Talked : Bool → Option Try → Result TypeTable Refusal → Type 0 → Type 0
-Talked talks None entered P = P
-Talked talks (Some processor) (Err refusal) P = P
-Talked talks (Some processor) (Ok table) P = Told talks P
+-- a fact on which what children say bears, if a child is asked: the project is read, and has a processor
+abbrev pub TalkedOf : Bool → Result Read Refusal → Type 0 → Type 0
+TalkedOf talks (Err refusal) P = P
+TalkedOf talks (Ok read) P = Talked talks read.plan.processors P
 
 -- a fact of a build over this project, where the tree tells what it holds and the children what they say
-abbrev pub ToldOf : Bool → Bool → Option Try → Files → Type 0 → Type 0
-ToldOf tells talks processor project P = Told tells (Talked talks processor (units_of project) P)
+abbrev pub ToldOf : Bool → Bool → List Try → Files → Type 0 → Type 0
+ToldOf tells talks processors project P = Told tells (TalkedOf talks (read_of processors project) P)
 
 -- ---- the answer
 
 -- the answer to a request over a project is the clean build's, or that of words that no command has
 abbrev pub Answers : Bool → Bool → Request → Says → Files → Verdict → Type 0
-Answers tells talks (Build processor) says project v = ToldOf tells talks processor project (OrFree (verdict_of (clean says processor project)) v)
+Answers tells talks (Build processors) says project v = ToldOf tells talks processors project (OrFree (verdict_of (clean says processors project)) v)
 Answers tells talks (Bad at) says project v = OrMemory (Refused (BadWords at)) v
 
 -- Words that no command has leave the tree and the children as they were. No build answers that its words are such.
 abbrev pub OffTable : {T C : Type 0} → Request → Verdict → T → T → C → C → Type 0
 OffTable (Bad at) v tree tree' children children' = (tree' ≡ tree) × (children' ≡ children)
-OffTable (Build processor) v tree tree' children children' = (at : ℕ) → v ≢ Refused (BadWords at)
+OffTable (Build processors) v tree tree' children children' = (at : ℕ) → v ≢ Refused (BadWords at)
 
 -- ---- what is published
 
@@ -72,7 +72,7 @@ PublishesOutcome (outcome.Refused refusal) old new = ⊥
 
 -- a finished build published what the clean build gives
 abbrev pub PublishesClean : Bool → Bool → Request → Says → Files → Files → Verdict → Type 0
-PublishesClean tells talks (Build processor) says old new v = ToldOf tells talks processor old (v ≡ Done → PublishesOutcome (clean says processor old) old new)
+PublishesClean tells talks (Build processors) says old new v = ToldOf tells talks processors old (v ≡ Done → PublishesOutcome (clean says processors old) old new)
 PublishesClean tells talks (Bad at) says old new v = v ≢ Done
 
 -- after any other answer the former output stands
@@ -131,7 +131,7 @@ IsLine v rose line = (line ≡ refusal_of v) ⊎ ((v ≡ Memory) × (line ≡ []
 
 -- the outcome whose report is written: the clean build's, or that of words that no command has
 abbrev pub IsOutcome : Bool → Bool → Request → Says → Files → Outcome → Type 0
-IsOutcome tells talks (Build processor) says project o = ToldOf tells talks processor project (o ≡ clean says processor project)
+IsOutcome tells talks (Build processors) says project o = ToldOf tells talks processors project (o ≡ clean says processors project)
 IsOutcome tells talks (Bad at) says project o = o ≡ outcome.Refused (BadWords at)
 
 -- the store files of an outcome stand
@@ -171,56 +171,63 @@ pub record Finishes (before after : Verdict) : Type 0 where
 
 -- ---- what children are started and shown
 
--- how many children a finished build starts: the number of its mode line
+-- how many children a finished build starts, one for each processor: the number of its mode line
 abbrev pub started_of : Request → ℕ
-started_of (Build None) = 0
-started_of (Build (Some processor)) = 1
+started_of (Build processors) = length processors
 started_of (Bad at) = 0
 
 pub record Starts (request : Request) (v : Verdict) (old new : State) : Type 0 where
-  pub finished : is_finished v ≡ true → new.starts ≡ old.starts + started_of request
+  pub finished : has_run v ≡ true → new.starts ≡ old.starts + started_of request
+  pub least : old.starts ≤ new.starts
   pub most : new.starts ≤ old.starts + started_of request
 
--- no start but that of the processor that the words name was tried
+-- the starts of the processors were tried in order, up to one of them, and no other
 abbrev pub Tries : Request → State → State → Type 0
-Tries (Build (Some processor)) old new = (new.tried ≡ old.tried) ⊎ (new.tried ≡ old.tried ++ processor ∷ [])
-Tries (Build None) old new = new.tried ≡ old.tried
+Tries (Build processors) old new = TriesInOrder processors old new
 Tries (Bad at) old new = new.tried ≡ old.tried
 
--- where a source of the project is refused, no child is started
+-- where a project is refused, no child is started
 abbrev pub StartsUnread : Request → Files → State → State → Type 0
-StartsUnread (Build processor) project old new = (refusal : Refusal) → units_of project ≡ Err refusal → new.starts ≡ old.starts
+StartsUnread (Build processors) project old new = (refusal : Refusal) → read_of processors project ≡ Err refusal → new.starts ≡ old.starts
 StartsUnread (Bad at) project old new = new.starts ≡ old.starts
 
 -- nor is a start of one tried
 abbrev pub TriesUnread : Request → Files → State → State → Type 0
-TriesUnread (Build processor) project old new = (refusal : Refusal) → units_of project ≡ Err refusal → new.tried ≡ old.tried
+TriesUnread (Build processors) project old new = (refusal : Refusal) → read_of processors project ≡ Err refusal → new.tried ≡ old.tried
 TriesUnread (Bad at) project old new = new.tried ≡ old.tried
 
--- the processor that the words name, or none
-abbrev pub IsNamed : Option Try → List ℕ → Type 0
-IsNamed None name = ⊥
-IsNamed (Some processor) name = name ≡ processor.0
-
--- a fault of the children is told under the name of the processor
+-- a refusal or a fault of the children that names a processor names one of these
 abbrev pub NamesChild : Request → Verdict → Type 0
-NamesChild (Build processor) (Failed (Children name)) = IsNamed processor name
-NamesChild (Bad at) (Failed (Children name)) = ⊥
-NamesChild request other = Unit {0}
+NamesChild (Build processors) v = IfSome (named_in v) (Contains (map (λ (processor : Try). processor.0) processors))
+NamesChild (Bad at) v = named_in v ≡ None
 
--- nothing is told anew but of one child of which nothing was told before, and of none where none is started
+-- whatever the children tell, a refusal by a limit has that of some roots, and one by a claim that was broken broke it
+abbrev pub IsDue : Verdict → Type 0
+IsDue (Refused refusal) = shown.IsDueStop (stop.Refused refusal)
+IsDue other = Unit {0}
+
+-- nothing is told anew but of one child for each processor at most, of which nothing was told before
 abbrev pub TellsMore : Request → State → State → Type 0
-TellsMore (Build (Some processor)) old new = TellsOneMore old new
-TellsMore (Build None) old new = AllKept old.known new.known
+TellsMore (Build processors) old new = shown.TellsMore (length processors) old new
 TellsMore (Bad at) old new = AllKept old.known new.known
 
--- The child that was started was not known before and was shown exactly the frames of the run: the first frame, round 1 where
--- its annotation is present, then the others up to the last, and the replies between them.
-abbrev pub ShowsOver : Option Try → Result TypeTable Refusal → State → State → Verdict → Type 0
-ShowsOver None entered old new v = Unit {0}
-ShowsOver (Some processor) (Err refusal) old new v = AllKept old.known new.known
-ShowsOver (Some processor) (Ok table) old new v = is_free v ≡ false → ShowsNew processor (frames_of (run_of old.says processor table)) old new
+-- By how a build ended, its children were shown the whole run, or none was started: a fault of the tree comes before the run or behind it, and one of the sink
+-- behind it. Of a fault of the children, and of want of memory, nothing is said.
+abbrev pub ShowsBy : Verdict → Type 0 → Type 0 → Type 0
+ShowsBy Done P Q = P
+ShowsBy (Errors count) P Q = P
+ShowsBy (Refused refusal) P Q = P
+ShowsBy (Failed Tree) P Q = P ⊎ Q
+ShowsBy (Failed Sink) P Q = P
+ShowsBy (Failed (Children processor)) P Q = Unit {0}
+ShowsBy Memory P Q = Unit {0}
+
+-- As many processors, the first in order, were started as the run has frames for, all of them where it finished. The child of each was not known before and was
+-- shown exactly its frames of the run: the first frame, the rounds in which it is asked with the names that it is offered, and the replies between them.
+abbrev pub ShowsOver : Result Read Refusal → State → State → Verdict → Type 0
+ShowsOver (Err refusal) old new v = AllKept old.known new.known
+ShowsOver (Ok read) old new v = ShowsBy v (ShowsWhole read.plan.processors (run_of old.says read.plan read.table) old new) (new ≡ old)
 
 abbrev pub ShowsRun : Request → Files → State → State → Verdict → Type 0
-ShowsRun (Build processor) project old new v = ShowsOver processor (units_of project) old new v
+ShowsRun (Build processors) project old new v = ShowsOver (read_of processors project) old new v
 ShowsRun (Bad at) project old new v = Unit {0}

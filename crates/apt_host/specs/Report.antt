@@ -1,7 +1,8 @@
 -- What a build writes: the mode line, the messages, the closing lines, the files and the end line.
-use Rattle.std.specs.Prelude.{ℕ, ◌==◌, List, [], ◌∷◌, ◌++◌, length, map, codes, decimal, if◌then◌else◌}
+use Rattle.std.specs.Prelude.{ℕ, ◌==◌, List, [], ◌∷◌, ◌++◌, length, map, codes, decimal, slice_index_or, if◌then◌else◌}
 use Rattle.std.specs.List.{flat_map}
 use Rattle.std.specs.FinMap as fin
+use Rattle.wire_frames.specs.declared.frame.Message.{Message}
 use Rattle.round_engine.specs.declared.messages.Placed.{Placed}
 use Rattle.apt_host.specs.CleanBuild as outcome
 use Rattle.apt_host.specs.CleanBuild.{Summary, Outcome}
@@ -23,12 +24,16 @@ escaped_byte b = if b == 92 then 92 ∷ 92 ∷ [] else (if b == 10 then 92 ∷ 1
 abbrev pub escaped : List ℕ → List ℕ
 escaped text = flat_map escaped_byte text
 
--- so far no message has an element
-abbrev pub message_line : List ℕ → Placed → List ℕ
-message_line processor placed = kind_text placed.message.kind ++ (codes ": [" ++ (processor ++ (codes "] " ++ (escaped placed.message.text ++ codes "\n"))))
+-- a message of the processor with this name
+abbrev pub message_text : List ℕ → Message → List ℕ
+message_text processor message = kind_text message.kind ++ (codes ": [" ++ (processor ++ (codes "] " ++ (escaped message.text ++ codes "\n"))))
 
-abbrev pub message_lines : List ℕ → List Placed → List ℕ
-message_lines processor messages = flat_map (message_line processor) messages
+-- so far no message has an element; its processor is named by its number
+abbrev pub message_line : List (List ℕ) → Placed → List ℕ
+message_line processors placed = message_text (slice_index_or processors placed.processor []) placed.message
+
+abbrev pub message_lines : List (List ℕ) → List Placed → List ℕ
+message_lines processors messages = flat_map (message_line processors) messages
 
 -- ---- closing lines, files and the end
 
@@ -53,7 +58,7 @@ errors_line summary = codes "errors: " ++ (decimal summary.rounds ++ (codes " ro
 
 -- what stands in each report after the first line, before the files
 abbrev pub told_lines : Summary → List ℕ
-told_lines summary = message_lines summary.processor summary.messages ++ flat_map unread_line summary.unread
+told_lines summary = message_lines summary.processors summary.messages ++ flat_map unread_line summary.unread
 
 -- what stands in each report before the files
 abbrev pub first_lines : Summary → List ℕ

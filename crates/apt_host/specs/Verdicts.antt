@@ -1,12 +1,12 @@
 -- How a call ends, as a value: its number, its line, and which ends may come at any point.
-use Rattle.std.specs.Prelude.{◌≡◌, ◌⊎◌, ℕ, ◌≤◌, Bool, true, false, List, [], ◌++◌, codes, decimal, Result, Ok, Err}
+use Rattle.std.specs.Prelude.{◌≡◌, ◌⊎◌, ℕ, ◌≤◌, Bool, true, false, List, [], ◌++◌, Option, None, Some, codes, decimal}
 use Rattle.apt_outside.specs.Count.{Rose}
 use Rattle.apt_base.specs.declared.kinds.Claim.{Claim}
 use Rattle.apt_base.specs.declared.kinds.Claim.TheVariants as claim
 use Rattle.apt_base.specs.declared.kinds.What.{What}
 use Rattle.apt_base.specs.declared.kinds.What.TheVariants as what
 use Rattle.round_engine.specs.Refusals as stop
-use Rattle.round_engine.specs.Refusals.{Refusal, BadWords, UnbuiltForm, UnbuiltTalk, TooManyQuestions, ClaimBroken, GeneratedDuplicate, TooManyRounds, TooLarge, Object, Tree, Sink, Children, Stop}
+use Rattle.round_engine.specs.Refusals.{Refusal, BadWords, UnbuiltForm, UnbuiltTalk, TooManyQuestions, ClaimBroken, GeneratedDuplicate, TooManyRounds, TooLarge, Object, Tree, Sink, Children, Stop, processor_of}
 use Rattle.apt_host.specs.declared.status.Status.{Status}
 use Rattle.apt_host.specs.declared.status.Status.TheVariants as code
 use Rattle.apt_host.specs.CleanBuild as outcome
@@ -93,6 +93,14 @@ is_children Tree = false
 is_children Sink = false
 is_children (Children processor) = true
 
+-- the run of a build was finished: it ended with a report, or the output failed, to which a build writes behind its run alone
+abbrev pub has_run : Verdict → Bool
+has_run Done = true
+has_run (Errors count) = true
+has_run (Refused refusal) = false
+has_run (Failed object) = is_sink object
+has_run Memory = false
+
 -- what a build writes to
 abbrev pub is_output : Object → Bool
 is_output Tree = true
@@ -103,6 +111,12 @@ is_output (Children processor) = false
 abbrev pub fails : (Object → Bool) → Verdict → Bool
 fails is (Failed object) = is object
 fails is other = false
+
+-- the processor that a verdict names, if it names one
+abbrev pub named_in : Verdict → Option (List ℕ)
+named_in (Refused refusal) = processor_of refusal
+named_in (Failed (Children processor)) = Some processor
+named_in other = None
 
 -- the count of faults of such an object never falls, and its fault comes only where it rose
 pub record HasCause (is : Object → Bool) (v : Verdict) (before now : ℕ) : Type 0 where

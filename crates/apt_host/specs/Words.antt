@@ -1,21 +1,21 @@
 -- What the words of a call ask for.
-use Rattle.std.specs.Prelude.{ℕ, List, [], ◌∷◌, Option, None, Some, codes, bytes_eq, length, min, if◌then◌else◌}
+use Rattle.std.specs.Prelude.{ℕ, List, [], ◌∷◌, codes, bytes_eq, length, min, if◌then◌else◌}
 use Rattle.source_form.specs.Form.{is_chain}
 use Rattle.apt_outside.specs.Child.{Try}
 
 pub data Request : Type 0 where
-  -- one build, with the processor that the words name, if they do
-  Build : (processor : Option Try) → Request
+  -- one build, with the processors that the words name
+  Build : (processors : List Try) → Request
   -- the place of the first word that no command has there, or the number of words where one is missing
   Bad : (at : ℕ) → Request
 
 -- A processor's name and then the words of its command, at least one.
 abbrev pub build_with : List ℕ → List (List ℕ) → Request
 build_with name [] = Bad 2
-build_with name (word ∷ words) = Build (Some (name, word ∷ words))
+build_with name (word ∷ words) = Build ((name, word ∷ words) ∷ [])
 
 abbrev pub build_of : List (List ℕ) → Request
-build_of [] = Build None
+build_of [] = Build []
 build_of (name ∷ words) = if is_chain name then build_with name words else Bad 1
 
 abbrev pub request_of : List (List ℕ) → Request
@@ -24,7 +24,7 @@ request_of (word ∷ words) = if bytes_eq word (codes "build") then build_of wor
 
 -- the place of a refusal, where the word after this many is no text
 abbrev pub cut_place : Request → ℕ → ℕ
-cut_place (Build processor) count = count
+cut_place (Build processors) count = count
 cut_place (Bad at) count = min at count
 
 abbrev pub cut_at : List (List ℕ) → ℕ

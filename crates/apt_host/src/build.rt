@@ -1,18 +1,20 @@
 // One build.
-ghost use Rattle.std.specs.Prelude.{◌≡◌, ◌<◌, ◌^◌, All, IfOk, IfErr, length, map, option_map, true};
+ghost use Rattle.std.specs.Prelude.{◌≡◌, ◌<◌, ◌^◌, All, IfOk, IfErr, length, map, true};
 ghost use Rattle.std.specs.List.Sorted.{IsStrictlyIncreasing};
 ghost use Rattle.apt_outside.specs.Count.{Told};
 ghost use Rattle.round_engine.specs.Clean.{IsPlain, try_of, AreNumbered};
 ghost use Rattle.tree_store.specs.Output.{StoresStand, SameOutside};
 ghost use Rattle.apt_base.specs.Fields.{is_text};
 ghost use Rattle.tree_store.specs.Storing.{AreDistinct, AreAbsent};
-ghost use Rattle.apt_host.specs.Shown.{shown_processor, build_by};
+ghost use Rattle.apt_host.specs.Shown.{shown_processor, shown_processors, build_by};
+ghost use Rattle.apt_host.specs.Project.{plan_by};
+ghost use Rattle.apt_host.specs.CleanBuild.{names_in};
 ghost use Rattle.apt_host.specs.Verdicts.{verdict, OrFree, is_tree, is_sink, is_children, fails, HasCause};
 ghost use Rattle.apt_host.specs.Endings.{ended, closed, EndsEarly, IsConcluded};
-ghost use Rattle.apt_host.specs.Making.{name_of, concluded};
+ghost use Rattle.apt_host.specs.Making.{concluded};
 ghost use Rattle.apt_host.specs.Listed.{numbered_of, FitsEntry};
-ghost use Rattle.apt_host.specs.Promises.{Leaves, LeavesUndone, KeepsOutput, NamesChild};
-ghost use Rattle.apt_host.specs.Builds.{Tries, Starts, StartsFor, TriesOne, NotStarted, NotTried, TellsMore, Shows, Makes, OnTable, Answers, Publishes, PlacesMade, Tells, Reports};
+ghost use Rattle.apt_host.specs.Promises.{Leaves, LeavesUndone, KeepsOutput, NamesChild, IsDue};
+ghost use Rattle.apt_host.specs.Builds.{IsTold, Starts, StartsFor, TriesAll, NotStarted, NotTried, TellsMore, Shows, Makes, OnTable, Answers, Publishes, PlacesMade, Tells, Reports};
 
 use crate::Status;
 use crate::project::read_units;
@@ -56,7 +58,7 @@ fn key_processor(alloc: Global, processor: &Processor<'_>) -> Result<KeyProcesso
 
 fn key_of(alloc: Global, processor: &Option<Processor<'_>>) -> Result<Key, NoMemory>
     ensures plain { IfOk result IsPlain }
-    ensures tries { IfOk result (Tries processor.now) }
+    ensures told { IfOk result (IsTold processor.now) }
 {
     let mut processors = List::new(alloc);
     if let Some(processor) = processor {
@@ -70,13 +72,15 @@ fn key_of(alloc: Global, processor: &Option<Processor<'_>>) -> Result<Key, NoMem
     })
 }
 
-fn name_of<'a>(processor: &Option<Processor<'a>>) -> &'a str
-    ensures { result.now ≡ name_of (option_map shown_processor processor.now) }
+// The names of the processors, in order.
+fn names_of(alloc: Global, processor: &Option<Processor<'_>>) -> Result<List<Name>, NoMemory>
+    ensures { IfOk result (λ names. names ≡ names_in (plan_by (shown_processors processor.now))) }
 {
-    match processor {
-        None => "",
-        Some(processor) => processor.name,
+    let mut names = List::new(alloc);
+    if let Some(processor) = processor {
+        names.push(Name::new(alloc, processor.name)?)?;
     }
+    Ok(names)
 }
 
 /// Runs the rounds over the table of a project, and gives what they came to.
@@ -93,8 +97,9 @@ fn make<C: Children>(
     ensures live { (C.state children.new).live ≡ (C.state children.old).live }
     ensures starts { StartsFor C.Children processor.now children.old children.new result }
     ensures says { Told C.tells ((C.state children.new).says ≡ (C.state children.old).says) }
-    ensures tried { TriesOne C.Children processor.now children.old children.new }
+    ensures tried { TriesAll C.Children processor.now children.old children.new }
     ensures named { NamesChild (build_by processor.now) (ended result) }
+    ensures due { IsDue (ended result) }
     ensures numbered { IfOk result (λ finished. AreNumbered taken.now finished.files) }
     ensures made { Makes C.Children processor.now table children.old children.new result }
 {
@@ -111,7 +116,7 @@ fn make<C: Children>(
 /// Publishes what a run came to, or tells its errors.
 fn conclude<T: Tree, W: Sink>(
     alloc: Global,
-    name: &str,
+    names: &List<Name>,
     finished: Finished,
     tree: &mut T,
     output: &mut W,
@@ -129,7 +134,7 @@ fn conclude<T: Tree, W: Sink>(
     ensures placed { PlacesMade T.Tree finished tree.old tree.new result }
     ensures leaves { Told T.tells (LeavesUndone (closed result) (T.files tree.old) (T.files tree.new)) }
     ensures outside { Told T.tells (SameOutside (T.files tree.old) (T.files tree.new)) }
-    ensures written { Tells T.Tree W.Sink name.now finished tree.old tree.new output.old output.new result }
+    ensures written { Tells T.Tree W.Sink names.now finished tree.old tree.new output.old output.new result }
 {
     let Finished {
         errors,
@@ -149,10 +154,10 @@ fn conclude<T: Tree, W: Sink>(
         unread,
     };
     if errors > 0 {
-        tell_errors(alloc, name, &summary, output)?;
+        tell_errors(alloc, names, &summary, output)?;
         return Ok(Ending::Errors { count: errors });
     }
-    let written = spell(alloc, name, &summary, files)?;
+    let written = spell(alloc, names, &summary, files)?;
     publish(alloc, tree, &written, output)?;
     Ok(Ending::Published)
 }
@@ -171,10 +176,11 @@ pub fn build<T: Tree, C: Children, W: Sink>(
     ensures live { (C.state children.new).live ≡ (C.state children.old).live }
     ensures starts { Starts C.Children processor.entry children.old children.new result }
     ensures says { Told C.tells ((C.state children.new).says ≡ (C.state children.old).says) }
-    ensures tried { TriesOne C.Children processor.entry children.old children.new }
+    ensures tried { TriesAll C.Children processor.entry children.old children.new }
     ensures starts_unread { NotStarted T.Tree C.Children processor.entry tree.old children.old children.new }
     ensures tries_unread { NotTried T.Tree C.Children processor.entry tree.old children.old children.new }
     ensures named { NamesChild (build_by processor.entry) (closed result) }
+    ensures due { IsDue (closed result) }
     ensures on_table { OnTable processor.entry tree.old tree.new children.old children.new result }
     ensures answer { Answers T.Tree C.Children processor.entry tree.old children.old result }
     ensures published { Publishes T.Tree C.Children processor.entry tree.old tree.new children.old result }
@@ -187,8 +193,9 @@ pub fn build<T: Tree, C: Children, W: Sink>(
     ensures written { Reports T.Tree C.Children W.Sink processor.entry
         tree.old tree.new children.old output.old output.new result }
 {
+    let names = names_of(alloc, &processor)?;
     let table = read_units(alloc, tree)?;
     let taken = taken_numbers(alloc, tree)?;
     let finished = make(alloc, &processor, table, &taken, children)?;
-    conclude(alloc, name_of(&processor), finished, tree, output)
+    conclude(alloc, &names, finished, tree, output)
 }

@@ -7,7 +7,7 @@ ghost use Rattle.apt_host.specs.Words.{cut_at};
 ghost use Rattle.apt_host.specs.Shown.{asked};
 ghost use Rattle.apt_host.specs.Verdicts.{verdict, Refused, OrMemory, is_tree, is_sink, is_children, HasCause, is_finished};
 ghost use Rattle.apt_host.specs.Endings.{closed};
-ghost use Rattle.apt_host.specs.Promises.{Leaves, KeepsOutput, Finishes, Starts, Tries, NamesChild, TellsMore};
+ghost use Rattle.apt_host.specs.Promises.{Leaves, KeepsOutput, Finishes, Starts, Tries, NamesChild, IsDue, TellsMore};
 ghost use Rattle.apt_host.specs.Calls.{NotStarted, NotTried, Shows, OffTable, Answers, Publishes, AddsLine, Reports, Writes};
 
 use crate::Status;
@@ -45,6 +45,7 @@ fn work<T: Tree, C: Children, W: Sink>(
     ensures starts_unread { NotStarted T.Tree C.Children words.now tree.old children.old children.new }
     ensures tries_unread { NotTried T.Tree C.Children words.now tree.old children.old children.new }
     ensures named { NamesChild (asked words.now) (verdict result) }
+    ensures due { IsDue (verdict result) }
     ensures off_table { OffTable words.now tree.old tree.new children.old children.new result }
     ensures answer { Answers T.Tree C.Children words.now tree.old children.old result }
     ensures published { Publishes T.Tree C.Children words.now tree.old tree.new children.old result }
@@ -114,7 +115,7 @@ pub fn run<T: Tree, C: Children, R: Source, W: Sink>(
     // The source is not touched.
     ensures input { input.new ≡ input.old }
 
-    // Every child that was started is stopped, and none but the processor's was tried; none where a source is refused.
+    // Every child that was started is stopped, and none but the processors' was tried; none where a source is refused.
     ensures live { (C.state children.new).live ≡ (C.state children.old).live }
     ensures starts { Starts (asked words.now) (verdict result) (C.state children.old) (C.state children.new) }
     ensures says { Told C.tells ((C.state children.new).says ≡ (C.state children.old).says) }
@@ -122,6 +123,7 @@ pub fn run<T: Tree, C: Children, R: Source, W: Sink>(
     ensures starts_unread { NotStarted T.Tree C.Children words.now tree.old children.old children.new }
     ensures tries_unread { NotTried T.Tree C.Children words.now tree.old children.old children.new }
     ensures named { NamesChild (asked words.now) (verdict result) }
+    ensures due { IsDue (verdict result) }
 
     // The answer is the clean build's, unless it is a fault or want of memory; words that no command has change nothing.
     ensures off_table { OffTable words.now tree.old tree.new children.old children.new result }
@@ -134,7 +136,7 @@ pub fn run<T: Tree, C: Children, R: Source, W: Sink>(
     ensures stand { Told T.tells (StoresStand (T.files tree.old) → StoresStand (T.files tree.new)) }
     ensures outside { Told T.tells (SameOutside (T.files tree.old) (T.files tree.new)) }
 
-    // A new child is shown exactly the run.
+    // New children, one for each processor that is started, are shown exactly the run.
     ensures more { Told C.tells (TellsMore (asked words.now) (C.state children.old) (C.state children.new)) }
     ensures shown { Shows T.Tree C.Children words.now tree.old children.old children.new result }
 

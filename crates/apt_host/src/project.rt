@@ -1,9 +1,9 @@
 // The type table of a project.
-ghost use Rattle.std.specs.Prelude.{◌≡◌, IfErr, drop, false};
+ghost use Rattle.std.specs.Prelude.{◌≡◌, IfErr, None, drop, false};
 ghost use Rattle.apt_outside.specs.Count.{Told};
 ghost use Rattle.element_table.specs.TypeTable.{empty_table};
 ghost use Rattle.round_engine.specs.declared.source_fault.SourceFault.TheVariants as code;
-ghost use Rattle.apt_host.specs.Verdicts.{verdict, OrMemory, is_tree, HasCause};
+ghost use Rattle.apt_host.specs.Verdicts.{verdict, named_in, OrMemory, is_tree, HasCause};
 ghost use Rattle.apt_host.specs.Endings.{ended, EndsEarly};
 ghost use Rattle.apt_host.specs.Project.{enter_next, enter_all, units_of};
 ghost use Rattle.apt_host.specs.Entering.{of_source, Enters, EntersAll, StopsLeast};
@@ -22,6 +22,7 @@ const MAX_SOURCES: usize = 1000;
 fn unbuilt(path: &Name) -> Status
     ensures is { OrMemory (of_source path.now code.Unbuilt) (verdict result) }
     ensures early { EndsEarly (λ _. false) (verdict result) }
+    ensures unnamed { named_in (verdict result) ≡ None }
 {
     match path.copy() {
         Ok(path) => Status::UnbuiltForm { path },
@@ -33,6 +34,7 @@ fn unbuilt(path: &Name) -> Status
 fn refused(path: &Name, fault: SourceFault) -> Status
     ensures is { OrMemory (of_source path.now fault) (verdict result) }
     ensures early { EndsEarly (λ _. false) (verdict result) }
+    ensures unnamed { named_in (verdict result) ≡ None }
 {
     match fault {
         SourceFault::Unbuilt | SourceFault::Duplicate { .. } => unbuilt(path),
@@ -53,6 +55,7 @@ fn enter_next(
 ) -> Result<(), Status>
     ensures enters { Enters (enter_next table.old count source.now) table.new result }
     ensures early { IfErr result (λ status. EndsEarly (λ _. false) (verdict status)) }
+    ensures unnamed { IfErr result (λ status. named_in (verdict status) ≡ None) }
 {
     if count >= MAX_SOURCES {
         return Err(unbuilt(&source.path));
@@ -67,6 +70,7 @@ fn enter_next(
 fn enter_all(alloc: Global, sources: &[RawSource]) -> Result<Table, Status>
     ensures units { EntersAll (enter_all empty_table 0 sources.now) result }
     ensures early { IfErr result (λ status. EndsEarly (λ _. false) (verdict status)) }
+    ensures unnamed { IfErr result (λ status. named_in (verdict status) ≡ None) }
 {
     let mut table = Table::new(alloc);
     for (count, source) in sources.iter().enumerate() {
@@ -79,6 +83,7 @@ fn enter_all(alloc: Global, sources: &[RawSource]) -> Result<Table, Status>
 pub fn read_units<T: Tree>(alloc: Global, tree: &mut T) -> Result<Table, Status>
     ensures cause { HasCause is_tree (ended result) (T.faults tree.old) (T.faults tree.new) }
     ensures early { IfErr result (λ status. EndsEarly is_tree (verdict status)) }
+    ensures unnamed { IfErr result (λ status. named_in (verdict status) ≡ None) }
     ensures same { Told T.tells (T.files tree.new ≡ T.files tree.old) }
     ensures units { Told T.tells (EntersAll (units_of (T.files tree.old)) result) }
     ensures least { Told T.tells (StopsLeast (T.files tree.old) result) }

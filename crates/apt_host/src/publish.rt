@@ -73,17 +73,17 @@ fn prepare(alloc: Global, made: List<Made>) -> Result<Prepared, NoMemory>
 /// Spells all that a build writes: the files that it made, the record that names them, and the report.
 pub fn spell(
     alloc: Global,
-    processor: &str,
+    processors: &List<Name>,
     summary: &Summary,
     made: List<Made>,
 ) -> Result<Written, NoMemory>
     requires count { length made < 2 ^ 32 }
     requires sizes { All FitsEntry made }
     requires texts { All (λ file. is_text file.path ≡ true) made }
-    ensures { IfOk result (Spells (summary_of processor.now summary.now) made) }
+    ensures { IfOk result (Spells (summary_of processors.now summary.now) made) }
 {
     let prepared = prepare(alloc, made)?;
-    let report = report(alloc, processor, summary, prepared.entries.as_slice())?;
+    let report = report(alloc, processors, summary, prepared.entries.as_slice())?;
     let record_bytes = encode_record(alloc, &prepared.entries)?;
     Ok(Written {
         stored: prepared.stored,
@@ -104,16 +104,16 @@ fn of_sink(fault: Fault) -> Status
 /// Writes the report of a build in which an error was printed.
 pub fn tell_errors<W: Sink>(
     alloc: Global,
-    processor: &str,
+    processors: &List<Name>,
     summary: &Summary,
     output: &mut W,
 ) -> Result<(), Status>
     ensures cause { HasCause is_sink (ended result) (W.faults output.old) (W.faults output.new) }
     ensures early { IfErr result (λ status. EndsEarly is_sink (verdict status)) }
     ensures free { OrFree Done (ended result) }
-    ensures written { AddsErrors W.Sink processor.now summary.now output.old output.new result }
+    ensures written { AddsErrors W.Sink processors.now summary.now output.old output.new result }
 {
-    let report = errors_report(alloc, processor, summary)?;
+    let report = errors_report(alloc, processors, summary)?;
     match output.write_all(&report) {
         Ok(()) => Ok(()),
         Err(fault) => Err(of_sink(fault)),

@@ -1,7 +1,7 @@
 // The texts of a call.
-ghost use Rattle.std.specs.Prelude.{◌≡◌, ◌++◌, IfOk, OnOk, codes, string_bytes, map};
+ghost use Rattle.std.specs.Prelude.{◌≡◌, ◌++◌, [], IfOk, OnOk, codes, string_bytes, map, slice_index_or};
 ghost use Rattle.std.specs.List.{flat_map};
-ghost use Rattle.apt_host.specs.Report.{kind_text, escaped, message_line, message_lines, unread_line, first_lines, file_line, file_lines, errors_report};
+ghost use Rattle.apt_host.specs.Report.{kind_text, escaped, message_text, message_line, message_lines, unread_line, first_lines, file_line, file_lines, errors_report};
 ghost use Rattle.apt_host.specs.Verdicts.{verdict, what_text, claim_text, refusal_of};
 ghost use Rattle.apt_host.specs.Listed.{listed, summary_of, report_for};
 
@@ -10,8 +10,9 @@ use apt_base::{Claim, List, Name, What};
 use round_engine::Placed;
 use std::alloc::{AllocError, Global};
 use tree_store::StoredFile;
+use wire_frames::Message;
 
-/// What a report says of a run, beside its processor's name and its files.
+/// What a report says of a run, beside the names of its processors and its files.
 #[derive(Drop)]
 pub struct Summary {
     /// How many children were started.
@@ -56,20 +57,43 @@ fn add_escaped(report: &mut Vec<u8>, text: &[u8]) -> Result<(), AllocError>
     Ok(())
 }
 
-fn add_message(
+// The name of the processor with this number, counted from 0; a number that none has gives no text.
+fn name_of(processors: &List<Name>, number: u16) -> &str
+    ensures { result.now ≡ slice_index_or processors.now number [] }
+{
+    match processors.get(number as usize) {
+        Some(name) => name.as_str(),
+        None => "",
+    }
+}
+
+// Adds a message of the processor with this name.
+fn add_text(
     alloc: Global,
     report: &mut Vec<u8>,
     processor: &str,
-    placed: &Placed,
+    message: &Message,
 ) -> Result<(), AllocError>
-    ensures { OnOk result (report.new.items ≡ report.old.items ++ message_line processor.now placed.now) }
+    ensures { OnOk result (report.new.items ≡ report.old.items ++ message_text processor.now message.now) }
 {
-    let kind = kind_text(placed.message.kind);
+    let kind = kind_text(message.kind);
     let head = format!(in alloc; "{kind}: [{processor}] ")?;
     report.extend_from_slice(head.as_bytes())?;
-    add_escaped(report, placed.message.text.as_str().as_bytes())?;
+    add_escaped(report, message.text.as_str().as_bytes())?;
     report.push(b'\n')?;
     Ok(())
+}
+
+fn add_message(
+    alloc: Global,
+    report: &mut Vec<u8>,
+    processors: &List<Name>,
+    placed: &Placed,
+) -> Result<(), AllocError>
+    ensures { OnOk result (report.new.items ≡ report.old.items ++ message_line processors.now placed.now) }
+{
+    let processor = name_of(processors, placed.processor);
+    add_text(alloc, report, processor, &placed.message)
 }
 
 #[tactic(auto, unfolding(crate::specs::Report::unread_line))]
@@ -87,13 +111,13 @@ fn add_unread(alloc: Global, report: &mut Vec<u8>, name: &Name) -> Result<(), Al
 fn add_messages(
     alloc: Global,
     report: &mut Vec<u8>,
-    processor: &str,
+    processors: &List<Name>,
     messages: &[Placed],
 ) -> Result<(), AllocError>
-    ensures { OnOk result (report.new.items ≡ report.old.items ++ message_lines processor.now messages.now) }
+    ensures { OnOk result (report.new.items ≡ report.old.items ++ message_lines processors.now messages.now) }
 {
     for placed in messages {
-        add_message(alloc, report, processor, placed)?;
+        add_message(alloc, report, processors, placed)?;
     }
     Ok(())
 }
@@ -108,13 +132,17 @@ fn add_closing_lines(alloc: Global, report: &mut Vec<u8>, unread: &[Name]) -> Re
 }
 
 /// The mode line, the messages and the closing lines.
-fn told_lines(alloc: Global, processor: &str, summary: &Summary) -> Result<Vec<u8>, AllocError>
-    ensures { IfOk result (λ text. text.items ≡ first_lines (summary_of processor.now summary.now)) }
+fn told_lines(
+    alloc: Global,
+    processors: &List<Name>,
+    summary: &Summary,
+) -> Result<Vec<u8>, AllocError>
+    ensures { IfOk result (λ text. text.items ≡ first_lines (summary_of processors.now summary.now)) }
 {
     let started = summary.started;
     let mode = format!(in alloc; "mode: clean (Full), started {started}\n")?;
     let mut report = mode.into_bytes();
-    add_messages(alloc, &mut report, processor, summary.messages.as_slice())?;
+    add_messages(alloc, &mut report, processors, summary.messages.as_slice())?;
     add_closing_lines(alloc, &mut report, summary.unread.as_slice())?;
     Ok(report)
 }
@@ -144,13 +172,13 @@ fn add_files(alloc: Global, report: &mut Vec<u8>, files: &[StoredFile]) -> Resul
 /// The report of a build that publishes these files, ascending by path.
 pub fn report(
     alloc: Global,
-    processor: &str,
+    processors: &List<Name>,
     summary: &Summary,
     files: &[StoredFile],
 ) -> Result<Vec<u8>, AllocError>
-    ensures { IfOk result (λ text. text.items ≡ report_for (summary_of processor.now summary.now) files.now) }
+    ensures { IfOk result (λ all. all.items ≡ report_for (summary_of processors.now summary.now) files.now) }
 {
-    let mut report = told_lines(alloc, processor, summary)?;
+    let mut report = told_lines(alloc, processors, summary)?;
     add_files(alloc, &mut report, files)?;
     let rounds = summary.rounds;
     let errors = summary.errors;
@@ -166,12 +194,12 @@ pub fn report(
 /// The report of a build in which an error was printed.
 pub fn errors_report(
     alloc: Global,
-    processor: &str,
+    processors: &List<Name>,
     summary: &Summary,
 ) -> Result<Vec<u8>, AllocError>
-    ensures { IfOk result (λ text. text.items ≡ errors_report (summary_of processor.now summary.now)) }
+    ensures { IfOk result (λ text. text.items ≡ errors_report (summary_of processors.now summary.now)) }
 {
-    let mut report = told_lines(alloc, processor, summary)?;
+    let mut report = told_lines(alloc, processors, summary)?;
     let rounds = summary.rounds;
     let errors = summary.errors;
     let warnings = summary.warnings;

@@ -1,71 +1,262 @@
--- From the run of a processor to a clean run.
-use Rattle.std.proofs.Common.{◌≡◌, ℕ, Bool, true, false, List, ◌∷◌, Ok, Err, refl, sym, ap, ◌∙◌, subst}
+-- What a clean run comes to: from the start of all processors over the rounds to their stops.
+use Rattle.std.proofs.Common.{◌≡◌, ℕ, ◌+◌, ◌<◌, Bool, true, false, List, [], ◌∷◌, ◌++◌, length, map, take, Result, Ok, Err, refl, sym, ap, subst, ◌∙◌, append-nil, arith}
+use Rattle.std.specs.Prelude.{replicate}
+use Rattle.std.proofs.Math.Seq.{take-length}
 use Rattle.std.proofs.lemmas.Bool.{false≢true}
-use Rattle.apt_outside.specs.Child.{State}
+use Rattle.std.proofs.lemmas.List.{length-map, nil_from_length}
+use Rattle.std.specs.FinMap as fin
+use Rattle.std.specs.Ordering.{nat_cmp}
+use Rattle.std.specs.Cmp.Lexicographic.{slice_cmp}
+use Rattle.apt_outside.specs.Count.{Told}
+use Rattle.apt_outside.specs.Child.{Says, Try, State}
 use Rattle.apt_filer.specs.Filing.{Filings}
+use Rattle.wire_frames.specs.declared.frame.Creation.{Creation}
+use Rattle.element_table.specs.TypeTable.{TypeTable}
+use Rattle.round_engine.specs.declared.beginning.Discovered as code_discovered
+use Rattle.round_engine.specs.declared.messages.Placed.{Placed}
+use Rattle.round_engine.specs.declared.progress.Progress as code_progress
+use Rattle.round_engine.specs.declared.project.Key.{Key}
+use Rattle.round_engine.specs.declared.project.KeyProcessor.{KeyProcessor}
 use Rattle.round_engine.specs.declared.refusal.Refusal as code
 use Rattle.round_engine.specs.declared.rounds.Rounds.{Rounds}
 use Rattle.round_engine.specs.declared.running.Finished as declared
-use Rattle.round_engine.specs.declared.project.KeyProcessor.{KeyProcessor}
-use Rattle.element_table.specs.TypeTable.{TypeTable}
 use Rattle.round_engine.specs.Refusals as stop
 use Rattle.round_engine.specs.Refusals.{Refusal, Stop, is_refusal}
 use Rattle.round_engine.specs.Faults.{stop_of}
-use Rattle.round_engine.specs.Run.{Run, Finished, Refused, run_of}
-use Rattle.round_engine.specs.Shown.{ShowsNew, StopsAs, Runs}
-use Rattle.round_engine.specs.Clean.{try_of, Has, frames_of, Cleans}
+use Rattle.round_engine.specs.Names.{NameSet}
+use Rattle.round_engine.specs.Units.{all_of}
+use Rattle.round_engine.specs.Run.{Plan, Frames, Progress, Run, first_sent, hellos_from, discovered, start, new_filings, next_of, rounds_before_last, rounds_from, asks_from, run_of, frames_of, unread_among, ◌>>=◌}
+use Rattle.round_engine.specs.Clean.{try_of, tries_in, name_of, names_in, plan_of, Has, Closes, ShowsWhole, Cleans, Talked}
+use Rattle.round_engine.specs.Shown.{frames_to, all_sent, AreSent, Stands, standing, shown_discovered, shown_rounds, AttendsAll, StopsAs, FrontsButOne, hellos_sent, ShowsNoMore, sent_in_finished, Goes, EndsAll, TellsOf, TellsMore, StopsAll, AllSayHello, Begins}
+use Rattle.round_engine.proofs.FrontsOfFrames.{but_one_more}
+use Rattle.round_engine.proofs.FrontsOfHellos.{sent_to_each, sent_are, each_same, tells_no_more, shows_nothing, frames_by, run_fronts}
+use Rattle.round_engine.proofs.StoppedProcessors.{sent_same, sent_count, all_same}
 
--- what a finished run has of the rounds
-pub record Counts (rounds : Rounds) (finished : declared.Finished) : Type 0 where
-  pub rounds_are : finished.rounds ≡ rounds.count
-  pub messages_are : finished.messages ≡ rounds.messages
-  pub unread_are : finished.unread ≡ rounds.unread
+-- a run that came to its end, and one that was refused
+abbrev ended_by : List Frames → ℕ → List Creation → List Placed → List (List ℕ) → Run
+ended_by sent rounds made messages unread = Ok (record { sent = sent; rounds = rounds; made = made; messages = messages; unread = unread })
 
-module _ (processor : KeyProcessor) (others : List KeyProcessor) (table : TypeTable) (old new : State) (filings : Filings) where
-  abbrev whole : Run
-  whole = run_of old.says (try_of processor) table
+abbrev refused_by : List Frames → Refusal → Run
+refused_by sent refusal = Err (record { sent = sent; refusal = refusal })
 
-  shown_as : (sent : List (List ℕ)) → frames_of whole ≡ sent → ShowsNew (try_of processor) sent old new → ShowsNew (try_of processor) (frames_of whole) old new
-  shown_as sent is shown = subst (λ s. ShowsNew (try_of processor) s old new) (sym is) shown
+-- ---- where it is told
 
-  pub cleans_ok : (rounds : Rounds) (finished : declared.Finished) → Runs (try_of processor) table old new filings (Ok rounds) → Counts rounds finished → Has filings.made finished → finished.started ≡ 1
-      → Cleans (processor ∷ others) table old new (Ok finished)
-  cleans_ok rounds finished runs counts has started =
-      let ran = runs.ran refl in
-      let sent_is : frames_of whole ≡ ran.sent = ap frames_of ran.comes in
+pub talked : (talks : Bool) (processors : List Try) (P : Type 0) → P → Talked talks processors P
+talked talks [] P p = p
+talked talks (processor ∷ others) P p = λ told. p
+
+pub talked_told : (talks : Bool) (processors : List Try) (P : Type 0) → 0 < length processors → Told talks P → Talked talks processors P
+talked_told talks [] P some p = absurd (omega (arith, some))
+talked_told talks (processor ∷ others) P some p = p
+
+-- ---- no processor
+
+abbrev no_names : NameSet
+no_names = fin.empty
+
+-- where nothing was made, nothing is unread
+unread_none : unread_among [] ≡ []
+unread_none = ap (map (λ (e : List ℕ × Unit {0}). e.0)) (nil_from_length (fin.entries no_names) (sym (fin.len-entries no_names) ∙ fin.len-empty (slice_cmp nat_cmp) (Unit {0})))
+
+run_empty : (says : Says) (level : ℕ) (options : List (List ℕ × List ℕ)) (table : TypeTable)
+    → run_of says (record { level = level; options = options; processors = [] }) table ≡ ended_by [] 2 [] [] (unread_among [])
+unfolding rounds_from asks_from
+run_empty says level options table = refl
+
+-- nobody is asked in two rounds
+pub run_none : (says : Says) (plan : Plan) (table : TypeTable) → plan.processors ≡ [] → run_of says plan table ≡ ended_by [] 2 [] [] []
+run_none says plan table none =
+    ap (λ (processors : List Try). run_of says (record { level = plan.level; options = plan.options; processors = processors }) table) none ∙ run_empty says plan.level plan.options table
+    ∙ ap (ended_by [] 2 [] []) unread_none
+
+pub cleans_none : (plan : Plan) (table : TypeTable) (k : State) (finished : declared.Finished) → plan.processors ≡ []
+    → Closes (record { count = 2; made = []; messages = []; unread = [] }) 0 finished → Has [] finished → Cleans plan table k k (Ok finished)
+cleans_none plan table k finished none closes has =
+    let whole = run_none k.says plan table none in
+    let sent : frames_of (run_of k.says plan table) ≡ [] = ap frames_of whole in
+    record {
+      comes = record {
+        made = [];
+        is = whole ∙ ap (λ n. ended_by [] n [] [] []) (sym closes.0) ∙ ap (λ printed. ended_by [] finished.rounds [] printed []) (sym closes.1)
+            ∙ ap (ended_by [] finished.rounds [] finished.messages) (sym closes.2) ∙ ap (λ frames. ended_by frames finished.rounds [] finished.messages finished.unread) (sym sent);
+        has = has;
+        started = closes.3 ∙ ap length (sym none);
+      };
+      more = tells_no_more plan.processors (frames_of (run_of k.says plan table)) k k (shows_nothing plan.processors (frames_of (run_of k.says plan table)) k);
+      fronts = shows_nothing plan.processors (frames_of (run_of k.says plan table)) k;
+      shown = λ due. record {
+        frames = ([], record { tells = record { different = tt; unknown = tt; others = λ child out. refl }; shown = subst (λ s. AreSent plan.processors s [] k.known) (sym sent) tt });
+        starts = omega (arith, ap length sent);
+        tried = sym (append-nil k.tried) ∙ ap (λ n. k.tried ++ take n plan.processors) (ap length (sym sent));
+      };
+    }
+
+-- ---- memory was wanted
+
+pub cleans_memory : (plan : Plan) (table : TypeTable) (k0 k : State) (refusal : code.Refusal) → stop_of refusal ≡ stop.Memory → ShowsNoMore plan.processors (frames_of (run_of k0.says plan table)) k0 k → Cleans plan table k0 k (Err refusal)
+cleans_memory plan table k0 k refusal memory none = record {
+  comes = subst (StopsAs (run_of k0.says plan table) (frames_of (run_of k0.says plan table))) (sym memory) tt;
+  more = tells_no_more plan.processors (frames_of (run_of k0.says plan table)) k0 k none;
+  fronts = none;
+  shown = λ due. absurd (false≢true (ap is_refusal (sym memory) ∙ due));
+}
+
+-- ---- a run that stops
+
+-- what stops so sent just these frames
+stopped_frames : (whole : Run) (sent : List Frames) (s : Stop) → is_refusal s ≡ true → StopsAs whole sent s → frames_of whole ≡ sent
+stopped_frames whole sent (stop.Refused refusal) due is = ap frames_of is
+stopped_frames whole sent (stop.Failed object) due is = absurd (false≢true due)
+stopped_frames whole sent stop.Memory due is = absurd (false≢true due)
+
+stopped_whole : (whole : Run) (sent : List Frames) (s : Stop) → StopsAs whole sent s → StopsAs whole (frames_of whole) s
+stopped_whole whole sent (stop.Refused refusal) is = is ∙ ap (λ frames. refused_by frames refusal) (sym (ap frames_of is))
+stopped_whole whole sent (stop.Failed object) is = tt
+stopped_whole whole sent stop.Memory is = tt
+
+-- at a Hello
+hello_stops : (says : Says) (plan : Plan) (table : TypeTable) (sent : List Frames) (s : Stop) → StopsAs (hellos_from says plan [] plan.processors) sent s → StopsAs (run_of says plan table) sent s
+hello_stops says plan table sent (stop.Refused refusal) is = ap (λ o. o >>= (λ supported. rounds_from (discovered says plan supported) rounds_before_last (next_of 1 (all_of table)) (start plan table))) is
+hello_stops says plan table sent (stop.Failed object) is = tt
+hello_stops says plan table sent stop.Memory is = tt
+
+-- only a refusal has to be what the run comes to
+due_comes : (whole : Run) (s : Stop) → (is_refusal s ≡ true → StopsAs whole (frames_of whole) s) → StopsAs whole (frames_of whole) s
+due_comes whole (stop.Refused refusal) due = due refl
+due_comes whole (stop.Failed object) due = tt
+due_comes whole stop.Memory due = tt
+
+pub cleans_at_hello : (plan : Plan) (table : TypeTable) (k0 k : State) (refusal : code.Refusal) → Begins plan k0 k (Err refusal) → Cleans plan table k0 k (Err refusal)
+cleans_at_hello plan table k0 k refusal begins = record {
+  comes = due_comes (run_of k0.says plan table) (stop_of refusal)
+      (λ due. let h = begins.0 due in stopped_whole (run_of k0.says plan table) h.sent (stop_of refusal) (hello_stops k0.says plan table h.sent (stop_of refusal) h.comes));
+  more = tells_no_more plan.processors (hellos_sent k0.says plan) k0 k begins.1;
+  fronts = record {
+    group = begins.1.group;
+    shows = record {
+      tells = begins.1.shows.tells;
+      theirs = begins.1.shows.theirs;
+      fronts = but_one_more (all_sent k.known begins.1.group) (hellos_sent k0.says plan) (frames_of (run_of k0.says plan table)) begins.1.shows.fronts (run_fronts k0.says plan table);
+    };
+  };
+  shown = λ due.
+      let h = begins.0 due in
+      let sent : frames_of (run_of k0.says plan table) ≡ h.sent = stopped_frames (run_of k0.says plan table) h.sent (stop_of refusal) due (hello_stops k0.says plan table h.sent (stop_of refusal) h.comes) in
       record {
-        comes = record {
-          made = filings.made;
-          is = ran.comes ∙ ap (λ s. Finished s rounds.count filings.made rounds.messages rounds.unread) (sym sent_is)
-              ∙ ap (λ n. Finished (frames_of whole) n filings.made rounds.messages rounds.unread) (sym counts.rounds_are)
-              ∙ ap (λ m. Finished (frames_of whole) finished.rounds filings.made m rounds.unread) (sym counts.messages_are)
-              ∙ ap (λ u. Finished (frames_of whole) finished.rounds filings.made finished.messages u) (sym counts.unread_are);
-          has = has;
-          started = started;
-        };
-        more = runs.more;
-        shown = λ due. shown_as ran.sent sent_is ran.shown;
+        frames = (h.shown.0, record { tells = h.shown.1.tells; shown = subst (λ frames. AreSent plan.processors frames h.shown.0 k.known) (sym sent) h.shown.1.shown });
+        starts = h.starts ∙ ap (λ (frames : List Frames). k0.starts + length frames) (sym sent);
+        tried = h.tried ∙ ap (λ (frames : List Frames). k0.tried ++ take (length frames) plan.processors) (sym sent);
+      };
+}
+
+-- ---- all said Hello
+
+names_are : (processors : List KeyProcessor) → map (λ (t : Try). t.0) (map try_of processors) ≡ map name_of processors
+names_are [] = refl
+names_are (p ∷ processors) = ap (λ names. p.name ∷ names) (names_are processors)
+
+module _ (key : Key) (table : TypeTable) (d : code_discovered.Discovered) (p : code_progress.Progress) (k0 k1 k2 k3 : State) (names : d.names ≡ names_in key)
+    (begins : AllSayHello (plan_of key) d.group d.supported k0 k1) (said : k1.says ≡ k0.says) (contributed : p.contributed.items ≡ replicate (length key.processors) false) (filed : p.filer ≡ new_filings table) (printed : p.messages ≡ [])
+    (attends : AttendsAll d.group k1 k2) (stops : StopsAll d.group k2 k3) (result : Result Rounds code.Refusal) (ends : EndsAll d table p k1 k2 result) where
+  abbrev plan : Plan
+  plan = plan_of key
+
+  abbrev processors : List Try
+  processors = tries_in key
+
+  abbrev whole : Run
+  whole = run_of k0.says plan table
+
+  count : length d.group ≡ length processors
+  count = sym (sent_count processors (map (first_sent plan) processors) d.group k1.known begins.shown.shown) ∙ length-map processors (first_sent plan)
+
+  stands : Stands d processors k1
+  stands = record { names = names_are key.processors ∙ sym names; count = count; different = begins.shown.tells.different; each = begins.each }
+
+  abbrev progress_of : List Frames → List Bool → Filings → List Placed → Progress
+  progress_of sent contributed filings messages = record { sent = sent; contributed = contributed; filings = filings; messages = messages }
+
+  standing_is : start plan table ≡ standing d.group p k1
+  standing_is =
+      ap (λ sent. progress_of sent (replicate (length processors) false) (new_filings table) []) (sym (sent_are processors (map (first_sent plan) processors) d.group k1.known begins.shown.shown))
+      ∙ ap (λ c. progress_of (all_sent k1.known d.group) c (new_filings table) []) (ap (λ n. replicate n false) (length-map key.processors try_of) ∙ sym contributed)
+      ∙ ap (λ f. progress_of (all_sent k1.known d.group) p.contributed.items f []) (sym filed)
+      ∙ ap (λ ms. progress_of (all_sent k1.known d.group) p.contributed.items p.filer ms) (sym printed)
+
+  abbrev rounds_of : Says → Progress → Run
+  rounds_of says before = rounds_from (shown_discovered says processors d) rounds_before_last (next_of 1 (all_of table)) before
+
+  whole_is : whole ≡ rounds_of k1.says (standing d.group p k1)
+  whole_is = ap (λ o. o >>= (λ supported. rounds_from (discovered k0.says plan supported) rounds_before_last (next_of 1 (all_of table)) (start plan table))) begins.hellos
+      ∙ ap (rounds_of k0.says) standing_is ∙ ap (λ says. rounds_of says (standing d.group p k1)) (sym said)
+
+  goes : Goes sent_in_finished d processors whole (λ rounds. shown_rounds d.group rounds k2) result k2
+  goes = subst (λ course. Goes sent_in_finished d processors course (λ rounds. shown_rounds d.group rounds k2) result k2) (sym whole_is) (ends processors stands)
+
+  tells : TellsOf d.group k0 k3
+  tells = record {
+    different = begins.shown.tells.different;
+    unknown = begins.shown.tells.unknown;
+    others = λ child out. stops.attends.others child out ∙ attends.others child out ∙ begins.shown.tells.others child out;
+  }
+
+  -- whatever came of it
+  pub all_shown : ShowsNoMore processors (frames_of whole) k0 k3
+  all_shown = record {
+    group = d.group;
+    shows = record {
+      tells = tells;
+      theirs = each_same processors d.group k2.known k3.known stops.same goes.same;
+      fronts = subst (λ sent. FrontsButOne sent (frames_of whole)) (sym (all_same processors d.group k2.known k3.known stops.same goes.same)) (frames_by k0.says plan (all_sent k2.known d.group) whole goes.fronts);
+    };
+  }
+
+  all_more : TellsMore (length processors) k0 k3
+  all_more = tells_no_more processors (frames_of whole) k0 k3 all_shown
+
+  shows : k3.starts ≡ k0.starts + length processors → frames_of whole ≡ all_sent k2.known d.group → ShowsWhole processors whole k0 k3
+  shows starts frames =
+      let many : length (frames_of whole) ≡ length processors = ap length frames ∙ length-map d.group (frames_to k2.known) ∙ count in
+      record {
+        frames = (
+          d.group,
+          record {
+            tells = tells;
+            shown = subst (λ sent. AreSent processors sent d.group k3.known) (sym frames) (sent_same processors (all_sent k2.known d.group) d.group k2.known k3.known stops.same (sent_to_each processors d.group k2.known goes.same));
+          },
+        );
+        starts = starts ∙ ap (λ n. k0.starts + n) (sym many);
+        tried = stops.attends.same_tried ∙ attends.same_tried ∙ begins.tried ∙ ap (λ ps. k0.tried ++ ps) (sym (ap (λ n. take n processors) many ∙ take-length processors));
       }
 
-  refused_as : (refusal : Refusal) (sent : List (List ℕ)) → whole ≡ Refused sent refusal → whole ≡ Refused (frames_of whole) refusal
-  refused_as refusal sent is = is ∙ ap (λ s. Refused s refusal) (sym (ap frames_of is))
+  -- the rounds were refused
+  pub cleans_stopped : (refusal : code.Refusal) → result ≡ Err refusal → k3.starts ≡ k0.starts + length processors → Cleans plan table k0 k3 (Err refusal)
+  cleans_stopped refusal is starts =
+      let refused : Goes sent_in_finished d processors whole (λ rounds. shown_rounds d.group rounds k2) (Err refusal) k2 = subst (λ o. Goes sent_in_finished d processors whole (λ rounds. shown_rounds d.group rounds k2) o k2) is goes in
+      record {
+        comes = stopped_whole whole (all_sent k2.known d.group) (stop_of refusal) refused.comes;
+        more = all_more;
+        fronts = all_shown;
+        shown = λ due. shows starts (stopped_frames whole (all_sent k2.known d.group) (stop_of refusal) due refused.comes);
+      }
 
-  stops_as : (s : Stop) (sent : List (List ℕ)) → is_refusal s ≡ true → StopsAs whole sent s → (frames_of whole ≡ sent) × StopsAs whole (frames_of whole) s
-  stops_as (stop.Refused refusal) sent due is = (ap frames_of is, refused_as refusal sent is)
-  stops_as (stop.Failed object) sent due is = absurd cc
-  stops_as stop.Memory sent due is = absurd cc
-
-  free_as : (s : Stop) → is_refusal s ≡ false → StopsAs whole (frames_of whole) s
-  free_as (stop.Refused refusal) free = absurd cc
-  free_as (stop.Failed object) free = tt
-  free_as stop.Memory free = tt
-
-  cleans_by : (refusal : code.Refusal) (b : Bool) → is_refusal (stop_of refusal) ≡ b → Runs (try_of processor) table old new filings (Err refusal) → Cleans (processor ∷ others) table old new (Err refusal)
-  cleans_by refusal true due runs =
-      let ran = runs.ran due in
-      let due_as = stops_as (stop_of refusal) ran.sent due ran.comes in
-      record { comes = due_as.1; more = runs.more; shown = λ e. shown_as ran.sent due_as.0 ran.shown }
-  cleans_by refusal false free runs = record { comes = free_as (stop_of refusal) free; more = runs.more; shown = λ due. absurd (false≢true (sym free ∙ due)) }
-
-  pub cleans_err : (refusal : code.Refusal) → Runs (try_of processor) table old new filings (Err refusal) → Cleans (processor ∷ others) table old new (Err refusal)
-  cleans_err refusal runs = cleans_by refusal (is_refusal (stop_of refusal)) refl runs
+  -- they came to their end
+  pub cleans_so : (rounds : Rounds) (finished : declared.Finished) → result ≡ Ok rounds → k3.starts ≡ k0.starts + length processors → Closes rounds (length processors) finished → Has rounds.made finished
+      → Cleans plan table k0 k3 (Ok finished)
+  cleans_so rounds finished is starts closes has =
+      let ended : Goes sent_in_finished d processors whole (λ all. shown_rounds d.group all k2) (Ok rounds) k2 = subst (λ o. Goes sent_in_finished d processors whole (λ all. shown_rounds d.group all k2) o k2) is goes in
+      let sent : frames_of whole ≡ all_sent k2.known d.group = ap frames_of ended.comes in
+      record {
+        comes = record {
+          made = rounds.made;
+          is = ended.comes ∙ ap (λ n. ended_by (all_sent k2.known d.group) n rounds.made rounds.messages rounds.unread) (sym closes.0)
+              ∙ ap (λ printed. ended_by (all_sent k2.known d.group) finished.rounds rounds.made printed rounds.unread) (sym closes.1)
+              ∙ ap (ended_by (all_sent k2.known d.group) finished.rounds rounds.made finished.messages) (sym closes.2)
+              ∙ ap (λ frames. ended_by frames finished.rounds rounds.made finished.messages finished.unread) (sym sent);
+          has = has;
+          started = closes.3;
+        };
+        more = all_more;
+        fronts = all_shown;
+        shown = λ due. shows starts sent;
+      }

@@ -1,9 +1,23 @@
 pub mod NameSets
 pub mod NumberingLemmas
-pub mod RunsOfRounds
 pub mod EnteringLemmas
 pub mod PlacedMessages
-pub mod Sessions
 pub mod Creations
-pub mod CleanLemmas
 mod LentFiles
+pub mod AskedInTurn
+pub mod ChildrenOfARun
+pub mod FrontsOfFrames
+pub mod FrontsOfHellos
+pub mod ActsInARun
+pub mod StoppedChildren
+pub mod StartedChildren
+pub mod CountedStarts
+pub mod BegunProcessors
+pub mod ProcessorsInOrder
+pub mod StoppedProcessors
+pub mod RoundsOfARun
+pub mod DueRefusals
+pub mod AskedProcessors
+pub mod TurnsOfARound
+pub mod RoundsInTurn
+pub mod CleanLemmas

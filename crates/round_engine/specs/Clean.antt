@@ -1,10 +1,10 @@
 -- The clean run over a project, from nothing.
-use Rattle.std.specs.Prelude.{◌≡◌, ℕ, ◌==◌, ◌+◌, ◌≤◌, ◌<◌, ◌^◌, ◌||◌, Bool, true, List, [], ◌∷◌, length, take, map, filter, All, Result, Ok, Err, IfErr, IfSome}
+use Rattle.std.specs.Prelude.{◌≡◌, ℕ, ◌==◌, ◌+◌, ◌≤◌, ◌<◌, ◌^◌, ◌||◌, Bool, true, List, [], ◌∷◌, ◌++◌, length, take, map, filter, All, Result, Ok, Err, IfErr}
 use Rattle.std.specs.FinMap as fin
 use Rattle.apt_outside.specs.Count.{Told}
 use Rattle.apt_outside.specs.declared.children.Children as children
 use Rattle.apt_outside.specs.Files.{Files}
-use Rattle.apt_outside.specs.Child.{Says, Try, State, AllKept}
+use Rattle.apt_outside.specs.Child.{Try, State}
 use Rattle.wire_frames.specs.declared.frame.Creation.{Creation}
 use Rattle.wire_frames.specs.declared.frame.Message.{Message}
 use Rattle.round_engine.specs.declared.messages.Placed.{Placed}
@@ -15,28 +15,41 @@ use Rattle.round_engine.specs.declared.rounds.Rounds.{Rounds}
 use Rattle.round_engine.specs.declared.numbering.Made.{Made}
 use Rattle.round_engine.specs.declared.running.Finished as declared
 use Rattle.round_engine.specs.declared.refusal.Refusal as code
-use Rattle.round_engine.specs.Refusals.{named_by}
+use Rattle.round_engine.specs.Refusals.{NamesAmong}
 use Rattle.round_engine.specs.Faults.{stop_of, is_due}
 use Rattle.element_table.specs.TypeTable.{TypeTable}
 use Rattle.round_engine.specs.Numbering.{AreLeast}
 use Rattle.round_engine.specs.Numbered.{shown_made, number_of, HasText, IsWritten, Fits}
-use Rattle.round_engine.specs.Shown.{ShowsNew, TellsOneMore, TriedOnce, StopsAs}
-use Rattle.round_engine.specs.Run.{Run, Finished, Refused, level, files_among, run_of}
+use Rattle.round_engine.specs.Run.{Plan, Run, Finished, files_among, run_of, frames_of}
+use Rattle.round_engine.specs.Shown.{ShowsAll, TellsMore, ShowsNoMore, TriesInOrder, StartsAll, StopsAs}
+
+-- ---- the run of a key
 
 -- a processor's name and command
 abbrev pub try_of : KeyProcessor → Try
 try_of processor = (processor.name, processor.command)
 
--- so far a build is one of this level, without options, and with at most one processor
+abbrev pub tries_in : Key → List Try
+tries_in key = map try_of key.processors
+
+abbrev pub name_of : KeyProcessor → List ℕ
+name_of processor = processor.name
+
+abbrev pub names_in : Key → List (List ℕ)
+names_in key = map name_of key.processors
+
+-- what the run of a project with this key is told
+abbrev pub plan_of : Key → Plan
+plan_of key = record { level = key.level; options = key.options; processors = tries_in key }
+
+-- so far a build is one of this level
+abbrev pub level : ℕ
+level = 11
+
+-- it has at most 64 processors
 pub record IsPlain (key : Key) : Type 0 where
   pub at_level : key.level ≡ level
-  pub no_options : key.options ≡ []
-  pub one : length key.processors ≤ 1
-
--- without a processor, two rounds run in which nothing is asked
-abbrev pub clean_run : Says → List KeyProcessor → TypeTable → Run
-clean_run says [] table = Finished [] 2 [] [] []
-clean_run says (processor ∷ others) table = run_of says (try_of processor) table
+  pub few : length key.processors ≤ 64
 
 -- ---- what is counted
 
@@ -74,65 +87,56 @@ abbrev pub Closes : Rounds → ℕ → declared.Finished → Type 0
 Closes rounds started finished =
     (finished.rounds ≡ rounds.count) × (finished.messages ≡ rounds.messages) × (finished.unread ≡ rounds.unread) × (finished.started ≡ started)
 
--- the frames that a run sent
-abbrev pub frames_of : Run → List (List ℕ)
-frames_of (Finished sent rounds made messages unread) = sent
-frames_of (Refused sent fault) = sent
+-- a finished run, with the frames that were sent and the files that were made
+abbrev pub shown_finished : List (List (List ℕ)) → List Creation → declared.Finished → Finished
+shown_finished sent made finished = record { sent = sent; rounds = finished.rounds; made = made; messages = finished.messages; unread = finished.unread }
 
--- the child that was started for the processor was shown exactly the frames of the run
-abbrev pub ShowsAll : List KeyProcessor → Run → State → State → Type 0
-ShowsAll [] run old new = AllKept old.known new.known
-ShowsAll (processor ∷ others) run old new = ShowsNew (try_of processor) (frames_of run) old new
-
--- the processor has this name
-abbrev pub IsNamed : List KeyProcessor → List ℕ → Type 0
-IsNamed [] name = ⊥
-IsNamed (processor ∷ others) name = name ≡ processor.name
-
--- a refusal that names a processor names this one
-abbrev pub NamesProcessor : List KeyProcessor → Result declared.Finished code.Refusal → Type 0
-NamesProcessor processors result = IfErr result (λ refusal. IfSome (named_by (stop_of refusal)) (IsNamed processors))
-
--- a finished run is this run, and has its files
-pub record FinishesAs (processors : List KeyProcessor) (whole : Run) (finished : declared.Finished) : Type 0 where
+-- it is this run, and has its files
+pub record FinishesAs (whole : Run) (count : ℕ) (finished : declared.Finished) : Type 0 where
   pub made : List Creation
-  pub is : whole ≡ Finished (frames_of whole) finished.rounds made finished.messages finished.unread
+  pub is : whole ≡ Ok (shown_finished (frames_of whole) made finished)
   pub has : Has made finished
-  pub started : finished.started ≡ length (take 1 processors)
+  pub started : finished.started ≡ count
 
--- nothing is told anew but of one child, and of none where there is no processor
-abbrev pub TellsMore : List KeyProcessor → State → State → Type 0
-TellsMore [] old new = AllKept old.known new.known
-TellsMore (processor ∷ others) old new = TellsOneMore old new
+-- what came of it is the run of a plan
+abbrev pub ComesOf : Run → ℕ → Result declared.Finished code.Refusal → Type 0
+ComesOf whole started (Ok finished) = FinishesAs whole started finished
+ComesOf whole started (Err refusal) = StopsAs whole (frames_of whole) (stop_of refusal)
 
--- what came of it is the run, and where the answer is due the child was shown exactly the run's frames
-abbrev pub ComesOf : List KeyProcessor → Run → Result declared.Finished code.Refusal → Type 0
-ComesOf processors whole (Ok finished) = FinishesAs processors whole finished
-ComesOf processors whole (Err refusal) = StopsAs whole (frames_of whole) (stop_of refusal)
+-- As many processors, the first in order, were started as the run sent frames to, and no start of another was tried. The child of each is new, and was shown
+-- exactly the run's frames.
+pub record ShowsWhole (processors : List Try) (whole : Run) (old new : State) : Type 0 where
+  pub frames : ShowsAll processors (frames_of whole) old new
+  pub starts : new.starts ≡ old.starts + length (frames_of whole)
+  pub tried : new.tried ≡ old.tried ++ take (length (frames_of whole)) processors
 
-pub record Cleans (processors : List KeyProcessor) (table : TypeTable) (old new : State) (result : Result declared.Finished code.Refusal) : Type 0 where
-  pub comes : ComesOf processors (clean_run old.says processors table) result
-  pub more : TellsMore processors old new
-  pub shown : is_due result ≡ true → ShowsAll processors (clean_run old.says processors table) old new
+pub record Cleans (plan : Plan) (table : TypeTable) (old new : State) (result : Result declared.Finished code.Refusal) : Type 0 where
+  pub comes : ComesOf (run_of old.says plan table) (length plan.processors) result
+  pub more : TellsMore (length plan.processors) old new
+  pub shown : is_due result ≡ true → ShowsWhole plan.processors (run_of old.says plan table) old new
+  -- also after a fault of the children or want of memory
+  pub fronts : ShowsNoMore plan.processors (frames_of (run_of old.says plan table)) old new
 
 -- a fact on which what children say bears, where they tell it; without a processor none is asked
-abbrev pub Talked : Bool → List KeyProcessor → Type 0 → Type 0
+abbrev pub Talked : Bool → List Try → Type 0 → Type 0
 Talked talks [] P = P
 Talked talks (processor ∷ others) P = Told talks P
 
 -- the same of a project, over children before and after a call
 abbrev pub CleansOver : {C : Type 0} → children.Ghosts C → Project → C → C → Result declared.Finished code.Refusal → Type 0
 CleansOver c project old new result =
-    Talked c.tells project.key.processors (Cleans project.key.processors project.initial (c.state old) (c.state new) result)
+    Talked c.tells (tries_in project.key) (Cleans (plan_of project.key) project.initial (c.state old) (c.state new) result)
 
--- ---- starts and counts
+-- ---- starts and names
 
--- one child was started for each processor, or at most one where the run was refused
-abbrev pub Starts : List KeyProcessor → Result declared.Finished code.Refusal → State → State → Type 0
-Starts processors (Ok finished) old new = (finished.started ≡ length (take 1 processors)) × (new.starts ≡ old.starts + finished.started)
-Starts processors (Err refusal) old new = new.starts ≤ old.starts + length (take 1 processors)
+-- one child was started for each processor and no other, or no more than these where the run was refused
+abbrev pub Starts : Key → Result declared.Finished code.Refusal → State → State → Type 0
+Starts key result old new = StartsAll (tries_in key) result old new
 
--- no start but that of the processor was tried
-abbrev pub Tries : List KeyProcessor → State → State → Type 0
-Tries [] old new = new.tried ≡ old.tried
-Tries (processor ∷ others) old new = TriedOnce (try_of processor) old new
+-- the starts of the processors were tried in order, up to one of them, and no other
+abbrev pub Tries : Key → State → State → Type 0
+Tries key old new = TriesInOrder (tries_in key) old new
+
+-- a refusal that names a processor names one of these
+abbrev pub NamesProcessor : Key → Result declared.Finished code.Refusal → Type 0
+NamesProcessor key result = IfErr result (λ refusal. NamesAmong (names_in key) (stop_of refusal))

@@ -7,7 +7,7 @@ pub mod Run
 pub mod Faults
 pub mod Entering
 pub mod Shown
-pub mod Moments
 pub mod Numbering
 pub mod Numbered
 pub mod Clean
+pub mod Moments

@@ -1,40 +1,48 @@
 -- What children are before a call and after it.
-use Rattle.std.specs.Prelude.{ℕ, Bool, List, Result, String}
-use Rattle.std.specs.declared.alloc.Global.{Global}
+use Rattle.std.specs.Prelude.{ℕ, Bool, List, Result}
 use Rattle.apt_outside.specs.declared.children.Children as children
 use Rattle.apt_outside.specs.Count.{Told}
-use Rattle.apt_outside.specs.Child.{State, call}
-use Rattle.apt_filer.specs.Filing.{Filings}
+use Rattle.apt_outside.specs.Child.{State}
+use Rattle.processor_claims.specs.declared.supported.Supported.{Supported}
 use Rattle.element_table.specs.TypeTable.{TypeTable}
-use Rattle.child_session.specs.declared.fault.SessionFault.{SessionFault}
-use Rattle.child_session.specs.declared.round.Answer.{Answer}
+use Rattle.round_engine.specs.declared.asking.Asked.{Asked}
+use Rattle.round_engine.specs.declared.beginning.Discovered.{Discovered}
+use Rattle.round_engine.specs.declared.progress.Progress.{Progress}
+use Rattle.round_engine.specs.declared.project.Key.{Key}
+use Rattle.round_engine.specs.declared.project.KeyProcessor.{KeyProcessor}
 use Rattle.round_engine.specs.declared.refusal.Refusal.{Refusal}
-use Rattle.round_engine.specs.declared.rounds.Processor.{Processor}
-use Rattle.round_engine.specs.declared.rounds.Progress.{Progress}
 use Rattle.round_engine.specs.declared.rounds.Round.{Round}
 use Rattle.round_engine.specs.declared.rounds.Rounds.{Rounds}
-use Rattle.round_engine.specs.Shown.{ActsIn, EndsLast, EndsAll, Came, Runs}
+use Rattle.round_engine.specs.Clean.{plan_of, try_of}
+use Rattle.round_engine.specs.Shown as shown
 
 -- a relation of what they were and what they are, where they tell what they hold
 abbrev pub Over : {C : Type 0} → children.Ghosts C → C → C → (State → State → Type 0) → Type 0
 Over c old new P = Told c.tells (P (c.state old) (c.state new))
 
--- what came of a round
-abbrev pub Acts : {C : Type 0} → children.Ghosts C → Round → Bool → C → C → Filings → Filings → Result Answer SessionFault → Type 0
-Acts c round asked old new filings filings' result = Told c.tells (ActsIn round asked (c.state old) (c.state new) filings filings' result)
+-- one processor was to say Hello
+abbrev pub BeginsOne : {C : Type 0} → children.Ghosts C → Key → KeyProcessor → C → C → Result (ℕ × Supported) Refusal → Type 0
+BeginsOne c key processor old new result = Told c.tells (shown.BeginsOne (plan_of key) (try_of processor) (c.state old) (c.state new) result)
 
--- what came of the last round
-abbrev pub Last : {C : Type 0} → children.Ghosts C → Round → Progress → C → C → Filings → Filings → Result Rounds Refusal → Type 0
-Last c round progress old new filings filings' result = Told c.tells (EndsLast round progress (c.state old) (c.state new) filings filings' result)
+-- the processors of a key were to, one after another, as far as the group goes
+abbrev pub BeginsEach : {C : Type 0} → children.Ghosts C → Key → List ℕ → C → C → Result (List Supported) Refusal → Type 0
+BeginsEach c key group old new result = Told c.tells (shown.BeginsEach (plan_of key) group (c.state old) (c.state new) result)
 
--- what came of all rounds over this table
-abbrev pub All : {C : Type 0} → children.Ghosts C → Processor → TypeTable → C → C → Filings → Result Rounds Refusal → Type 0
-All c processor table old new filings' result = Told c.tells (EndsAll processor table (c.state old) (c.state new) filings' result)
+-- all processors of a key were to
+abbrev pub Begins : {C : Type 0} → children.Ghosts C → Key → C → C → Result Discovered Refusal → Type 0
+Begins c key old new result = Told c.tells (shown.Begins (plan_of key) (c.state old) (c.state new) result)
 
--- what came of a child that was just started
-abbrev pub CameOf : {C : Type 0} → children.Ghosts C → ℕ → List ℕ → TypeTable → C → C → Filings → Result Rounds Refusal → Type 0
-CameOf c child name table old new filings' result = Told c.tells (Came child name table (c.state old) (c.state new) filings' result)
+-- a processor was asked
+abbrev pub AsksOne : {C : Type 0} → children.Ghosts C → Asked → Progress → Progress → C → C → Result Bool Refusal → Type 0
+AsksOne c asked p p' old new result = Told c.tells (shown.AsksOne asked p p' (c.state old) (c.state new) result)
 
--- what came of a processor with this name and command
-abbrev pub Ran : {C : Type 0} → children.Ghosts C → List ℕ → List (String Global) → TypeTable → C → C → Filings → Result Rounds Refusal → Type 0
-Ran c name command table old new filings' result = Told c.tells (Runs (call name command) table (c.state old) (c.state new) filings' result)
+-- all were asked that a round asks
+abbrev pub Asks : {C : Type 0} → children.Ghosts C → Discovered → Round → Progress → Progress → C → C → Result Unit Refusal → Type 0
+Asks c d r p p' old new result = Told c.tells (shown.Asks d r p p' (c.state old) (c.state new) result)
+
+-- the last round, and all rounds
+abbrev pub EndsLast : {C : Type 0} → children.Ghosts C → Discovered → Round → Progress → C → C → Result Rounds Refusal → Type 0
+EndsLast c d r p old new result = Told c.tells (shown.EndsLast d r p (c.state old) (c.state new) result)
+
+abbrev pub EndsAll : {C : Type 0} → children.Ghosts C → Discovered → TypeTable → Progress → C → C → Result Rounds Refusal → Type 0
+EndsAll c d table p old new result = Told c.tells (shown.EndsAll d table p (c.state old) (c.state new) result)

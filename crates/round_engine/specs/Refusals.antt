@@ -58,6 +58,13 @@ is_failure (Refused refusal) = false
 is_failure (Failed object) = true
 is_failure Memory = false
 
+-- a stop that may come before round 1, at the start and the first answer of a processor
+abbrev pub is_of_hello : Stop → Bool
+is_of_hello (Refused (UnbuiltTalk processor)) = true
+is_of_hello (Refused other) = false
+is_of_hello (Failed object) = true
+is_of_hello Memory = true
+
 -- the processor that a stop names, if it names one
 abbrev pub named_by : Stop → Option (List ℕ)
 named_by (Refused refusal) = processor_of refusal

@@ -1,13 +1,13 @@
--- The run of one processor over the type table of a project, from nothing: the rounds of JSR 269, what its child is shown in
--- each, and what comes of them. It is a function of the table and of what the child says.
-use Rattle.std.specs.Prelude.{ℕ, zero, suc, ◌==◌, ◌+◌, ◌*◌, ◌||◌, not, Bool, true, false, List, [], ◌∷◌, ◌++◌, length, drop, Option, None, Some, if◌then◌else◌, Result, Ok, Err}
-use Rattle.std.specs.List.{list_any}
+-- The run of the processors of a project over its type table, from nothing: all say Hello, then come the rounds of JSR 269. It is a function of the table and of
+-- what the children say. In a round those are asked that `asked` of `processor_claims` lists, one after another, and what each answers decides who follows.
+use Rattle.std.specs.Prelude.{ℕ, zero, suc, ◌==◌, ◌+◌, ◌*◌, ◌||◌, not, Bool, true, false, List, [], ◌∷◌, ◌++◌, length, drop, map, replicate, slice_get, slice_set, slice_index_or, Option, None, Some, if◌then◌else◌, Result, Ok, Err}
+use Rattle.std.specs.List.{list_any, list_all}
 use Rattle.std.specs.FinMap as fin
 use Rattle.apt_outside.specs.Files.{Files}
 use Rattle.apt_outside.specs.Child.{Says, Try}
-use Rattle.source_form.specs.Form.{is_chain}
+use Rattle.apt_base.specs.Identifiers.{is_pattern}
 use Rattle.apt_base.specs.declared.kinds.Claim.{Claim}
-use Rattle.apt_base.specs.declared.kinds.Claim.TheVariants.{Always}
+use Rattle.apt_base.specs.declared.kinds.Claim.TheVariants.{Varies}
 use Rattle.wire_frames.specs.declared.frame.Frame.{Frame}
 use Rattle.wire_frames.specs.declared.frame.Hello.{Hello}
 use Rattle.wire_frames.specs.declared.frame.Frame.TheVariants as frame
@@ -16,103 +16,200 @@ use Rattle.wire_frames.specs.declared.frame.Creation.TheVariants as creation
 use Rattle.wire_frames.specs.declared.frame.Message.{Message}
 use Rattle.wire_frames.specs.Frames.{spelling}
 use Rattle.apt_filer.specs.Filing.{Filings, path_of, content_of}
-use Rattle.child_session.specs.Talk.{Stream, answer_to}
+use Rattle.processor_claims.specs.declared.supported.Supported.{Supported}
+use Rattle.processor_claims.specs.Asked.{asked}
 use Rattle.child_session.specs.declared.round.Showing.{Showing}
+use Rattle.child_session.specs.Talk.{answer_to}
 use Rattle.child_session.specs.Round.{Act, Answered, Broken, Overasked, Differed, act_of}
 use Rattle.round_engine.specs.declared.messages.Placed.{Placed}
+use Rattle.round_engine.specs.declared.rounds.Round.{Round}
 use Rattle.round_engine.specs.Names.{NameSet, with_name, names_in}
 use Rattle.round_engine.specs.Refusals.{Refusal, UnbuiltTalk, TooManyQuestions, ClaimBroken, TooManyRounds}
 use Rattle.element_table.specs.TypeTable.{TypeTable}
-use Rattle.round_engine.specs.Units.{is_present, Entered, enter_all, all_of, unit_names}
+use Rattle.round_engine.specs.Units.{present_names, Entered, enter_all, all_of, unit_names}
 
--- ---- the frames of the host
+-- ---- what a run is told, and how far it comes
 
--- the source level
-abbrev pub level : ℕ
-level = 11
+-- the source level, the options, and the processors in the order of discovery, each by its name and its command
+pub record Plan : Type 0 where
+  pub level : ℕ
+  pub options : List (List ℕ × List ℕ)
+  pub processors : List Try
 
-abbrev pub init_frame : List ℕ → List ℕ
-init_frame name = spelling (frame.Init (record { name = name; level = level; options = [] }))
+-- the frames that one child was sent
+abbrev pub Frames : Type 0
+Frames = List (List ℕ)
 
--- so far a processor supports one annotation by its name, has no options and always claims
-abbrev pub one_pattern : List (List ℕ) → List (List ℕ) → Claim → Option (List ℕ)
-one_pattern (pattern ∷ []) [] Always = if is_chain pattern then Some pattern else None
-one_pattern patterns options claim = None
+-- A run was refused. Until then children were started for as many processors, the first in order, as there are items here, and each was sent these frames.
+pub record Stopped : Type 0 where
+  pub sent : List Frames
+  pub refusal : Refusal
 
-abbrev pub pattern_in : Hello → Option (List ℕ)
-pattern_in hello = one_pattern hello.patterns hello.options hello.claim
+-- what a part of a run comes to
+abbrev pub Course : Type 0 → Type 0
+Course A = Result A Stopped
 
-abbrev pub pattern_of : Option Frame → Option (List ℕ)
-pattern_of (Some (frame.Hello hello)) = pattern_in hello
-pattern_of other = None
+-- one part and then another
+infixl 10 ◌>>=◌
+abbrev pub ◌>>=◌ : {A B : Type 0} → Course A → (A → Course B) → Course B
+(Ok x) >>= f = f x
+(Err stopped) >>= f = Err stopped
 
--- ---- rounds
+-- ---- Hello
 
--- a round: its number, from 1, its flags, the table, and the names of its root units
-pub record Round : Type 0 where
-  pub number : ℕ
-  pub over : Bool
-  pub error : Bool
-  pub table : TypeTable
-  pub roots : List (List ℕ)
+-- the first frame of the host
+abbrev pub init_frame : Plan → List ℕ → List ℕ
+init_frame plan name = spelling (frame.Init (record { name = name; level = plan.level; options = plan.options }))
 
--- what has come of the rounds before: whether the processor was asked, what the filer has, and the messages that were printed
+abbrev pub first_sent : Plan → Try → Frames
+first_sent plan processor = init_frame plan processor.0 ∷ []
+
+-- what a Hello says that its processor supports; each name in it is a pattern
+abbrev pub supported_in : Hello → Option Supported
+supported_in hello = if list_all is_pattern hello.patterns then Some (record { patterns = hello.patterns; claim = hello.claim }) else None
+
+abbrev pub supported_by : Option Frame → Option Supported
+supported_by (Some (frame.Hello hello)) = supported_in hello
+supported_by other = None
+
+-- what a child answers to the first frame
+abbrev pub hello_of : Says → Plan → Try → Option Supported
+hello_of says plan processor = supported_by (answer_to (says processor.0 processor.1) (first_sent plan processor))
+
+-- a processor said Hello, or the run is refused; these were started before it, and none behind it is
+abbrev pub greeting : Plan → List Try → Try → Option Supported → Course Supported
+greeting plan before processor (Some supported) = Ok supported
+greeting plan before processor None = Err (record { sent = map (first_sent plan) (before ++ processor ∷ []); refusal = UnbuiltTalk processor.0 })
+
+-- the processors behind these, in order: each is sent the first frame and says what it supports
+abbrev pub hellos_from : Says → Plan → List Try → List Try → Course (List Supported)
+hellos_from says plan before [] = Ok []
+hellos_from says plan before (processor ∷ later) = do
+  supported ← greeting plan before processor (hello_of says plan processor)
+  others ← hellos_from says plan (before ++ processor ∷ []) later
+  Ok (supported ∷ others)
+
+-- ---- how far a run is
+
+-- the processors that said Hello, what their children say, and what each supports
+pub record Discovered : Type 0 where
+  pub says : Says
+  pub processors : List Try
+  pub supported : List Supported
+
+-- the frames that each child was sent, which processors were asked, what the filer has, and the messages that were printed
 pub record Progress : Type 0 where
-  pub asked : Bool
+  pub sent : List Frames
+  pub contributed : List Bool
   pub filings : Filings
   pub messages : List Placed
 
--- ---- one round
+-- Processors go by their numbers, from 0 in the order of discovery. A number that none has stands for nobody; nobody is asked.
+abbrev pub processor_at : Discovered → ℕ → Try
+processor_at d number = slice_index_or d.processors number ([], [])
 
--- the pattern, where its name is present
-abbrev pub offered_if : Bool → List ℕ → List (List ℕ)
-offered_if present pattern = if present then pattern ∷ [] else []
+abbrev pub supports_nothing : Supported
+supports_nothing = record { patterns = []; claim = Varies }
 
--- The present names that the processor supports are offered to it. The last round has no roots, and so no names.
-abbrev pub offered : List ℕ → Round → List (List ℕ)
-offered pattern r = offered_if (is_present r.table r.roots pattern) pattern
+abbrev pub claim_at : Discovered → ℕ → Claim
+claim_at d number = (slice_index_or d.supported number supports_nothing).claim
 
--- it is asked where its annotation is present, and where it was asked before
-abbrev pub is_asked : List ℕ → Round → Bool → Bool
-is_asked pattern r before = is_present r.table r.roots pattern || before
+abbrev pub sent_at : Progress → ℕ → Frames
+sent_at p number = slice_index_or p.sent number []
+
+-- ---- one processor in a round
+
+-- the annotations that are present on the roots; the last round has none
+abbrev pub present_in : Round → List (List ℕ)
+present_in r = present_names r.table r.roots
+
+-- those at these positions
+abbrev pub offered_names : Round → List ℕ → List (List ℕ)
+offered_names r positions = map (λ at. slice_index_or (present_in r) at []) positions
 
 -- how often a child may ask in a round with these roots
 abbrev pub limit : List (List ℕ) → ℕ
 limit roots = 65536 + 4096 * length roots
 
-abbrev pub round_frame : List ℕ → Round → List ℕ
-round_frame pattern r = spelling (frame.Round r.number r.over r.error (offered pattern r) r.roots)
+abbrev pub round_frame : Round → List (List ℕ) → List ℕ
+round_frame r offered = spelling (frame.Round r.number r.over r.error offered r.roots)
 
--- what a processor is shown in a round, which declared that it always claims
-abbrev pub showing : List ℕ → Round → Showing
-showing pattern r = record { limit = limit r.roots; claim = Always; round = round_frame pattern r }
+-- what a processor is shown that is offered these names and declared this of its claims
+abbrev pub showing : Round → List (List ℕ) → Claim → Showing
+showing r offered claim = record { limit = limit r.roots; claim = claim; round = round_frame r offered }
 
--- what a processor comes to in a round, after these frames; one that is not asked breaks no claim
-abbrev pub act : Stream → List ℕ → Round → List (List ℕ) → Progress → Act
-act stream pattern r sent p = if is_asked pattern r p.asked then act_of stream (showing pattern r) sent p.filings else Answered sent p.filings [] true
+-- what the processor of this number does, with all files that were accepted before
+abbrev pub act : Discovered → Round → Progress → ℕ → List (List ℕ) → Act
+act d r p number offered =
+    act_of (d.says (processor_at d number).0 (processor_at d number).1) (showing r offered (claim_at d number)) (sent_at p number) p.filings
 
--- messages of a round, numbered from one on; there is one processor, which has the number 0
-abbrev pub place : ℕ → ℕ → List Message → List Placed
-place round number [] = []
-place round number (message ∷ messages) = record { round = round; processor = 0; number = number; message = message } ∷ place round (suc number) messages
+-- messages of a processor in a round, numbered from one on
+abbrev pub place : ℕ → ℕ → ℕ → List Message → List Placed
+place round processor number [] = []
+place round processor number (message ∷ messages) = record { round = round; processor = processor; number = number; message = message } ∷ place round processor (suc number) messages
 
--- what has come of the rounds up to this one
-abbrev pub progress : List ℕ → Round → Progress → Filings → List Message → Progress
-progress pattern r p filings printed = record {
-  asked = is_asked pattern r p.asked;
+-- how far the run is once it did so
+abbrev pub with_act : Round → Progress → ℕ → Frames → Filings → List Message → Progress
+with_act r p number sent filings printed = record {
+  sent = slice_set p.sent number sent;
+  contributed = slice_set p.contributed number true;
   filings = filings;
-  messages = p.messages ++ place r.number 0 printed;
+  messages = p.messages ++ place r.number number 0 printed;
 }
 
--- an ERROR has the kind 0
-abbrev pub has_error : List Message → Bool
-has_error messages = list_any (λ message. message.kind == 0) messages
+abbrev pub stopped_at : Progress → ℕ → Frames → Refusal → Stopped
+stopped_at p number sent refusal = record { sent = slice_set p.sent number sent; refusal = refusal }
 
--- ---- created sources
+-- how far the run is after its act, and whether it claims what it was offered; or the refusal, which names it
+abbrev pub after_act : Discovered → Round → Progress → ℕ → Act → Course (Progress × Bool)
+after_act d r p number (Answered sent filings printed claimed) = Ok (with_act r p number sent filings printed, claimed)
+after_act d r p number (Broken sent filings) = Err (stopped_at p number sent (UnbuiltTalk (processor_at d number).0))
+after_act d r p number (Overasked sent filings) = Err (stopped_at p number sent (TooManyQuestions (processor_at d number).0 (limit r.roots)))
+after_act d r p number (Differed sent filings said) = Err (stopped_at p number sent (ClaimBroken (processor_at d number).0 (claim_at d number) said))
+
+-- the processor of this number is shown the round, and is offered these names
+abbrev pub show : Discovered → Round → Progress → ℕ → List (List ℕ) → Course (Progress × Bool)
+show d r p number offered = after_act d r p number (act d r p number offered)
+
+-- the same with the names at these positions
+abbrev pub ask : Discovered → Round → Progress → ℕ × List ℕ → Course (Progress × Bool)
+ask d r p next = show d r p next.0 (offered_names r next.1)
+
+-- ---- one round
+
+-- Who is asked next, and with the names at which positions, where these were asked in earlier rounds and those before it in this round answered so: the one
+-- behind them in the list of those who are asked. An answer bears on none but those behind it, so that those to come may be left out.
+abbrev pub next_asked : Discovered → Round → List Bool → List Bool → Option (ℕ × List ℕ)
+next_asked d r contributed answers = slice_get (asked d.supported contributed (present_in r) r.over answers) (length answers)
+
+-- the next one is shown the round, and go says what follows; or nobody is left
+abbrev pub ask_next : Discovered → Round → Progress → Option (ℕ × List ℕ) → (Progress × Bool → Course Progress) → Course Progress
+ask_next d r p None go = Ok p
+ask_next d r p (Some next) go = ask d r p next >>= go
+
+-- the rest of a round, where those that were asked answered so and this many may be left
+unfoldable pub asks_from : Discovered → Round → List Bool → ℕ → List Bool → Progress → Course Progress
+asks_from d r contributed zero answers p = Ok p
+asks_from d r contributed (suc left) answers p =
+    ask_next d r p (next_asked d r contributed answers) (λ acted. asks_from d r contributed left (answers ++ acted.1 ∷ []) acted.0)
+
+-- a round: no processor is asked twice in it
+abbrev pub round_of : Discovered → Round → Progress → Course Progress
+round_of d r p = asks_from d r p.contributed (length d.processors) [] p
+
+-- ---- what a round left
 
 -- what was made since
 abbrev pub new_since : Filings → Filings → List Creation
-new_since before filings = drop (length before.made) filings.made
+new_since before after = drop (length before.made) after.made
+
+-- what was printed since
+abbrev pub printed_since : List Placed → List Placed → List Placed
+printed_since before after = drop (length before) after
+
+-- an ERROR has the kind 0
+abbrev pub has_error : List Placed → Bool
+has_error messages = list_any (λ placed. placed.message.kind == 0) messages
 
 -- files, or names, to which each creation adds what it adds
 abbrev pub gathered : {A : Type 0} → (A → Creation → A) → A → List Creation → A
@@ -149,18 +246,17 @@ unread_among made = names_in (gathered with_unread fin.empty made)
 
 -- ---- the run
 
--- a run, with the frames that its child was sent
-pub data Run : Type 0 where
-  -- this many rounds, the files, the messages, and the sources of the last round by their names
-  Finished : (sent : List (List ℕ)) (rounds : ℕ) (made : List Creation) (messages : List Placed) (unread : List (List ℕ)) → Run
-  Refused : (sent : List (List ℕ)) (refusal : Refusal) → Run
+-- a run that was not refused: the frames that each child was sent, how many rounds there were, the files, the messages in order of round, processor and
+-- number, and the sources of the last round by their names
+pub record Finished : Type 0 where
+  pub sent : List Frames
+  pub rounds : ℕ
+  pub made : List Creation
+  pub messages : List Placed
+  pub unread : List (List ℕ)
 
--- what follows an act of this processor in a round with these roots, unless it is refused
-abbrev pub after_act : List ℕ → List (List ℕ) → Act → (List (List ℕ) → Filings → List Message → Run) → Run
-after_act processor roots (Answered sent filings printed claimed) go = go sent filings printed
-after_act processor roots (Broken sent filings) go = Refused sent (UnbuiltTalk processor)
-after_act processor roots (Overasked sent filings) go = Refused sent (TooManyQuestions processor (limit roots))
-after_act processor roots (Differed sent filings said) go = Refused sent (ClaimBroken processor Always said)
+abbrev pub Run : Type 0
+Run = Course Finished
 
 -- The last round has no roots, and nothing is offered in it.
 abbrev pub last_of : ℕ → Bool → TypeTable → Round
@@ -171,31 +267,39 @@ abbrev pub next_of : ℕ → Entered → Round
 next_of number entered = record { number = number; over = false; error = false; table = entered.table; roots = entered.names }
 
 -- The sources of the last round are kept and not read.
-abbrev pub last_round : List ℕ → Stream → List ℕ → ℕ → Bool → TypeTable → List (List ℕ) → Progress → Run
-last_round processor stream pattern number error table sent p = after_act processor [] (act stream pattern (last_of number error table) sent p) (λ sent' filings printed.
-    Finished sent' number filings.made (p.messages ++ place number 0 printed) (unread_among (new_since p.filings filings)))
+abbrev pub finished : ℕ → Progress → Progress → Finished
+finished rounds before after = record {
+  sent = after.sent;
+  rounds = rounds;
+  made = after.filings.made;
+  messages = after.messages;
+  unread = unread_among (new_since before.filings after.filings);
+}
 
-abbrev pub enter_next : List (List ℕ) → Result Entered Refusal → (Entered → Run) → Run
-enter_next sent (Ok entered) go = go entered
-enter_next sent (Err refusal) go = Refused sent refusal
+abbrev pub last_round : Discovered → ℕ → Bool → TypeTable → Progress → Run
+last_round d number error table before = do
+  after ← round_of d (last_of number error table) before
+  Ok (finished number before after)
 
--- After a round with an ERROR, or one that created no source, comes the last one. Else its sources are read and entered in
--- order of path, and their units are the roots of the next.
-abbrev pub after_round : List ℕ → Stream → List ℕ → Round → List (List ℕ) → Progress → List Creation → List Message → (Entered → Run) → Run
-after_round processor stream pattern r sent p new printed go =
-    if has_error printed || not (creates_source new) then last_round processor stream pattern (suc r.number) (has_error printed) r.table sent p
-    else enter_next sent (enter_all r.table (fin.entries (sources_among new))) go
+-- sources were entered, or the run is refused
+abbrev pub entering : List Frames → Result Entered Refusal → Course Entered
+entering sent (Ok entered) = Ok entered
+entering sent (Err refusal) = Err (record { sent = sent; refusal = refusal })
 
--- A round that is not the last, and what follows it; go says what follows where its sources are entered.
-abbrev pub round_then : List ℕ → Stream → List ℕ → Round → List (List ℕ) → Progress → (Round → List (List ℕ) → Progress → Run) → Run
-round_then processor stream pattern r sent p go = after_act processor r.roots (act stream pattern r sent p) (λ sent' filings printed.
-    after_round processor stream pattern r sent' (progress pattern r p filings printed) (new_since p.filings filings) printed (λ entered.
-    go (next_of (suc r.number) entered) sent' (progress pattern r p filings printed)))
+-- After a round in which an ERROR was printed, or no source was created, comes the last one. Else its sources are read and entered in order of path, and go says
+-- what follows.
+abbrev pub after_round : Discovered → Round → Progress → Progress → (Entered → Run) → Run
+after_round d r before after go =
+    if has_error (printed_since before.messages after.messages) || not (creates_source (new_since before.filings after.filings))
+    then last_round d (suc r.number) (has_error (printed_since before.messages after.messages)) r.table after
+    else (entering after.sent (enter_all r.table (fin.entries (sources_among (new_since before.filings after.filings)))) >>= go)
 
--- the rounds from one on that is not the last, where this many rounds may come that are not the last
-unfoldable pub rounds_from : List ℕ → Stream → List ℕ → ℕ → Round → List (List ℕ) → Progress → Run
-rounds_from processor stream pattern zero r sent p = Refused sent TooManyRounds
-rounds_from processor stream pattern (suc left) r sent p = round_then processor stream pattern r sent p (rounds_from processor stream pattern left)
+-- the rounds from one on that is not the last, where this many rounds may come that are not the last; the units of what one created are the roots of the next
+unfoldable pub rounds_from : Discovered → ℕ → Round → Progress → Run
+rounds_from d zero r p = Err (record { sent = p.sent; refusal = TooManyRounds })
+rounds_from d (suc left) r p = do
+  after ← round_of d r p
+  after_round d r p after (λ entered. rounds_from d left (next_of (suc r.number) entered) after)
 
 -- a run has 64 rounds at most, the last included
 abbrev pub rounds_before_last : ℕ
@@ -205,19 +309,28 @@ rounds_before_last = 63
 abbrev pub new_filings : TypeTable → Filings
 new_filings table = record { initial = unit_names table; made = [] }
 
-abbrev pub start : TypeTable → Progress
-start table = record { asked = false; filings = new_filings table; messages = [] }
+-- each child was sent the first frame, and none was asked
+abbrev pub start : Plan → TypeTable → Progress
+start plan table = record {
+  sent = map (first_sent plan) plan.processors;
+  contributed = replicate (length plan.processors) false;
+  filings = new_filings table;
+  messages = [];
+}
 
-abbrev pub after_hello : List ℕ → Stream → List (List ℕ) → TypeTable → Option (List ℕ) → Run
-after_hello processor stream sent table None = Refused sent (UnbuiltTalk processor)
-after_hello processor stream sent table (Some pattern) = rounds_from processor stream pattern rounds_before_last (next_of 1 (all_of table)) sent (start table)
+abbrev pub discovered : Says → Plan → List Supported → Discovered
+discovered says plan supported = record { says = says; processors = plan.processors; supported = supported }
 
--- the run of a processor with this name and command
-abbrev pub run_of : Says → Try → TypeTable → Run
-run_of says processor table =
-    let stream = says processor.0 processor.1 in
-    let sent = init_frame processor.0 ∷ [] in
-    after_hello processor.0 stream sent table (pattern_of (answer_to stream sent))
+-- the first round has all units of the sources as roots
+abbrev pub run_of : Says → Plan → TypeTable → Run
+run_of says plan table = do
+  supported ← hellos_from says plan [] plan.processors
+  rounds_from (discovered says plan supported) rounds_before_last (next_of 1 (all_of table)) (start plan table)
+
+-- the frames that a run sent, for each child that was started
+abbrev pub frames_of : Run → List Frames
+frames_of (Ok finished) = finished.sent
+frames_of (Err stopped) = stopped.sent
 
 -- ---- what is published
 

@@ -1,8 +1,6 @@
 -- The units of a run in the type table: how the units of a source enter it, and which annotations are present on them.
-use Rattle.std.specs.Prelude.{ℕ, Bool, List, [], ◌∷◌, ◌++◌, map, Result, Ok, Err}
-use Rattle.std.specs.List.{list_any}
+use Rattle.std.specs.Prelude.{ℕ, List, [], ◌∷◌, ◌++◌, map, Result, Ok, Err}
 use Rattle.std.specs.Option.{option_map_or}
-use Rattle.std.specs.Str.{bytes_eq}
 use Rattle.std.specs.FinMap as fin
 use Rattle.apt_base.specs.declared.kinds.What.{What}
 use Rattle.apt_base.specs.declared.kinds.What.TheVariants.{Types}
@@ -44,14 +42,6 @@ with_names_at table names (root ∷ roots) = with_names_at table (with_names nam
 -- the annotations that are present on units of the table, by their names, each once and ascending
 abbrev pub present_names : TypeTable → List (List ℕ) → List (List ℕ)
 present_names table roots = names_in (with_names_at table fin.empty roots)
-
--- an annotation of this name is among these
-abbrev pub is_among : List (List ℕ) → List ℕ → Bool
-is_among present name = list_any (λ other. bytes_eq other name) present
-
--- an annotation of this name is present on one of these units of the table
-abbrev pub is_present : TypeTable → List (List ℕ) → List ℕ → Bool
-is_present table roots name = is_among (present_names table roots) name
 
 -- ---- a source
 

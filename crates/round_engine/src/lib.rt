@@ -1,11 +1,12 @@
 //! The rounds of a build, from nothing (JSR 269, `Processor` and `RoundEnvironment`).
 //!
-//! `specs/Run.antt` says what the run of a processor over the units of a project is, round by round: a function of the
-//! units and of what the processor says. `specs/Clean.antt` says what `clean` gives of it. Nothing is said of files that an
+//! `specs/Run.antt` says what the run of the processors over the units of a project is, round by round: a function of the
+//! units and of what the processors say. `specs/Clean.antt` says what `clean` gives of it. Nothing is said of files that an
 //! earlier build left, of pipes or of pieces of bytes, and nothing is promised of time.
 #![tactic(auto)]
 
-mod child;
+mod asking;
+mod beginning;
 mod entering;
 mod files;
 mod frames;
@@ -13,6 +14,7 @@ mod limits;
 mod messages;
 mod names;
 mod numbering;
+mod progress;
 mod project;
 mod refusal;
 mod rounds;

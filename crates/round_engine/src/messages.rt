@@ -46,26 +46,27 @@ pub fn copy_messages(alloc: Global, messages: &[Placed]) -> Result<List<Placed>,
 }
 
 /// Whether one of the messages is an error.
-pub fn has_error(messages: &[Message]) -> bool
+pub fn has_error(messages: &[Placed]) -> bool
     ensures { result ≡ has_error messages.now }
 {
-    messages.iter().any(|message| message.kind == 0)
+    messages.iter().any(|placed| placed.message.kind == 0)
 }
 
-/// Adds the messages that the processor printed in a round to those of the rounds before. No memory holds 2^32 messages,
+/// Adds the messages that a processor printed in a round to those that were printed before. No memory holds 2^32 messages,
 /// so that these too are answered with `NoMemory`.
 pub fn place(
     messages: &mut List<Placed>,
     round: u32,
+    processor: u16,
     printed: List<Message>,
 ) -> Result<(), NoMemory>
-    ensures { OnOk result (messages.new ≡ messages.old ++ place round 0 printed) }
+    ensures { OnOk result (messages.new ≡ messages.old ++ place round processor 0 printed) }
 {
     let mut number: u32 = 0;
     for message in printed.into_vec() {
         messages.push(Placed {
             round,
-            processor: 0,
+            processor,
             number,
             message,
         })?;

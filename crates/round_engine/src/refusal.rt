@@ -123,14 +123,11 @@ impl<T: Drop> From<AllocFailed<T>> for Refusal {
     }
 }
 
-/// The refusal of a run whose session with this processor failed so, or `Memory` where there is none for the name.
-pub fn refusal_of(processor: &Name, fault: SessionFault) -> Refusal
-    ensures is { OrMemory (of_session processor.now fault) (stop_of result) }
-    ensures named { Names processor.now (stop_of result) }
+/// The refusal of a run whose session with this processor failed so.
+pub(crate) fn refusal_by(processor: Name, fault: SessionFault) -> Refusal
+    ensures is { stop_of result ≡ of_session processor fault }
+    ensures named { Names processor (stop_of result) }
 {
-    let Ok(processor) = processor.copy() else {
-        return Refusal::Memory;
-    };
     match fault {
         SessionFault::Failed => Refusal::ChildFault { processor },
         SessionFault::Unbuilt => Refusal::UnbuiltTalk { processor },
@@ -142,4 +139,15 @@ pub fn refusal_of(processor: &Name, fault: SessionFault) -> Refusal
         },
         SessionFault::Memory => Refusal::Memory,
     }
+}
+
+/// The refusal of a run whose session with this processor failed so, or `Memory` where there is none for the name.
+pub fn refusal_of(processor: &Name, fault: SessionFault) -> Refusal
+    ensures is { OrMemory (of_session processor.now fault) (stop_of result) }
+    ensures named { Names processor.now (stop_of result) }
+{
+    let Ok(processor) = processor.copy() else {
+        return Refusal::Memory;
+    };
+    refusal_by(processor, fault)
 }

@@ -1,23 +1,22 @@
 // The rounds of a run.
-ghost use Rattle.std.specs.Prelude.{◌≡◌, ◌+◌, ◌*◌, ◌||◌, not, Contains, IfOk, IfErr, OnOk, drop, length};
-ghost use Rattle.child_session.specs.Faults as session;
-ghost use Rattle.apt_outside.specs.Child.{Attends};
-ghost use Rattle.round_engine.specs.Refusals.{Names};
+ghost use Rattle.std.specs.Prelude.{◌≡◌, ◌||◌, not, IfOk, IfErr, OnOk, drop, length, true, false, []};
+ghost use Rattle.round_engine.specs.Refusals.{NamesAmong};
 ghost use Rattle.round_engine.specs.Faults.{stop_of, HasReason};
-ghost use Rattle.round_engine.specs.Run.{creates_source, new_filings};
-ghost use Rattle.round_engine.specs.Shown.{asked_after};
-ghost use Rattle.round_engine.specs.Moments.{Over, Acts, Last, All};
+ghost use Rattle.round_engine.specs.Units.{all_of};
+ghost use Rattle.round_engine.specs.Run.{creates_source, next_of};
+ghost use Rattle.round_engine.specs.Shown.{AreListed, HasEach, AllLive, AttendsAll, IsDueStop};
+ghost use Rattle.round_engine.specs.Moments.{Over, EndsLast, EndsAll};
 
+use crate::asking::ask_all;
+use crate::beginning::Discovered;
 use crate::entering::enter_all;
-use crate::frames::round_bytes;
-use crate::messages::{Placed, has_error, place};
-use crate::refusal::{Refusal, refusal_of};
+use crate::messages::{Placed, has_error};
+use crate::progress::Progress;
+use crate::refusal::Refusal;
 use crate::sources::{creates_source, unread_among};
-use crate::units::{is_among, present_names};
-use apt_base::{Claim, List, Name, NoMemory, copy_names};
+use apt_base::{List, Name, NoMemory};
 use apt_filer::Filer;
 use apt_outside::Children;
-use child_session::{Answer, SessionFault, Showing, show_round};
 use element_table::{Part, Table};
 use std::alloc::Global;
 use wire_frames::Creation;
@@ -25,106 +24,32 @@ use wire_frames::Creation;
 // The most rounds of a run, the last included.
 const MAX_ROUNDS: u32 = 64;
 
-/// A processor whose child is shown the rounds.
-#[derive(Clone, Copy)]
-pub struct Processor<'a> {
-    /// The number of its child.
-    pub child: u32,
-    /// Its class's name.
-    pub name: &'a Name,
-    /// The annotation that it supports.
-    pub pattern: &'a Name,
-}
-
-/// A round that a processor is shown.
-#[derive(Clone, Copy)]
-pub struct Round<'a> {
-    /// The processor.
-    pub processor: Processor<'a>,
-    /// From 1.
+/// A round.
+#[derive(Drop)]
+pub struct Round {
+    /// Its number, from 1.
     pub number: u32,
     /// Whether it is the last.
     pub over: bool,
     /// Whether an error was printed in the round before.
     pub error: bool,
-    /// The type table that it sees.
-    pub table: &'a Table,
-    /// The names of its root units.
-    pub roots: &'a List<Name>,
+    /// The units of the project, and of the sources that were created before.
+    pub table: Table,
+    /// The names of its root units, ascending; the last round has none.
+    pub roots: List<Name>,
 }
 
-/// What has come of the rounds before, beside the files that were made.
-#[derive(Drop)]
-pub struct Progress {
-    /// Whether the processor was asked.
-    pub asked: bool,
-    /// The messages, in order.
-    pub messages: List<Placed>,
-}
-
-/// What the rounds of a run came to, beside the files that were made.
+/// What the rounds of a run came to.
 #[derive(Drop)]
 pub struct Rounds {
     /// How many there were, the last included.
     pub count: u32,
+    /// The files that were made, in order.
+    pub made: List<Creation>,
     /// The messages, in order.
     pub messages: List<Placed>,
     /// The names of the sources that were created in the last round, ascending.
     pub unread: List<Name>,
-}
-
-// How often a child may ask in a round with these roots. More than fits is answered as want of memory.
-fn limit_of(roots: &[Name]) -> Result<u32, NoMemory>
-    ensures { IfOk result (λ most. most ≡ 65536 + 4096 * length roots.now) }
-{
-    let most = (roots.len() as u64).checked_mul(4096).ok_or(NoMemory)?;
-    let most = most.checked_add(65_536).ok_or(NoMemory)?;
-    u32::try_from(most).map_err(|_| NoMemory)
-}
-
-/// Shows a round to the processor's child, if it is asked in it, and gives its answer. One that is not asked prints nothing.
-fn act<C: Children>(
-    alloc: Global,
-    children: &mut C,
-    round: &Round<'_>,
-    asked: &mut bool,
-    filer: &mut Filer,
-) -> Result<Answer, SessionFault>
-    requires lives { Contains (C.state children.old).live round.now.processor.child }
-    ensures reason { session.HasReason (C.faults children.old) (C.faults children.new) result }
-    ensures starts { (C.state children.new).starts ≡ (C.state children.old).starts }
-    ensures live { (C.state children.new).live ≡ (C.state children.old).live }
-    ensures attends { Over C.Children children.old children.new (Attends round.now.processor.child) }
-    ensures asked { OnOk result (asked.new ≡ asked_after round.now asked.old) }
-    ensures acts { Acts C.Children round.now asked.old children.old children.new filer.old filer.new result }
-{
-    let Round {
-        processor: Processor { child, pattern, .. },
-        table,
-        roots,
-        ..
-    } = *round;
-    let names = present_names(alloc, table, roots.as_slice())?;
-    let present = is_among(names.as_slice(), pattern.as_str().as_bytes());
-    if !present && !*asked {
-        return Ok(Answer {
-            messages: List::new(alloc),
-            claimed: true,
-        });
-    }
-    *asked = true;
-    let showing = Showing {
-        limit: limit_of(roots.as_slice())?,
-        claim: Claim::Always,
-        round: round_bytes(
-            alloc,
-            pattern,
-            present,
-            round,
-            copy_names(alloc, roots.as_slice())?,
-        )?,
-    };
-    show_round(alloc, children, child, &showing, filer)
 }
 
 // What was made since there were `count` files.
@@ -138,43 +63,45 @@ fn made_since(filer: &Filer, count: usize) -> &[Creation]
     &made[count..]
 }
 
-/// Shows a round as the last one, which has no roots, and gives what the whole run comes to.
+// What was printed since there were `count` messages.
+fn printed_since(messages: &[Placed], count: usize) -> &[Placed]
+    ensures { result.now ≡ drop count messages.now }
+{
+    if count > messages.len() {
+        return &[];
+    }
+    &messages[count..]
+}
+
+/// The last round, and what the whole run comes to.
 fn finish<C: Children>(
     alloc: Global,
     children: &mut C,
-    round: &Round<'_>,
+    run: &Discovered,
+    last: Round,
     progress: Progress,
-    filer: &mut Filer,
 ) -> Result<Rounds, Refusal>
-    requires lives { Contains (C.state children.old).live round.now.processor.child }
+    requires last { last.over ≡ true }
+    requires none { last.roots ≡ [] }
+    requires listed { AreListed run.now }
+    requires each { HasEach run.now progress }
+    requires lives { AllLive run.now.group (C.state children.old) }
     ensures reason { HasReason (C.faults children.old) (C.faults children.new) result }
-    ensures named { IfErr result (λ refusal. Names round.now.processor.name.now (stop_of refusal)) }
+    ensures named { IfErr result (λ refusal. NamesAmong run.now.names (stop_of refusal)) }
+    ensures due { IfErr result (λ refusal. IsDueStop (stop_of refusal)) }
     ensures starts { (C.state children.new).starts ≡ (C.state children.old).starts }
     ensures live { (C.state children.new).live ≡ (C.state children.old).live }
-    ensures attends { Over C.Children children.old children.new (Attends round.now.processor.child) }
-    ensures ends { Last C.Children round.now progress children.old children.new filer.old filer.new result }
+    ensures attends { Over C.Children children.old children.new (AttendsAll run.now.group) }
+    ensures ends { EndsLast C.Children run.now last progress children.old children.new result }
 {
-    let roots = List::new(alloc);
-    let last = Round {
-        processor: round.processor,
-        number: round.number,
-        over: true,
-        error: round.error,
-        table: round.table,
-        roots: &roots,
-    };
-    let count = filer.made().len();
-    let mut asked = progress.asked;
-    let mut messages = progress.messages;
-    let answer = match act(alloc, children, &last, &mut asked, filer) {
-        Ok(answer) => answer,
-        Err(fault) => return Err(refusal_of(round.processor.name, fault)),
-    };
-    place(&mut messages, round.number, answer.messages)?;
-    let unread = unread_among(alloc, made_since(filer, count))?;
+    let mut progress = progress;
+    let count = progress.filer.made().len();
+    ask_all(alloc, children, run, &last, &mut progress)?;
+    let unread = unread_among(alloc, made_since(&progress.filer, count))?;
     Ok(Rounds {
-        count: round.number,
-        messages,
+        count: last.number,
+        made: progress.filer.into_made(),
+        messages: progress.messages,
         unread,
     })
 }
@@ -186,58 +113,59 @@ fn is_followed_by_last(error: bool, made: &[Creation]) -> bool
     error || !creates_source(made)
 }
 
-/// Shows the processor's child all rounds from the first on. All source units of the project's table are the roots of
-/// round 1, and the units of created sources enter a copy of it.
+// The first round over a table, of which all source units are roots.
+fn first_round(alloc: Global, project: &Table) -> Result<Round, NoMemory>
+    ensures { IfOk result (λ round. round ≡ next_of 1 (all_of project.now)) }
+{
+    Ok(Round {
+        number: 1,
+        over: false,
+        error: false,
+        table: project.copy(alloc)?,
+        roots: project.names(alloc, Part::Source)?,
+    })
+}
+
+/// Shows the processors all rounds from the first on. All source units of the project's table are the roots of round 1, and the
+/// units of created sources enter a copy of it (JSR 269, `RoundEnvironment`).
 pub fn show_rounds<C: Children>(
     alloc: Global,
     children: &mut C,
-    processor: &Processor<'_>,
+    run: &Discovered,
     project: &Table,
-    filer: &mut Filer,
+    progress: Progress,
 ) -> Result<Rounds, Refusal>
-    requires lives { Contains (C.state children.old).live processor.now.child }
-    requires new { filer.old ≡ new_filings project.now }
+    requires listed { AreListed run.now }
+    requires each { HasEach run.now progress }
+    requires lives { AllLive run.now.group (C.state children.old) }
     ensures reason { HasReason (C.faults children.old) (C.faults children.new) result }
-    ensures named { IfErr result (λ refusal. Names processor.now.name.now (stop_of refusal)) }
+    ensures named { IfErr result (λ refusal. NamesAmong run.now.names (stop_of refusal)) }
+    ensures due { IfErr result (λ refusal. IsDueStop (stop_of refusal)) }
     ensures starts { (C.state children.new).starts ≡ (C.state children.old).starts }
     ensures live { (C.state children.new).live ≡ (C.state children.old).live }
-    ensures attends { Over C.Children children.old children.new (Attends processor.now.child) }
-    ensures ends { All C.Children processor.now project.now children.old children.new filer.new result }
+    ensures attends { Over C.Children children.old children.new (AttendsAll run.now.group) }
+    ensures ends { EndsAll C.Children run.now project.now progress children.old children.new result }
 {
-    let mut table = project.copy(alloc)?;
-    let mut roots = project.names(alloc, Part::Source)?;
-    let mut messages = List::new(alloc);
-    let mut asked = false;
+    let mut progress = progress;
+    let mut round = first_round(alloc, project)?;
     for number in 1..MAX_ROUNDS {
-        let round = Round {
-            processor: *processor,
-            number,
-            over: false,
-            error: false,
-            table: &table,
-            roots: &roots,
-        };
-        let count = filer.made().len();
-        let answer = match act(alloc, children, &round, &mut asked, filer) {
-            Ok(answer) => answer,
-            Err(fault) => return Err(refusal_of(processor.name, fault)),
-        };
-        let error = has_error(answer.messages.as_slice());
-        place(&mut messages, number, answer.messages)?;
-        if is_followed_by_last(error, made_since(filer, count)) {
+        let made = progress.filer.made().len();
+        let printed = progress.messages.len();
+        ask_all(alloc, children, run, &round, &mut progress)?;
+        let error = has_error(printed_since(progress.messages.as_slice(), printed));
+        if is_followed_by_last(error, made_since(&progress.filer, made)) {
             let last = Round {
-                processor: *processor,
                 number: number + 1,
                 over: true,
                 error,
-                table: &table,
-                roots: &roots,
+                table: round.table,
+                roots: List::new(alloc),
             };
-            let progress = Progress { asked, messages };
-            return finish(alloc, children, &last, progress, filer);
+            return finish(alloc, children, run, last, progress);
         }
-        let entered = enter_all(alloc, &mut table, made_since(filer, count))?;
-        roots = entered;
+        let entered = enter_all(alloc, &mut round.table, made_since(&progress.filer, made))?;
+        round.roots = entered;
+        round.number = number + 1;
     }
     Err(Refusal::TooManyRounds)
 }

@@ -1,24 +1,25 @@
 // The clean run over a project.
-ghost use Rattle.std.specs.Prelude.{◌≡◌, map, IfOk, string_bytes};
+ghost use Rattle.std.specs.Prelude.{◌≡◌, [], length, IfOk, IfErr};
 ghost use Rattle.std.specs.List.Sorted.{IsStrictlyIncreasing};
 ghost use Rattle.apt_outside.specs.Count.{Told};
-ghost use Rattle.round_engine.specs.Faults.{HasReason};
+ghost use Rattle.round_engine.specs.Faults.{HasReason, stop_of};
 ghost use Rattle.round_engine.specs.Clean.{IsPlain, AreNumbered, Closes, Has, NamesProcessor, Starts, Tries, CleansOver};
+ghost use Rattle.round_engine.specs.Shown.{AreListed, CountsTries, IsDueStop};
 ghost use Rattle.round_engine.specs.Moments.{Over};
 
-use crate::child::run_processor;
+use crate::beginning::{Discovered, begin_all, end_all};
 use crate::messages::{Placed, copy_messages, count_errors, count_warnings};
 use crate::numbering::{Made, copy_files, number_files};
+use crate::progress::Progress;
 use crate::project::Project;
 use crate::refusal::Refusal;
-use crate::rounds::Rounds;
+use crate::rounds::{Rounds, show_rounds};
 use crate::sources::files_among;
 use crate::units::unit_names;
 use apt_base::{List, Name, NoMemory, copy_names};
 use apt_filer::Filer;
 use apt_outside::Children;
 use std::alloc::Global;
-use wire_frames::Creation;
 
 /// What a run came to that was not refused.
 #[derive(Drop)]
@@ -56,15 +57,24 @@ impl Finished {
     }
 }
 
-/// The words of a command.
-fn words_of(alloc: Global, command: &[Name]) -> Result<Vec<String>, NoMemory>
-    ensures { IfOk result (λ words. map string_bytes words.items ≡ command.now) }
+// What two rounds come to in which nobody is asked.
+fn no_rounds(alloc: Global) -> Rounds
+    ensures { result ≡ record { count = 2; made = []; messages = []; unread = [] } }
 {
-    let mut words = Vec::new(alloc);
-    for word in command {
-        words.push(String::from_str(alloc, word.as_str())?)?;
+    Rounds {
+        count: 2,
+        made: List::new(alloc),
+        messages: List::new(alloc),
+        unread: List::new(alloc),
     }
-    Ok(words)
+}
+
+// How many children a run has.
+fn count_of(run: &Discovered) -> u32
+    requires { AreListed run.now }
+    ensures { result ≡ length run.now.group }
+{
+    run.group.len() as u32
 }
 
 /// What a run has of what was made.
@@ -73,19 +83,18 @@ fn finish_run(
     taken: &[u32],
     started: u32,
     rounds: Rounds,
-    made: List<Creation>,
 ) -> Result<Finished, NoMemory>
     requires { IsStrictlyIncreasing taken.now }
     ensures is { IfOk result (Closes rounds started) }
     ensures numbered { IfOk result (λ finished. AreNumbered taken.now finished.files) }
-    ensures has { IfOk result (Has made) }
+    ensures has { IfOk result (Has rounds.made) }
 {
     let errors = count_errors(rounds.messages.as_slice());
     let warnings = count_warnings(rounds.messages.as_slice());
     let warnings = warnings
         .checked_add(rounds.unread.len() as u64)
         .ok_or(NoMemory)?;
-    let files = number_files(alloc, taken, files_among(alloc, made)?)?;
+    let files = number_files(alloc, taken, files_among(alloc, rounds.made)?)?;
     Ok(Finished {
         errors,
         warnings,
@@ -97,11 +106,14 @@ fn finish_run(
     })
 }
 
-/// Runs the rounds over a project, from nothing, as far as they are built: at level 11, without options and with at most
-/// one processor. A file gets the least number that is neither taken nor an earlier file's; the taken numbers ascend.
+/// Runs the rounds over a project, from nothing, so far at level 11 and with at most 64 processors. All processors are started
+/// before round 1, in order, and stopped after the last. A file gets the least number that is neither taken nor an earlier
+/// file's; the taken numbers ascend.
 ///
 /// A fault of the children comes only where their count rose. Want of memory may come at any point, and each other
 /// refusal comes exactly where the run has it (JSR 269, `Processor`, `RoundEnvironment` and `Filer`).
+/// Whatever comes of it, each child that is new is that of its processor, in order, and was sent the first of the frames that the
+/// run sends it and nothing else; but for at most one, in whose talk a fault of the children or want of memory came.
 pub fn clean<C: Children>(
     alloc: Global,
     project: &Project,
@@ -111,33 +123,36 @@ pub fn clean<C: Children>(
     requires plain { IsPlain project.now.key }
     requires ascending { IsStrictlyIncreasing taken.now }
     ensures reason { HasReason (C.faults children.old) (C.faults children.new) result }
-    ensures starts { Starts project.now.key.processors result (C.state children.old) (C.state children.new) }
+    ensures starts { Starts project.now.key result (C.state children.old) (C.state children.new) }
+    ensures started { IfOk result (λ finished. finished.started ≡ length project.now.key.processors) }
     ensures live { (C.state children.new).live ≡ (C.state children.old).live }
     ensures says { Told C.tells ((C.state children.new).says ≡ (C.state children.old).says) }
-    ensures tried { Over C.Children children.old children.new (Tries project.now.key.processors) }
+    ensures counted { Over C.Children children.old children.new (CountsTries result) }
+    ensures tried { Over C.Children children.old children.new (Tries project.now.key) }
     ensures numbered { IfOk result (λ finished. AreNumbered taken.now finished.files) }
-    ensures named { NamesProcessor project.now.key.processors result }
+    ensures named { NamesProcessor project.now.key result }
+    ensures due { IfErr result (λ refusal. IsDueStop (stop_of refusal)) }
     ensures cleans { CleansOver C.Children project.now children.old children.new result }
 {
-    let mut filer = Filer::new(alloc, &unit_names(alloc, &project.initial)?)?;
-    let Some((processor, _)) = project.key.processors.as_slice().split_first() else {
-        let none = Rounds {
-            count: 2,
-            messages: List::new(alloc),
-            unread: List::new(alloc),
-        };
-        return Ok(finish_run(alloc, taken, 0, none, List::new(alloc))?);
+    let names = unit_names(alloc, &project.initial)?;
+    let filer = Filer::new(alloc, &names)?;
+    let processors = project.key.processors.len();
+    if processors == 0 {
+        // nobody is asked in the two rounds, whatever the children tell
+        return Ok(finish_run(alloc, taken, 0, no_rounds(alloc))?);
+    }
+    let contributed = vec![in alloc; false; processors]?;
+    let progress = Progress {
+        contributed,
+        filer,
+        messages: List::new(alloc),
     };
-    let words = words_of(alloc, processor.command.as_slice())?;
-    match run_processor(
-        alloc,
-        children,
-        &processor.name,
-        &words,
-        &project.initial,
-        &mut filer,
-    ) {
+    let run = begin_all(alloc, children, &project.key)?;
+    let outcome = show_rounds(alloc, children, &run, &project.initial, progress);
+    let started = count_of(&run);
+    end_all(children, run.group);
+    match outcome {
         Err(refusal) => Err(refusal),
-        Ok(rounds) => Ok(finish_run(alloc, taken, 1, rounds, filer.into_made())?),
+        Ok(rounds) => Ok(finish_run(alloc, taken, started, rounds)?),
     }
 }

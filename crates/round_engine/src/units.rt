@@ -1,7 +1,7 @@
 // The units of a project in its type table.
 ghost use Rattle.std.specs.Prelude.{◌≡◌, ◌<◌, ◌^◌, length, map, IfOk, OnOk};
 ghost use Rattle.round_engine.specs.Names.{with_names};
-ghost use Rattle.round_engine.specs.Units.{annotations_of, annotation_name, names_at, present_names, is_among, unit_names};
+ghost use Rattle.round_engine.specs.Units.{annotations_of, annotation_name, names_at, present_names, unit_names};
 
 use crate::names::Names;
 use apt_base::{List, Name, NoMemory};
@@ -53,15 +53,6 @@ pub fn present_names(alloc: Global, table: &Table, roots: &[Name]) -> Result<Lis
         return Err(NoMemory);
     }
     Ok(names)
-}
-
-/// Whether a name is among these.
-pub fn is_among(present: &[Name], name: &[u8]) -> bool
-    ensures { result ≡ is_among present.now name.now }
-{
-    present
-        .iter()
-        .any(|other| other.as_str().as_bytes() == name)
 }
 
 /// The names of all units of a table, those of its sources first.

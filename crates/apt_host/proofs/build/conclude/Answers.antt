@@ -28,8 +28,8 @@ returns-in_err-publish-clause-written g c = λ told.
     let p = err_from_is_err_and c.from_residual-in_err-publish.result c.from_residual-in_err-publish.ensures.1 in
     let same : closed c.from_residual-in_err-publish.result ≡ verdict c.in_err-publish.field-0.0 = ap closed p.1 ∙ ap verdict p.2 in
     let none : c.args.finished.errors ≡ 0 = omega (arith, c.if-errors-gt0.false) in
-    let report = concluding_report c.args.name.now c.args.finished in
-    let text_is : c.in_ok-written.written.report.items ≡ report = c.in_ok-written.ensures.text_is ∙ report_is c.args.name.now c.args.finished none in
+    let report = concluding_report c.args.names.now c.args.finished in
+    let text_is : c.in_ok-written.written.report.items ≡ report = c.in_ok-written.ensures.text_is ∙ report_is c.args.names.now c.args.finished none in
     let front = c.in_err-publish.ensures.written told in (
       front.0,
       (

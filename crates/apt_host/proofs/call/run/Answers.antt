@@ -4,6 +4,7 @@ use Rattle.apt_outside.specs.Count.{Rose}
 use Rattle.apt_host.specs.Shown.{asked}
 use Rattle.apt_host.specs.Verdicts.{verdict}
 use Rattle.apt_host.proofs.Writing.{written_all}
+use Rattle.apt_host.proofs.Leaving.{starts_finish, shows_finish, names_finish, due_finish}
 use Rattle.apt_host.proofs.call.run.Goals as goal
 
 -- a count that rose in a part of the call rose in the whole
@@ -12,6 +13,23 @@ rose_before old mid new later rose = grind (arith, common_steps)
 
 rose_behind : (old mid new : ℕ) → old ≤ mid → Rose mid new → Rose old new
 rose_behind old mid new later rose = grind (arith, common_steps)
+
+pub returns-clause-starts : goal.returns-clause-starts
+returns-clause-starts g c =
+    let C = g.C.Children in
+    starts_finish (asked c.args.words.now) (verdict c.work-status.result) (verdict c.finish.result) (C.state c.args.children.now) (C.state c.work-status.new.children) c.finish.ensures.status c.work-status.ensures.starts
+
+pub returns-clause-shown : goal.returns-clause-shown
+returns-clause-shown g c = λ told said.
+    let T = g.T.Tree in
+    let C = g.C.Children in
+    shows_finish (asked c.args.words.now) (T.files c.args.tree.now) (verdict c.work-status.result) (verdict c.finish.result) (C.state c.args.children.now) (C.state c.work-status.new.children) c.finish.ensures.status (c.work-status.ensures.shown told said)
+
+pub returns-clause-named : goal.returns-clause-named
+returns-clause-named g c = names_finish (asked c.args.words.now) (verdict c.work-status.result) (verdict c.finish.result) c.finish.ensures.status c.work-status.ensures.named
+
+pub returns-clause-due : goal.returns-clause-due
+returns-clause-due g c = due_finish (verdict c.work-status.result) (verdict c.finish.result) c.finish.ensures.status c.work-status.ensures.due
 
 pub returns-clause-written : goal.returns-clause-written
 returns-clause-written g c = λ told.

@@ -5,4 +5,4 @@ use Rattle.apt_host.proofs.report.add_messages.Given as goal
 
 -- the lines of the messages so far
 abbrev pub invariant-loop-placed : goal.invariant-loop-placed
-invariant-loop-placed l = l.report.items ≡ l.fn.report.items ++ flat_map (message_line l.processor) (take l.placed-index l.messages)
+invariant-loop-placed l = l.report.items ≡ l.fn.report.items ++ flat_map (message_line l.processors) (take l.placed-index l.messages)

@@ -5,7 +5,7 @@ use Rattle.apt_host.proofs.report.errors_report.Goals as goal
 
 pub returns : goal.returns
 returns c =
-    let summary = summary_of c.args.processor.now c.args.summary.now in
+    let summary = summary_of c.args.processors.now c.args.summary.now in
     let mode = mode_line c.args.summary.now.started in
     let told = told_lines summary in
     let last : c.extend_from_slice.new.self.items ≡ c.in_ok-report.report.items ++ errors_line summary = search rules in

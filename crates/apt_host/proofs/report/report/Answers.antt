@@ -7,7 +7,7 @@ use Rattle.apt_host.proofs.report.report.Goals as goal
 
 pub returns : goal.returns
 returns c =
-    let summary = summary_of c.args.processor.now c.args.summary.now in
+    let summary = summary_of c.args.processors.now c.args.summary.now in
     let mode = mode_line c.args.summary.now.started in
     let told = told_lines summary in
     let lines = flat_map file_line (map listed c.args.files.now) in

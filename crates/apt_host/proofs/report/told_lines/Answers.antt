@@ -6,7 +6,7 @@ use Rattle.apt_host.proofs.report.told_lines.Goals as goal
 pub returns : goal.returns
 returns c =
     let mode = mode_line c.args.summary.now.started in
-    let messages = flat_map (message_line c.args.processor.now) c.args.summary.now.messages in
+    let messages = flat_map (message_line c.args.processors.now) c.args.summary.now.messages in
     let unread = flat_map unread_line c.args.summary.now.unread in
     let first : c.into_bytes-report.result.items ≡ mode = search rules in
     let second : c.add_messages.new.report.items ≡ c.into_bytes-report.result.items ++ messages = search rules in

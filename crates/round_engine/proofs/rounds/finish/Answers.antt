@@ -1,25 +1,27 @@
-use Rattle.std.proofs.Common.{◌≡◌, ℕ, List, ◌++◌, [], true, Ok, Err, drop, length, refl, ap, subst, rules}
-use Rattle.round_engine.specs.Run.{Round, last_of, place, unread_among}
-use Rattle.round_engine.specs.Shown.{standing, Acts}
-use Rattle.round_engine.proofs.RunsOfRounds.{finish_ok, finish_err}
+use Rattle.std.proofs.Common.{◌≡◌, drop, length, refl, rules}
+use Rattle.std.proofs.lemmas.Result.{err_from_is_err_and}
+use Rattle.round_engine.specs.Run.{unread_among}
+use Rattle.round_engine.proofs.RoundsInTurn.{last_refused, last_memory, last_ends}
 use Rattle.round_engine.proofs.rounds.finish.Goals as goal
 
-pub returns-in-Err-clause-ends : goal.returns-in-Err-clause-ends
-returns-in-Err-clause-ends g c = λ told.
+pub returns-in_err-ask_all-clause-ends : goal.returns-in_err-ask_all-clause-ends
+returns-in_err-ask_all-clause-ends g c = λ told processors stands.
     let C = g.C.Children in
-    let none : c.new-roots.result ≡ [] = search rules in
-    let round_of : List (List ℕ) → Round = λ roots. record { number = c.args.round.now.number; over = true; error = c.args.round.now.error; table = c.args.round.now.table.now; roots = roots } in
-    let round_is : round_of c.new-roots.result ≡ last_of c.args.round.now.number c.args.round.now.error c.args.round.now.table.now = ap round_of none in
-    let acts = subst (λ r. Acts c.args.round.now.processor.child c.args.round.now.processor.pattern.now r (standing c.args.progress.asked c.args.filer.now c.args.progress.messages) (C.state c.args.children.now) (C.state c.act.new.children) c.act.new.filer (Err c.in-Err.fault)) round_is (c.in-Err.ensures.acts told c.args.progress.messages) in
-    finish_err c.args.round.now.processor.child c.args.round.now.processor.name.now (C.state c.args.children.now) (C.state c.act.new.children) c.args.round.now.processor.pattern.now c.args.round.now.number c.args.round.now.error c.args.round.now.table.now (standing c.args.progress.asked c.args.filer.now c.args.progress.messages) c.act.new.filer c.in-Err.fault c.refusal_of.result acts c.refusal_of.ensures.is
+    let e = err_from_is_err_and c.from_residual.result c.from_residual.ensures.1 in
+    rw (e.1, e.2) (last_refused c.args.run.now processors c.args.last c.args.progress (C.state c.args.children.now) c.requires.last c.requires.none _ _ c.in_err-ask_all.field-0.0 (C.state c.ask_all.new.children)
+    (c.in_err-ask_all.ensures.asks told processors stands))
+
+pub returns-in_err-unread-clause-ends : goal.returns-in_err-unread-clause-ends
+returns-in_err-unread-clause-ends g c = λ told processors stands.
+    let goes = c.in_ok-ask_all.ensures.asks told processors stands in
+    let e = err_from_is_err_and c.from_residual-in_err-unread.result c.from_residual-in_err-unread.ensures.1 in
+    rw (e.1, e.2) (last_memory c.args.run.now processors c.args.last c.args.progress (g.C.Children.state c.args.children.now) c.requires.last c.requires.none _ c.ask_all.new.so_far (g.C.Children.state c.ask_all.new.children) _ _ refl goes)
 
 pub returns-clause-ends : goal.returns-clause-ends
-returns-clause-ends g c = λ told.
+returns-clause-ends g c = λ told processors stands.
     let C = g.C.Children in
-    let none : c.new-roots.result ≡ [] = search rules in
-    let round_of : List (List ℕ) → Round = λ roots. record { number = c.args.round.now.number; over = true; error = c.args.round.now.error; table = c.args.round.now.table.now; roots = roots } in
-    let round_is : round_of c.new-roots.result ≡ last_of c.args.round.now.number c.args.round.now.error c.args.round.now.table.now = ap round_of none in
-    let acts = subst (λ r. Acts c.args.round.now.processor.child c.args.round.now.processor.pattern.now r (standing c.args.progress.asked c.args.filer.now c.args.progress.messages) (C.state c.args.children.now) (C.state c.act.new.children) c.act.new.filer (Ok c.in-Ok.answer)) round_is (c.in-Ok.ensures.acts told c.args.progress.messages) in
-    let messages_are : c.place.new.messages ≡ c.args.progress.messages ++ place c.args.round.now.number 0 c.in-Ok.answer.messages = search rules in
-    let unread_is : c.in_ok-unread.unread ≡ unread_among (drop (length c.args.filer.now.made) c.act.new.filer.made) = search rules in
-    finish_ok c.args.round.now.processor.child c.args.round.now.processor.name.now (C.state c.args.children.now) (C.state c.act.new.children) c.args.round.now.processor.pattern.now c.args.round.now.number c.args.round.now.error c.args.round.now.table.now (standing c.args.progress.asked c.args.filer.now c.args.progress.messages) c.act.new.filer c.in-Ok.answer _ acts refl messages_are unread_is
+    let p = c.args.progress in
+    let p1 = c.ask_all.new.so_far in
+    let unread_is : c.in_ok-unread.unread ≡ unread_among (drop (length p.filer.made) p1.filer.made) = search rules in
+    last_ends c.args.run.now processors c.args.last p (C.state c.args.children.now) c.requires.last c.requires.none _ p1 (C.state c.ask_all.new.children) _ (c.in_ok-ask_all.ensures.asks told processors stands)
+    refl c.into_made.ensures refl unread_is

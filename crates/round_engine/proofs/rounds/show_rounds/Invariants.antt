@@ -1,8 +1,7 @@
-use Rattle.std.proofs.Common.{◌≡◌, ◌-◌, ◌≤◌}
+use Rattle.std.proofs.Common.{◌≡◌, ◌-◌, ◌≤◌, false}
 use Rattle.apt_outside.specs.Count.{Told}
-use Rattle.apt_outside.specs.Child.{Attends}
-use Rattle.round_engine.specs.Run.{next_of}
-use Rattle.round_engine.specs.Shown.{standing, all_from, GoesOn}
+use Rattle.round_engine.specs.Shown.{HasEach, AttendsAll}
+use Rattle.round_engine.proofs.RoundsInTurn.{RunsOn}
 use Rattle.round_engine.proofs.rounds.show_rounds.Given as goal
 
 -- the run goes on with the rounds that are left
@@ -13,9 +12,10 @@ invariant-loop-number g l =
       later : C.faults l.fn.children ≤ C.faults l.children;
       starts : (C.state l.children).starts ≡ (C.state l.fn.children).starts;
       live : (C.state l.children).live ≡ (C.state l.fn.children).live;
-      attends : Told C.tells (Attends l.processor.child (C.state l.fn.children) (C.state l.children));
-      goes : Told C.tells (GoesOn l.processor.child (all_from (C.state l.fn.children).says l.processor.name.now l.processor.pattern.now l.project)
-          l.processor.name.now l.processor.pattern.now (64 - l.number) (next_of l.number (record { table = l.table; names = l.roots }))
-          (standing l.asked l.filer l.messages)
-          (C.state l.fn.children) (C.state l.children));
+      number : l.round.number ≡ l.number;
+      over : l.round.over ≡ false;
+      error : l.round.error ≡ false;
+      each : HasEach l.run l.progress;
+      attends : Told C.tells (AttendsAll l.run.group (C.state l.fn.children) (C.state l.children));
+      goes : Told C.tells (RunsOn l.run l.project l.fn.progress (C.state l.fn.children) (64 - l.number) l.round l.progress (C.state l.children));
     }

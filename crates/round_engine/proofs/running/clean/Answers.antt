@@ -1,65 +1,322 @@
-use Rattle.std.proofs.Common.{◌≡◌, ◌∷◌, Ok, Err, map, string_bytes, sym, subst, rules}
-use Rattle.round_engine.specs.Shown.{Runs, TriedOnce}
-use Rattle.round_engine.specs.Clean.{Has, Cleans, Talked, NamesProcessor, Tries}
-use Rattle.round_engine.proofs.CleanLemmas.{cleans_ok, cleans_err}
+use Rattle.std.proofs.Common.{◌≡◌, ◌<◌, ◌+◌, false, [], Ok, Err, length, map, refl, sym, ap, ◌∙◌, subst, inl, arith, rules}
+use Rattle.std.specs.Prelude.{replicate}
+use Rattle.std.proofs.lemmas.List.{length-map, nil_from_length}
+use Rattle.std.proofs.lemmas.Result.{err_from_is_err_and}
+use Rattle.round_engine.specs.declared.progress.Progress.{Progress}
+use Rattle.round_engine.specs.declared.rounds.Rounds.{Rounds}
+use Rattle.round_engine.specs.Refusals as stop
+use Rattle.round_engine.specs.Refusals.{NamesAmong}
+use Rattle.round_engine.specs.Faults.{stop_of}
+use Rattle.round_engine.specs.Run.{new_filings, run_of, frames_of}
+use Rattle.round_engine.specs.Clean.{plan_of, try_of, tries_in, Has, Closes}
+use Rattle.round_engine.specs.Shown.{IsCounted, LiveInTurn, without_each}
+use Rattle.round_engine.proofs.StoppedChildren.{all_live, fresh_ends, fresh_live}
+use Rattle.round_engine.proofs.FrontsOfHellos.{shows_nothing}
+use Rattle.round_engine.proofs.StoppedProcessors.{tries_nothing}
+use Rattle.round_engine.proofs.CleanLemmas.{talked, talked_told, cleans_none, cleans_memory, cleans_at_hello, all_shown, cleans_stopped, cleans_so}
+use Rattle.round_engine.proofs.CountedStarts.{counted_same, due_of_hello, starts_memory, starts_all}
 use Rattle.round_engine.proofs.running.clean.Goals as goal
+
+pub returns-in_err-names-clause-cleans : goal.returns-in_err-names-clause-cleans
+returns-in_err-names-clause-cleans g c =
+    let e = err_from_is_err_and c.from_residual.result c.from_residual.ensures.1 in
+    let plan = plan_of c.args.project.now.key in
+    let k0 = g.C.Children.state c.args.children.now in
+    rw (e.1, e.2) (talked _ _ _ (cleans_memory plan c.args.project.now.initial k0 k0 _ refl (shows_nothing plan.processors (frames_of (run_of k0.says plan c.args.project.now.initial)) k0)))
+
+pub returns-in_err-filer-clause-cleans : goal.returns-in_err-filer-clause-cleans
+returns-in_err-filer-clause-cleans g c =
+    let e = err_from_is_err_and c.from_residual-in_err-filer.result c.from_residual-in_err-filer.ensures.1 in
+    let plan = plan_of c.args.project.now.key in
+    let k0 = g.C.Children.state c.args.children.now in
+    rw (e.1, e.2) (talked _ _ _ (cleans_memory plan c.args.project.now.initial k0 k0 _ refl (shows_nothing plan.processors (frames_of (run_of k0.says plan c.args.project.now.initial)) k0)))
+
+pub returns-in_err-contributed-clause-cleans : goal.returns-in_err-contributed-clause-cleans
+returns-in_err-contributed-clause-cleans g c =
+    let e = err_from_is_err_and c.from_residual-in_err-contributed.result c.from_residual-in_err-contributed.ensures.1 in
+    let plan = plan_of c.args.project.now.key in
+    let k0 = g.C.Children.state c.args.children.now in
+    rw (e.1, e.2) (talked _ _ _ (cleans_memory plan c.args.project.now.initial k0 k0 _ refl (shows_nothing plan.processors (frames_of (run_of k0.says plan c.args.project.now.initial)) k0)))
+
+pub returns-in_err-names-clause-tried : goal.returns-in_err-names-clause-tried
+returns-in_err-names-clause-tried g c = λ told. tries_nothing (tries_in c.args.project.now.key) (g.C.Children.state c.args.children.now)
+
+pub returns-in_err-filer-clause-tried : goal.returns-in_err-filer-clause-tried
+returns-in_err-filer-clause-tried g c = λ told. tries_nothing (tries_in c.args.project.now.key) (g.C.Children.state c.args.children.now)
+
+pub returns-in_err-contributed-clause-tried : goal.returns-in_err-contributed-clause-tried
+returns-in_err-contributed-clause-tried g c = λ told. tries_nothing (tries_in c.args.project.now.key) (g.C.Children.state c.args.children.now)
+
+pub returns-in_err-run-clause-cleans : goal.returns-in_err-run-clause-cleans
+returns-in_err-run-clause-cleans g c =
+    let C = g.C.Children in
+    let key = c.args.project.now.key in
+    let some : 0 < length (tries_in key) = omega (arith, c.if-processors-eq0.false, c.len-processors.ensures, length-map key.processors try_of) in
+    let e = err_from_is_err_and c.from_residual-in_err-run.result c.from_residual-in_err-run.ensures.1 in
+    rw (e.1, e.2) (talked_told _ (tries_in key) _ some (λ told. cleans_at_hello (plan_of key) c.args.project.now.initial (C.state c.args.children.now) (C.state c.begin_all.new.children) c.in_err-run.field-0.0 (c.in_err-run.ensures.begins told)))
+
+pub show_rounds-outcome-requires-clause-lives : goal.show_rounds-outcome-requires-clause-lives
+show_rounds-outcome-requires-clause-lives g c = all_live (g.C.Children.state c.args.children.now).live c.in_ok-run.run'.group (g.C.Children.state c.begin_all.new.children).live c.in_ok-run.ensures.live.0
+
+pub end_all-requires : goal.end_all-requires
+end_all-requires g c =
+    let k0 = g.C.Children.state c.args.children.now in
+    let group = c.in_ok-run.run'.group in
+    record { lives = subst (LiveInTurn group) (sym (c.show_rounds-outcome.ensures.live ∙ c.in_ok-run.ensures.live.0)) (fresh_live k0.live group c.in_ok-run.ensures.live.1) }
+
+pub returns-in-Err-clause-live : goal.returns-in-Err-clause-live
+returns-in-Err-clause-live g c =
+    let k0 = g.C.Children.state c.args.children.now in
+    let group = c.in_ok-run.run'.group in
+    c.end_all.ensures.live ∙ ap (without_each group) (c.show_rounds-outcome.ensures.live ∙ c.in_ok-run.ensures.live.0) ∙ fresh_ends k0.live group c.in_ok-run.ensures.live.1
+
+pub returns-in_err-finish_run-in-Ok-clause-live : goal.returns-in_err-finish_run-in-Ok-clause-live
+returns-in_err-finish_run-in-Ok-clause-live g c =
+    let k0 = g.C.Children.state c.args.children.now in
+    let group = c.in_ok-run.run'.group in
+    c.end_all.ensures.live ∙ ap (without_each group) (c.show_rounds-outcome.ensures.live ∙ c.in_ok-run.ensures.live.0) ∙ fresh_ends k0.live group c.in_ok-run.ensures.live.1
+
+pub returns-clause-live : goal.returns-clause-live
+returns-clause-live g c =
+    let k0 = g.C.Children.state c.args.children.now in
+    let group = c.in_ok-run.run'.group in
+    c.end_all.ensures.live ∙ ap (without_each group) (c.show_rounds-outcome.ensures.live ∙ c.in_ok-run.ensures.live.0) ∙ fresh_ends k0.live group c.in_ok-run.ensures.live.1
 
 pub returns-in-Err-clause-cleans : goal.returns-in-Err-clause-cleans
 returns-in-Err-clause-cleans g c =
     let C = g.C.Children in
+    let key = c.args.project.now.key in
     let table = c.args.project.now.initial in
-    let processor = c.in-Some.processor.now in
-    let ps : c.args.project.now.key.processors ≡ processor ∷ c.in-Some.field-0-1.now = search rules in
-    let command_is : map string_bytes c.deref.result.now ≡ processor.command = search rules in
-    subst (λ l. Talked C.tells l (Cleans l table (C.state c.args.children.now) (C.state c.run_processor.new.children) (Err c.in-Err.refusal))) (sym ps) (λ told.
-    let runs = subst (λ w. Runs (processor.name, w) table (C.state c.args.children.now) (C.state c.run_processor.new.children) c.run_processor.new.filer (Err c.in-Err.refusal)) command_is (c.in-Err.ensures.runs told) in
-    cleans_err processor c.in-Some.field-0-1.now table (C.state c.args.children.now) (C.state c.run_processor.new.children) c.run_processor.new.filer c.in-Err.refusal runs)
+    let d = c.in_ok-run.run' in
+    let p : Progress = record { contributed = c.in_ok-contributed.contributed; filer = c.in_ok-filer.filer; messages = c.new-2.result } in
+    let k0 = C.state c.args.children.now in
+    let k1 = C.state c.begin_all.new.children in
+    let k2 = C.state c.show_rounds-outcome.new.children in
+    let k3 = C.state c.end_all.new.children in
+    let some : 0 < length (tries_in key) = omega (arith, c.if-processors-eq0.false, c.len-processors.ensures, length-map key.processors try_of) in
+    let starts : k3.starts ≡ k0.starts + length (tries_in key) = c.end_all.ensures.starts ∙ c.show_rounds-outcome.ensures.starts ∙ c.in_ok-run.ensures.starts in
+    let contributed : c.in_ok-contributed.contributed.items ≡ replicate (length key.processors) false = search rules in
+    let filed : c.in_ok-filer.filer ≡ new_filings table = search rules in
+    talked_told _ (tries_in key) _ some (λ told.
+    cleans_stopped key table d p k0 k1 k2 k3 c.in_ok-run.ensures.names (c.in_ok-run.ensures.begins told) (c.in_ok-run.ensures.says told) contributed filed c.new-2.ensures
+    (c.show_rounds-outcome.ensures.attends told) (c.end_all.ensures.stops told) (Err c.in-Err.refusal) (c.in-Err.ensures.ends told) c.in-Err.refusal refl starts)
 
-pub returns-in-Err-clause-named : goal.returns-in-Err-clause-named
-returns-in-Err-clause-named g c =
-    let processor = c.in-Some.processor.now in
-    let ps : c.args.project.now.key.processors ≡ processor ∷ c.in-Some.field-0-1.now = search rules in
-    subst (λ l. NamesProcessor l (Err c.in-Err.refusal)) (sym ps) c.in-Err.ensures.named
-
-pub returns-in_ok-finish_run-in-Ok-clause-tried : goal.returns-in_ok-finish_run-in-Ok-clause-tried
-returns-in_ok-finish_run-in-Ok-clause-tried g c = λ told.
+pub returns-in_err-finish_run-in-Ok-clause-cleans : goal.returns-in_err-finish_run-in-Ok-clause-cleans
+returns-in_err-finish_run-in-Ok-clause-cleans g c =
     let C = g.C.Children in
-    let processor = c.in-Some.processor.now in
-    let ps : c.args.project.now.key.processors ≡ processor ∷ c.in-Some.field-0-1.now = search rules in
-    let command_is : map string_bytes c.deref.result.now ≡ processor.command = search rules in
-    subst (λ l. Tries l (C.state c.args.children.now) (C.state c.run_processor.new.children)) (sym ps)
-    (subst (λ w. TriedOnce (processor.name, w) (C.state c.args.children.now) (C.state c.run_processor.new.children)) command_is (c.run_processor.ensures.tried told))
+    let key = c.args.project.now.key in
+    let table = c.args.project.now.initial in
+    let d = c.in_ok-run.run' in
+    let p : Progress = record { contributed = c.in_ok-contributed.contributed; filer = c.in_ok-filer.filer; messages = c.new-2.result } in
+    let k0 = C.state c.args.children.now in
+    let k1 = C.state c.begin_all.new.children in
+    let k2 = C.state c.show_rounds-outcome.new.children in
+    let k3 = C.state c.end_all.new.children in
+    let some : 0 < length (tries_in key) = omega (arith, c.if-processors-eq0.false, c.len-processors.ensures, length-map key.processors try_of) in
+    let contributed : c.in_ok-contributed.contributed.items ≡ replicate (length key.processors) false = search rules in
+    let filed : c.in_ok-filer.filer ≡ new_filings table = search rules in
+    let e = err_from_is_err_and c.from_residual-in_err-finish_run-in-Ok.result c.from_residual-in_err-finish_run-in-Ok.ensures.1 in
+    rw (e.1, e.2) (talked_told _ (tries_in key) _ some (λ told.
+    cleans_memory (plan_of key) table k0 k3 _ refl (all_shown key table d p k0 k1 k2 k3 c.in_ok-run.ensures.names (c.in_ok-run.ensures.begins told) (c.in_ok-run.ensures.says told) contributed filed c.new-2.ensures
+    (c.show_rounds-outcome.ensures.attends told) (c.end_all.ensures.stops told) (Ok c.in-Ok.rounds) (c.in-Ok.ensures.ends told))))
 
-pub returns-in_err-finish_run-in-Ok-clause-tried : goal.returns-in_err-finish_run-in-Ok-clause-tried
-returns-in_err-finish_run-in-Ok-clause-tried g c = λ told.
+pub returns-clause-cleans : goal.returns-clause-cleans
+returns-clause-cleans g c =
     let C = g.C.Children in
-    let processor = c.in-Some.processor.now in
-    let ps : c.args.project.now.key.processors ≡ processor ∷ c.in-Some.field-0-1.now = search rules in
-    let command_is : map string_bytes c.deref.result.now ≡ processor.command = search rules in
-    subst (λ l. Tries l (C.state c.args.children.now) (C.state c.run_processor.new.children)) (sym ps)
-    (subst (λ w. TriedOnce (processor.name, w) (C.state c.args.children.now) (C.state c.run_processor.new.children)) command_is (c.run_processor.ensures.tried told))
+    let key = c.args.project.now.key in
+    let table = c.args.project.now.initial in
+    let d = c.in_ok-run.run' in
+    let p : Progress = record { contributed = c.in_ok-contributed.contributed; filer = c.in_ok-filer.filer; messages = c.new-2.result } in
+    let k0 = C.state c.args.children.now in
+    let k1 = C.state c.begin_all.new.children in
+    let k2 = C.state c.show_rounds-outcome.new.children in
+    let k3 = C.state c.end_all.new.children in
+    let rounds = c.in-Ok.rounds in
+    let finished = c.in_ok-finish_run-in-Ok.field-0 in
+    let some : 0 < length (tries_in key) = omega (arith, c.if-processors-eq0.false, c.len-processors.ensures, length-map key.processors try_of) in
+    let starts : k3.starts ≡ k0.starts + length (tries_in key) = c.end_all.ensures.starts ∙ c.show_rounds-outcome.ensures.starts ∙ c.in_ok-run.ensures.starts in
+    let contributed : c.in_ok-contributed.contributed.items ≡ replicate (length key.processors) false = search rules in
+    let filed : c.in_ok-filer.filer ≡ new_filings table = search rules in
+    let count : c.count_of-started.result ≡ length (tries_in key) =
+    c.count_of-started.ensures ∙ c.in_ok-run.ensures.listed.group ∙ sym c.in_ok-run.ensures.listed.names ∙ ap length c.in_ok-run.ensures.names ∙ length-map key.processors _ ∙ sym (length-map key.processors try_of) in
+    let closes : Closes rounds (length (tries_in key)) finished = subst (λ n. Closes rounds n finished) count c.in_ok-finish_run-in-Ok.ensures.is in
+    talked_told _ (tries_in key) _ some (λ told.
+    cleans_so key table d p k0 k1 k2 k3 c.in_ok-run.ensures.names (c.in_ok-run.ensures.begins told) (c.in_ok-run.ensures.says told) contributed filed c.new-2.ensures
+    (c.show_rounds-outcome.ensures.attends told) (c.end_all.ensures.stops told) (Ok rounds) (c.in-Ok.ensures.ends told) rounds finished refl starts closes c.in_ok-finish_run-in-Ok.ensures.has)
 
 pub returns-in-Err-clause-tried : goal.returns-in-Err-clause-tried
 returns-in-Err-clause-tried g c = λ told.
-    let C = g.C.Children in
-    let processor = c.in-Some.processor.now in
-    let ps : c.args.project.now.key.processors ≡ processor ∷ c.in-Some.field-0-1.now = search rules in
-    let command_is : map string_bytes c.deref.result.now ≡ processor.command = search rules in
-    subst (λ l. Tries l (C.state c.args.children.now) (C.state c.run_processor.new.children)) (sym ps)
-    (subst (λ w. TriedOnce (processor.name, w) (C.state c.args.children.now) (C.state c.run_processor.new.children)) command_is (c.run_processor.ensures.tried told))
+    let tries = c.in_ok-run.ensures.tried told in
+    record { count = tries.count; few = tries.few; tried = (c.end_all.ensures.stops told).attends.same_tried ∙ (c.show_rounds-outcome.ensures.attends told).same_tried ∙ tries.tried }
 
-pub returns-in_ok-finish_run-in-Ok-clause-cleans : goal.returns-in_ok-finish_run-in-Ok-clause-cleans
-returns-in_ok-finish_run-in-Ok-clause-cleans g c =
+pub returns-in-Err-clause-says : goal.returns-in-Err-clause-says
+returns-in-Err-clause-says g c = λ told. (c.end_all.ensures.stops told).attends.same_says ∙ (c.show_rounds-outcome.ensures.attends told).same_says ∙ c.in_ok-run.ensures.says told
+
+pub returns-in_err-finish_run-in-Ok-clause-tried : goal.returns-in_err-finish_run-in-Ok-clause-tried
+returns-in_err-finish_run-in-Ok-clause-tried g c = λ told.
+    let tries = c.in_ok-run.ensures.tried told in
+    record { count = tries.count; few = tries.few; tried = (c.end_all.ensures.stops told).attends.same_tried ∙ (c.show_rounds-outcome.ensures.attends told).same_tried ∙ tries.tried }
+
+pub returns-in_err-finish_run-in-Ok-clause-says : goal.returns-in_err-finish_run-in-Ok-clause-says
+returns-in_err-finish_run-in-Ok-clause-says g c = λ told. (c.end_all.ensures.stops told).attends.same_says ∙ (c.show_rounds-outcome.ensures.attends told).same_says ∙ c.in_ok-run.ensures.says told
+
+pub returns-clause-tried : goal.returns-clause-tried
+returns-clause-tried g c = λ told.
+    let tries = c.in_ok-run.ensures.tried told in
+    record { count = tries.count; few = tries.few; tried = (c.end_all.ensures.stops told).attends.same_tried ∙ (c.show_rounds-outcome.ensures.attends told).same_tried ∙ tries.tried }
+
+pub returns-clause-says : goal.returns-clause-says
+returns-clause-says g c = λ told. (c.end_all.ensures.stops told).attends.same_says ∙ (c.show_rounds-outcome.ensures.attends told).same_says ∙ c.in_ok-run.ensures.says told
+
+pub returns-in-Err-clause-starts : goal.returns-in-Err-clause-starts
+returns-in-Err-clause-starts g c =
     let C = g.C.Children in
-    let table = c.args.project.now.initial in
-    let processor = c.in-Some.processor.now in
-    let finished = c.in_ok-finish_run-in-Ok.field-0 in
-    let ps : c.args.project.now.key.processors ≡ processor ∷ c.in-Some.field-0-1.now = search rules in
-    let command_is : map string_bytes c.deref.result.now ≡ processor.command = search rules in
-    let made_is : c.into_made.result ≡ c.run_processor.new.filer.made = search rules in
-    let has = subst (λ made. Has made finished) made_is c.in_ok-finish_run-in-Ok.ensures.has in
-    let same = c.in_ok-finish_run-in-Ok.ensures.is in
-    subst (λ l. Talked C.tells l (Cleans l table (C.state c.args.children.now) (C.state c.run_processor.new.children) (Ok finished))) (sym ps) (λ told.
-    let runs = subst (λ w. Runs (processor.name, w) table (C.state c.args.children.now) (C.state c.run_processor.new.children) c.run_processor.new.filer (Ok c.in-Ok.rounds)) command_is (c.in-Ok.ensures.runs told) in
-    cleans_ok processor c.in-Some.field-0-1.now table (C.state c.args.children.now) (C.state c.run_processor.new.children) c.run_processor.new.filer c.in-Ok.rounds finished runs
-    (record { rounds_are = same.0; messages_are = same.1; unread_are = same.2 }) has same.3)
+    let key = c.args.project.now.key in
+    let some : 0 < length (tries_in key) = omega (arith, c.if-processors-eq0.false, c.len-processors.ensures, length-map key.processors try_of) in
+    starts_all (length (tries_in key)) (stop_of c.in-Err.refusal) (C.state c.args.children.now) (C.state c.end_all.new.children) some
+    (c.end_all.ensures.starts ∙ c.show_rounds-outcome.ensures.starts ∙ c.in_ok-run.ensures.starts)
+
+pub returns-in_err-finish_run-in-Ok-clause-starts : goal.returns-in_err-finish_run-in-Ok-clause-starts
+returns-in_err-finish_run-in-Ok-clause-starts g c =
+    let e = err_from_is_err_and c.from_residual-in_err-finish_run-in-Ok.result c.from_residual-in_err-finish_run-in-Ok.ensures.1 in
+    let k0 = g.C.Children.state c.args.children.now in
+    let k3 = g.C.Children.state c.end_all.new.children in
+    let all : k3.starts ≡ k0.starts + length (tries_in c.args.project.now.key) = c.end_all.ensures.starts ∙ c.show_rounds-outcome.ensures.starts ∙ c.in_ok-run.ensures.starts in
+    rw (e.1, e.2) (starts_memory (length (tries_in c.args.project.now.key)) stop.Memory k0 k3 refl (omega (arith, all)) (omega (arith, all)))
+
+pub returns-clause-starts : goal.returns-clause-starts
+returns-clause-starts g c = omega (arith, c.end_all.ensures.starts, c.show_rounds-outcome.ensures.starts, c.in_ok-run.ensures.starts)
+
+pub returns-in-Err-clause-named : goal.returns-in-Err-clause-named
+returns-in-Err-clause-named g c = subst (λ names. NamesAmong names (stop_of c.in-Err.refusal)) c.in_ok-run.ensures.names c.in-Err.ensures.named
+
+pub returns-in_err-finish_run-clause-cleans : goal.returns-in_err-finish_run-clause-cleans
+returns-in_err-finish_run-clause-cleans g c =
+    let e = err_from_is_err_and c.from_residual-in_err-finish_run.result c.from_residual-in_err-finish_run.ensures.1 in
+    let plan = plan_of c.args.project.now.key in
+    let k0 = g.C.Children.state c.args.children.now in
+    rw (e.1, e.2) (talked _ _ _ (cleans_memory plan c.args.project.now.initial k0 k0 _ refl (shows_nothing plan.processors (frames_of (run_of k0.says plan c.args.project.now.initial)) k0)))
+
+pub returns-in_err-finish_run-clause-tried : goal.returns-in_err-finish_run-clause-tried
+returns-in_err-finish_run-clause-tried g c = λ told. tries_nothing (tries_in c.args.project.now.key) (g.C.Children.state c.args.children.now)
+
+pub returns-then-processors-eq0-clause-tried : goal.returns-then-processors-eq0-clause-tried
+returns-then-processors-eq0-clause-tried g c = λ told. tries_nothing (tries_in c.args.project.now.key) (g.C.Children.state c.args.children.now)
+
+pub returns-then-processors-eq0-clause-starts : goal.returns-then-processors-eq0-clause-starts
+returns-then-processors-eq0-clause-starts g c =
+    let empty : length c.args.project.now.key.processors ≡ 0 = search rules in
+    omega (arith, empty, length-map c.args.project.now.key.processors try_of)
+
+pub returns-then-processors-eq0-clause-cleans : goal.returns-then-processors-eq0-clause-cleans
+returns-then-processors-eq0-clause-cleans g c =
+    let key = c.args.project.now.key in
+    let k0 = g.C.Children.state c.args.children.now in
+    let finished = c.in_ok-finish_run.field-0 in
+    let empty : length key.processors ≡ 0 = search rules in
+    let none : tries_in key ≡ [] = ap (map try_of) (nil_from_length key.processors empty) in
+    talked _ _ _ (cleans_none (plan_of key) c.args.project.now.initial k0 finished none
+    (subst (λ rounds. Closes rounds 0 finished) c.no_rounds.ensures c.in_ok-finish_run.ensures.is) (subst (λ (rounds : Rounds). Has rounds.made finished) c.no_rounds.ensures c.in_ok-finish_run.ensures.has))
+
+pub returns-in_err-names-clause-starts : goal.returns-in_err-names-clause-starts
+returns-in_err-names-clause-starts g c =
+    let k0 = g.C.Children.state c.args.children.now in
+    let e = err_from_is_err_and c.from_residual.result c.from_residual.ensures.1 in
+    rw (e.1, e.2) (starts_memory (length (tries_in c.args.project.now.key)) stop.Memory k0 k0 refl (omega arith) (omega arith))
+
+pub returns-in_err-filer-clause-starts : goal.returns-in_err-filer-clause-starts
+returns-in_err-filer-clause-starts g c =
+    let k0 = g.C.Children.state c.args.children.now in
+    let e = err_from_is_err_and c.from_residual-in_err-filer.result c.from_residual-in_err-filer.ensures.1 in
+    rw (e.1, e.2) (starts_memory (length (tries_in c.args.project.now.key)) stop.Memory k0 k0 refl (omega arith) (omega arith))
+
+pub returns-in_err-contributed-clause-starts : goal.returns-in_err-contributed-clause-starts
+returns-in_err-contributed-clause-starts g c =
+    let k0 = g.C.Children.state c.args.children.now in
+    let e = err_from_is_err_and c.from_residual-in_err-contributed.result c.from_residual-in_err-contributed.ensures.1 in
+    rw (e.1, e.2) (starts_memory (length (tries_in c.args.project.now.key)) stop.Memory k0 k0 refl (omega arith) (omega arith))
+
+pub returns-in_err-finish_run-clause-starts : goal.returns-in_err-finish_run-clause-starts
+returns-in_err-finish_run-clause-starts g c =
+    let k0 = g.C.Children.state c.args.children.now in
+    let e = err_from_is_err_and c.from_residual-in_err-finish_run.result c.from_residual-in_err-finish_run.ensures.1 in
+    rw (e.1, e.2) (starts_memory (length (tries_in c.args.project.now.key)) stop.Memory k0 k0 refl (omega arith) (omega arith))
+
+pub returns-in_err-run-clause-starts : goal.returns-in_err-run-clause-starts
+returns-in_err-run-clause-starts g c =
+    let e = err_from_is_err_and c.from_residual-in_err-run.result c.from_residual-in_err-run.ensures.1 in
+    rw (e.1, e.2) c.in_err-run.ensures.starts
+
+pub returns-then-processors-eq0-clause-started : goal.returns-then-processors-eq0-clause-started
+returns-then-processors-eq0-clause-started g c =
+    let empty : length c.args.project.now.key.processors ≡ 0 = search rules in
+    c.in_ok-finish_run.ensures.is.3 ∙ sym empty
+
+pub returns-clause-started : goal.returns-clause-started
+returns-clause-started g c =
+    let key = c.args.project.now.key in
+    c.in_ok-finish_run-in-Ok.ensures.is.3 ∙ c.count_of-started.ensures ∙ c.in_ok-run.ensures.listed.group ∙ sym c.in_ok-run.ensures.listed.names ∙ ap length c.in_ok-run.ensures.names ∙ length-map key.processors _
+
+pub returns-in_err-run-clause-due : goal.returns-in_err-run-clause-due
+returns-in_err-run-clause-due g c =
+    let e = err_from_is_err_and c.from_residual-in_err-run.result c.from_residual-in_err-run.ensures.1 in
+    rw (e.1, e.2) (due_of_hello (stop_of c.in_err-run.field-0.0) c.in_err-run.ensures.hello)
+
+pub returns-in_err-names-clause-counted : goal.returns-in_err-names-clause-counted
+returns-in_err-names-clause-counted g c = λ told.
+    let e = err_from_is_err_and c.from_residual.result c.from_residual.ensures.1 in
+    rw (e.1, e.2) (inl (omega arith))
+
+pub returns-in_err-filer-clause-counted : goal.returns-in_err-filer-clause-counted
+returns-in_err-filer-clause-counted g c = λ told.
+    let e = err_from_is_err_and c.from_residual-in_err-filer.result c.from_residual-in_err-filer.ensures.1 in
+    rw (e.1, e.2) (inl (omega arith))
+
+pub returns-in_err-contributed-clause-counted : goal.returns-in_err-contributed-clause-counted
+returns-in_err-contributed-clause-counted g c = λ told.
+    let e = err_from_is_err_and c.from_residual-in_err-contributed.result c.from_residual-in_err-contributed.ensures.1 in
+    rw (e.1, e.2) (inl (omega arith))
+
+pub returns-in_err-finish_run-clause-counted : goal.returns-in_err-finish_run-clause-counted
+returns-in_err-finish_run-clause-counted g c = λ told.
+    let e = err_from_is_err_and c.from_residual-in_err-finish_run.result c.from_residual-in_err-finish_run.ensures.1 in
+    rw (e.1, e.2) (inl (omega arith))
+
+pub returns-then-processors-eq0-clause-counted : goal.returns-then-processors-eq0-clause-counted
+returns-then-processors-eq0-clause-counted g c = λ told. omega arith
+
+pub returns-in_err-run-clause-counted : goal.returns-in_err-run-clause-counted
+returns-in_err-run-clause-counted g c = λ told.
+    let e = err_from_is_err_and c.from_residual-in_err-run.result c.from_residual-in_err-run.ensures.1 in
+    rw (e.1, e.2) (c.in_err-run.ensures.counted told)
+
+pub returns-in-Err-clause-counted : goal.returns-in-Err-clause-counted
+returns-in-Err-clause-counted g c = λ told.
+    let C = g.C.Children in
+    let k0 = C.state c.args.children.now in
+    let k1 = C.state c.begin_all.new.children in
+    let k3 = C.state c.end_all.new.children in
+    let all : IsCounted k0 k1 = c.in_ok-run.ensures.counted told in
+    let so : IsCounted k0 k3 = counted_same k0 k1 k3 ((c.end_all.ensures.stops told).attends.same_tried ∙ (c.show_rounds-outcome.ensures.attends told).same_tried) (c.end_all.ensures.starts ∙ c.show_rounds-outcome.ensures.starts) all in
+    inl so
+
+pub returns-in_err-finish_run-in-Ok-clause-counted : goal.returns-in_err-finish_run-in-Ok-clause-counted
+returns-in_err-finish_run-in-Ok-clause-counted g c = λ told.
+    let C = g.C.Children in
+    let k0 = C.state c.args.children.now in
+    let k1 = C.state c.begin_all.new.children in
+    let k3 = C.state c.end_all.new.children in
+    let all : IsCounted k0 k1 = c.in_ok-run.ensures.counted told in
+    let so : IsCounted k0 k3 = counted_same k0 k1 k3 ((c.end_all.ensures.stops told).attends.same_tried ∙ (c.show_rounds-outcome.ensures.attends told).same_tried) (c.end_all.ensures.starts ∙ c.show_rounds-outcome.ensures.starts) all in
+    let e = err_from_is_err_and c.from_residual-in_err-finish_run-in-Ok.result c.from_residual-in_err-finish_run-in-Ok.ensures.1 in
+    rw (e.1, e.2) (inl so)
+
+pub returns-clause-counted : goal.returns-clause-counted
+returns-clause-counted g c = λ told.
+    let C = g.C.Children in
+    let k0 = C.state c.args.children.now in
+    let k1 = C.state c.begin_all.new.children in
+    let k3 = C.state c.end_all.new.children in
+    let all : IsCounted k0 k1 = c.in_ok-run.ensures.counted told in
+    let so : IsCounted k0 k3 = counted_same k0 k1 k3 ((c.end_all.ensures.stops told).attends.same_tried ∙ (c.show_rounds-outcome.ensures.attends told).same_tried) (c.end_all.ensures.starts ∙ c.show_rounds-outcome.ensures.starts) all in
+    so

@@ -1,0 +1,122 @@
+-- A part of a run in which processors are asked: what it leaves as it was, and whom its refusals name.
+use Rattle.std.proofs.Common.{◌≡◌, ℕ, zero, suc, ◌<◌, Bool, true, List, [], ◌∷◌, ◌++◌, length, get_or, set, Result, Ok, Err, refl, sym, ap, ◌∙◌, subst, arith}
+use Rattle.std.specs.List.{AllByRecursion}
+use Rattle.apt_outside.specs.Child.{Try, State, Attends}
+use Rattle.apt_filer.specs.Filing.{Filings}
+use Rattle.child_session.specs.declared.fault.SessionFault.{SessionFault}
+use Rattle.child_session.specs.declared.round.Answer.{Answer}
+use Rattle.child_session.specs.Round as session
+use Rattle.round_engine.specs.declared.beginning.Discovered as code_discovered
+use Rattle.round_engine.specs.declared.progress.Progress as code_progress
+use Rattle.round_engine.specs.declared.refusal.Refusal as declared
+use Rattle.round_engine.specs.declared.rounds.Round.{Round}
+use Rattle.round_engine.specs.Refusals as stop
+use Rattle.round_engine.specs.Refusals.{Stop, Names, NamesAmong, OrMemory, named_by}
+use Rattle.round_engine.specs.Faults.{stop_of, of_session}
+use Rattle.round_engine.specs.Run.{Frames, Course, Discovered, Progress, Finished, claim_at, showing, place, show, round_of, rounds_from}
+use Rattle.round_engine.specs.Shown.{EachOf, IsOf, Serves, Stands, AttendsAll, Goes, StopsAs, FrontsButOne, sent_by, sent_in_step, sent_in_progress, sent_in_finished, all_sent, standing, shown_discovered}
+use Rattle.round_engine.proofs.ChildrenOfARun.{outside-get, each-weaker}
+use Rattle.round_engine.proofs.FrontsOfFrames.{but_none, show_fronts, show_but_one, round_fronts, rounds_fronts}
+use Rattle.round_engine.proofs.ActsInARun.{name_is, after, sent_after, show_ok, show_err, stands_so, ready_after, same_after}
+
+-- ---- what is left as it was
+
+pub attends_none : (group : List ℕ) (k : State) → AttendsAll group k k
+attends_none group k = record { same_says = refl; same_tried = refl; others = λ child out. refl }
+
+pub attends_more : (group : List ℕ) (k0 k1 k2 : State) → AttendsAll group k0 k1 → AttendsAll group k1 k2 → AttendsAll group k0 k2
+attends_more group k0 k1 k2 first second = record {
+  same_says = second.same_says ∙ first.same_says;
+  same_tried = second.same_tried ∙ first.same_tried;
+  others = λ child out. second.others child out ∙ first.others child out;
+}
+
+-- a call on the child at a place
+pub attends_at : (group : List ℕ) (at : ℕ) (k0 k1 : State) → at < length group → Attends (get_or group at 0) k0 k1 → AttendsAll group k0 k1
+attends_at group at k0 k1 lt attends = record {
+  same_says = attends.same_says;
+  same_tried = attends.same_tried;
+  others = λ child out. attends.change.others child (λ e. outside-get child group at lt out (sym e));
+}
+
+pub all_at : (P : ℕ → Type 0) (group : List ℕ) (at : ℕ) → at < length group → AllByRecursion P group → P (get_or group at 0)
+all_at P [] at lt all = absurd (omega (arith, lt))
+all_at P (k ∷ group) zero lt all = all.0
+all_at P (k ∷ group) (suc at) lt all = all_at P group at (omega (arith, lt)) all.1
+
+-- ---- a part of a run that stops for want of memory
+
+pub still_theirs : (d : code_discovered.Discovered) (processors : List Try) (now : State) → Stands d processors now → EachOf IsOf processors d.group now.known
+still_theirs d processors now stands = each-weaker (Serves now.says) IsOf (λ p c serves. serves.is) processors d.group now.known stands.each
+
+pub goes_memory : {A T : Type 0} (sent_in : A → List Frames) (d : code_discovered.Discovered) (processors : List Try) (course : Course A) (means : T → A) (refusal : declared.Refusal) (now : State)
+    → EachOf IsOf processors d.group now.known → stop_of refusal ≡ stop.Memory → FrontsButOne (all_sent now.known d.group) (sent_by sent_in course) → Goes sent_in d processors course means (Err refusal) now
+goes_memory sent_in d processors course means refusal now same memory fronts = record {
+  comes = subst (StopsAs course (all_sent now.known d.group)) (sym memory) tt;
+  same = same;
+  ready = tt;
+  fronts = fronts;
+}
+
+-- before a part began
+module _ (d : code_discovered.Discovered) (processors : List Try) (k : State) (stands : Stands d processors k) (p : code_progress.Progress) (refusal : declared.Refusal) (memory : stop_of refusal ≡ stop.Memory) where
+  abbrev at_first : Discovered
+  at_first = shown_discovered k.says processors d
+
+  pub step_unbegun : {T : Type 0} (r : Round) (number : ℕ) (offered : List (List ℕ)) (means : T → Progress × Bool) → Goes sent_in_step d processors (show at_first r (standing d.group p k) number offered) means (Err refusal) k
+  step_unbegun r number offered means = goes_memory sent_in_step d processors (show at_first r (standing d.group p k) number offered) means refusal k (still_theirs d processors k stands) memory
+      (but_none (all_sent k.known d.group) _ (show_fronts at_first r (standing d.group p k) number offered))
+
+  pub round_unbegun : {T : Type 0} (r : Round) (means : T → Progress) → Goes sent_in_progress d processors (round_of at_first r (standing d.group p k)) means (Err refusal) k
+  round_unbegun r means = goes_memory sent_in_progress d processors (round_of at_first r (standing d.group p k)) means refusal k (still_theirs d processors k stands) memory
+      (but_none (all_sent k.known d.group) _ (round_fronts at_first r (standing d.group p k)))
+
+  pub rounds_unbegun : {T : Type 0} (left : ℕ) (r : Round) (means : T → Finished) → Goes sent_in_finished d processors (rounds_from at_first left r (standing d.group p k)) means (Err refusal) k
+  rounds_unbegun left r means = goes_memory sent_in_finished d processors (rounds_from at_first left r (standing d.group p k)) means refusal k (still_theirs d processors k stands) memory
+      (but_none (all_sent k.known d.group) _ (rounds_fronts at_first left r (standing d.group p k)))
+
+-- ---- one processor is asked
+
+module _ (d : code_discovered.Discovered) (k0 k1 : State) (number : ℕ) (lt : number < length d.group) (r : Round) (offered : List (List ℕ)) (p : code_progress.Progress) (filings' : Filings)
+    (attends : Attends (get_or d.group number 0) k0 k1) (processors : List Try) (stands : Stands d processors k0) where
+  abbrev run : Discovered
+  run = shown_discovered k0.says processors d
+
+  abbrev Showed : Result Answer SessionFault → Type 0
+  Showed result = session.Shows (get_or d.group number 0) (showing r offered (claim_at run number)) k0 k1 p.filer filings' result
+
+  abbrev Asked_so : {T : Type 0} → (T → Progress × Bool) → Result T declared.Refusal → Type 0
+  Asked_so means result = Goes sent_in_step d processors (show run r (standing d.group p k0) number offered) means result k1
+
+  -- whatever came of it, the others were sent what they are sent
+  others_so : (result : Result Answer SessionFault) → Showed result → FrontsButOne (all_sent k1.known d.group) (sent_by sent_in_step (show run r (standing d.group p k0) number offered))
+  others_so result shows = subst (λ sent. FrontsButOne sent (sent_by sent_in_step (show run r (standing d.group p k0) number offered)))
+      (sym (sent_after d processors k0 k1 number stands lt r offered p filings' result shows attends.change.others))
+      (show_but_one run r (standing d.group p k0) number offered (after d processors k0 k1 number stands lt r offered p filings' result shows attends.change.others).0.sent)
+
+  -- its session failed
+  pub asks_err : (means : Bool → Progress × Bool) (fault : SessionFault) (refusal : declared.Refusal) → Showed (Err fault) → OrMemory (of_session (get_or d.names number []) fault) (stop_of refusal) → Asked_so means (Err refusal)
+  asks_err means fault refusal shows due_as = record {
+    comes = show_err d processors k0 k1 number stands lt r offered p filings' (Err fault) shows attends.change.others fault (stop_of refusal) refl
+        (subst (λ name. OrMemory (of_session name fault) (stop_of refusal)) (name_is d processors k0 k1 number stands lt) due_as);
+    same = same_after d processors k0 k1 number stands lt r offered p filings' (Err fault) shows attends.change.others;
+    ready = tt;
+    fronts = others_so (Err fault) shows;
+  }
+
+  -- it was done, but memory was wanted for what it printed
+  pub asks_memory : (means : Bool → Progress × Bool) (answer : Answer) (refusal : declared.Refusal) → Showed (Ok answer) → stop_of refusal ≡ stop.Memory → Asked_so means (Err refusal)
+  asks_memory means answer refusal shows memory =
+      goes_memory sent_in_step d processors (show run r (standing d.group p k0) number offered) means refusal k1
+      (same_after d processors k0 k1 number stands lt r offered p filings' (Ok answer) shows attends.change.others) memory (others_so (Ok answer) shows)
+
+  -- it was done
+  pub asks_ok : (p' : code_progress.Progress) (answer : Answer) → Showed (Ok answer) → p'.contributed.items ≡ set p.contributed.items number true → p'.filer ≡ filings' → p'.messages ≡ p.messages ++ place r.number number 0 answer.messages
+      → Asked_so (λ claimed. (standing d.group p' k1, claimed)) (Ok answer.claimed)
+  asks_ok p' answer shows contributed filed messages = record {
+    comes = show_ok d processors k0 k1 number stands lt r offered p filings' (Ok answer) shows attends.change.others answer refl
+        ∙ ap (λ q. Ok (q, answer.claimed)) (stands_so d processors k0 k1 number stands lt r offered p filings' (Ok answer) shows attends.change.others p' answer.messages contributed filed messages);
+    same = same_after d processors k0 k1 number stands lt r offered p filings' (Ok answer) shows attends.change.others;
+    ready = ready_after d processors k0 k1 number stands lt r offered p filings' (Ok answer) shows attends.change.others answer refl attends.same_says;
+    fronts = others_so (Ok answer) shows;
+  }
