@@ -163,7 +163,7 @@ module _ (tops tops' : Tops) (Good : Part → UnitText → Type 0) where
   unfolding declared_types
   declared-same f g name = types_in-same f.part f.unit g name f.path (node_at f.unit f.path)
 
-  imported-same : (part : Part) (names : List (List ℕ)) → AllByRecursion (λ p. SameTops part p.joined) (prefixes names) → Same (imported tops part names) (imported tops' part names)
+  pub imported-same : (part : Part) (names : List (List ℕ)) → AllByRecursion (λ p. SameTops part p.joined) (prefixes names) → Same (imported tops part names) (imported tops' part names)
   unfolding imported
   imported-same part names a = by_prefix-same declared_types declared_types declared-same part (prefixes names) a
 
@@ -243,7 +243,7 @@ module _ (tops tops' : Tops) (Good : Part → UnitText → Type 0) where
     found-same scope g (name ∷ []) a = simple-same scope g name a.0
     found-same scope g (name ∷ next ∷ more) a = qualifier-same scope g (name ∷ next ∷ more) a
 
-    supertype-same : (f : Find) → IsGood f → (s : Supertype) → SupertypeAsks (SameTops f.part) f.unit s → Same (supertype_found tops m f s) (supertype_found tops' m' f s)
+    pub supertype-same : (f : Find) → IsGood f → (s : Supertype) → SupertypeAsks (SameTops f.part) f.unit s → Same (supertype_found tops m f s) (supertype_found tops' m' f s)
     unfolding supertype_found
     supertype-same f g (Written text) a = found-same (Header f) g (names_in text) a
     supertype-same f g (Implied name) a = a

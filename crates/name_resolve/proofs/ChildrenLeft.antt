@@ -5,7 +5,8 @@ use Rattle.decl_tree.specs.declared.compilation.UnitText.{UnitText}
 use Rattle.decl_elements.specs.Nodes.{Node, children, down, root}
 use Rattle.element_table.specs.declared.part.Part.{Part}
 use Rattle.name_resolve.specs.Ways.{Place, node_at}
-use Rattle.name_resolve.specs.Finds.{Find, Finds, Nothing, both, one_if, find_at, is_type_named, types_at, types_in, declared_types}
+use Rattle.name_resolve.specs.Finds.{Find, Finds, Nothing, both, one_if, find_at, is_type_named, is_parameter_named, types_at, types_in, parameters_at, declared_types}
+use Rattle.name_resolve.specs.Parts.{parameters_in, declared_parameters}
 
 unfoldable pub from_child : (Node → Bool) → Part → UnitText → Place → Finds → ℕ → Finds
 from_child test part u at finds n = fold both finds (map (λ child. one_if (test child.1) (find_at part u at.path child.0)) (enumerate_from n (drop n (children at.node))))
@@ -13,6 +14,10 @@ from_child test part u at finds n = fold both finds (map (λ child. one_if (test
 pub from_first : (part : Part) (u : UnitText) (name : List ℕ) (at : Place) → from_child (is_type_named name) part u at Nothing 0 ≡ types_at part u name at
 unfolding from_child types_at
 from_first part u name at = refl
+
+pub from_first_parameter : (part : Part) (u : UnitText) (name : List ℕ) (at : Place) → from_child (is_parameter_named name) part u at Nothing 0 ≡ parameters_at part u name at
+unfolding from_child parameters_at
+from_first_parameter part u name at = refl
 
 rest_nil : {A : Type 0} (n : ℕ) → drop n (let none : List A = [] in none) ≡ []
 rest_nil zero = refl
@@ -58,3 +63,11 @@ module _ (f : Find) (name path : List ℕ) (same : path ≡ f.path) where
   pub declared_some : (node : Node) → Some node ≡ down path (root f.unit) → types_at f.part f.unit name (record { path = f.path; node = node }) ≡ declared_types f name
   unfolding declared_types node_at
   declared_some node there = ap (types_in f.part f.unit name f.path) (there ∙ ap (λ p. down p (root f.unit)) same)
+
+  pub parameters_none : None ≡ down path (root f.unit) → Nothing ≡ declared_parameters f name
+  unfolding declared_parameters node_at
+  parameters_none none = ap (parameters_in f.part f.unit name f.path) (none ∙ ap (λ p. down p (root f.unit)) same)
+
+  pub parameters_some : (node : Node) → Some node ≡ down path (root f.unit) → parameters_at f.part f.unit name (record { path = f.path; node = node }) ≡ declared_parameters f name
+  unfolding declared_parameters node_at
+  parameters_some node there = ap (parameters_in f.part f.unit name f.path) (there ∙ ap (λ p. down p (root f.unit)) same)

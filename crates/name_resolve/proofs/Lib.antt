@@ -1,4 +1,11 @@
 pub mod Agreement
 pub mod ChildrenLeft
+pub mod Enclosing
+pub mod FirstPlaces
+pub mod LookSteps
+pub mod NameParts
+pub mod PlacedLemmas
+pub mod PlacesLemmas
+pub mod RememberedLemmas
 pub mod TopTypes
 pub mod TypesAt

@@ -2,7 +2,11 @@ pub mod Annotations
 pub mod Finds
 pub mod Meaning
 pub mod Mirrors
+pub mod Parts
+pub mod Placed
+pub mod Places
 pub mod QualifiedNames
+pub mod Remembered
 pub mod Shown
 pub mod Supertypes
 pub mod Ways

@@ -1,9 +1,13 @@
 -- Finds and supertypes in memory, for contracts.
-use Rattle.std.specs.Prelude.{ℕ, List, codes, Option}
+use Rattle.std.specs.Prelude.{◌≡◌, ℕ, List, codes, Option, Result, IfOk, IfSome}
 use Rattle.std.specs.Option.{option_map, option_to_list}
 use Rattle.name_resolve.specs.Finds as find
 use Rattle.decl_elements.specs.Nodes.{Node}
-use Rattle.name_resolve.specs.Finds.{Find, find_at, types_at}
+use Rattle.decl_tree.specs.declared.compilation.Import.{Import}
+use Rattle.element_table.specs.TypeTable.{TypeTable}
+use Rattle.element_table.specs.declared.part.Part.{Part}
+use Rattle.name_resolve.specs.Finds.{Find, find_at, types_at, parameters_at}
+use Rattle.name_resolve.specs.Parts.{demand_with}
 use Rattle.name_resolve.specs.Supertypes as meant
 use Rattle.name_resolve.specs.declared.headers.Supertype.{Supertype}
 use Rattle.name_resolve.specs.declared.headers.Supertype.TheVariants as shown
@@ -19,6 +23,18 @@ finds_of finds.Nothing = find.Nothing
 finds_of (finds.One f) = find.One (find_of f)
 finds_of finds.Several = find.Several
 
+-- it found this, unless it gave nothing for another reason
+abbrev pub Gives : {E : Type 0} → Result Finds E → find.Finds → Type 0
+Gives result finds = IfOk result (λ f. finds_of f ≡ finds)
+
+-- it found this, or did not know, unless it gave nothing for another reason
+abbrev pub GivesSome : {E : Type 0} → Result (Option Finds) E → find.Finds → Type 0
+GivesSome result finds = IfOk result (λ o. IfSome o (λ f. finds_of f ≡ finds))
+
+-- what imports on demand give with what was found before
+abbrev pub demand_behind : TypeTable → ℕ → Part → List ℕ → Finds → List Import → find.Finds
+demand_behind table levels part name before imports = demand_with table levels part name (finds_of before) imports
+
 -- the child with a number of what is found
 abbrev pub child_of : Find → ℕ → Find
 child_of f number = find_at f.part f.unit f.path number
@@ -26,6 +42,10 @@ child_of f number = find_at f.part f.unit f.path number
 -- the member types of this name that are declared by what is found, which is this node
 abbrev pub types_here : Find → List ℕ → Node → find.Finds
 types_here f name node = types_at f.part f.unit name (record { path = f.path; node = node })
+
+-- the same of the type parameters
+abbrev pub params_here : Find → List ℕ → Node → find.Finds
+params_here f name node = parameters_at f.part f.unit name (record { path = f.path; node = node })
 
 abbrev pub super_of : Supertype → meant.Supertype
 super_of (shown.Written text) = meant.Written text.now

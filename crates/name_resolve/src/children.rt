@@ -4,11 +4,12 @@ ghost use Rattle.std.specs.Option.{option_copied};
 ghost use Rattle.decl_elements.specs.Nodes.{children};
 ghost use Rattle.decl_elements.specs.Shown.{node_of};
 ghost use Rattle.name_resolve.specs.Ways.{declaration_of};
-ghost use Rattle.name_resolve.specs.Finds.{is_type_named, one_if, declared_types};
-ghost use Rattle.name_resolve.specs.Shown.{find_of, finds_of, child_of, types_here};
+ghost use Rattle.name_resolve.specs.Finds.{is_type_named, is_parameter_named, one_if, declared_types};
+ghost use Rattle.name_resolve.specs.Parts.{declared_parameters};
+ghost use Rattle.name_resolve.specs.Shown.{find_of, finds_of, child_of, types_here, params_here};
 
 use crate::finds::{Finds, Found, both};
-use apt_base::{Name, NoMemory};
+use apt_base::NoMemory;
 use decl_elements::{Place, place_at};
 use decl_tree::{Member, TypeDecl};
 use std::alloc::Global;
@@ -27,12 +28,12 @@ pub(crate) fn declaration_of<'a>(place: Place<'a>) -> Option<&'a TypeDecl>
     }
 }
 
-fn is_type_named(name: &Name, place: Place<'_>) -> bool
+fn is_type_named(name: &str, place: Place<'_>) -> bool
     ensures { result ≡ is_type_named name.now (node_of place.entry) }
 {
     match declaration_of(place) {
         None => false,
-        Some(declaration) => declaration.name.as_str() == name.as_str(),
+        Some(declaration) => declaration.name.as_str() == name,
     }
 }
 
@@ -56,7 +57,7 @@ fn types_at<'a>(
     alloc: Global,
     of: &Found<'a>,
     place: Place<'a>,
-    name: &Name,
+    name: &str,
 ) -> Result<Finds<'a>, NoMemory>
     requires { length (children (node_of place)) ≤ 65535 }
     ensures { IfOk result (λ f. finds_of f ≡ types_here (find_of of.now) name.now (node_of place.entry)) }
@@ -75,11 +76,56 @@ fn types_at<'a>(
 }
 
 /// The member types of this name that a type declares (JLS 8.5, 9.5), inherited ones aside.
-pub fn declared_types<'a>(alloc: Global, of: &Found<'a>, name: &Name) -> Result<Finds<'a>, NoMemory>
+pub fn declared_types<'a>(alloc: Global, of: &Found<'a>, name: &str) -> Result<Finds<'a>, NoMemory>
     ensures { IfOk result (λ f. finds_of f ≡ declared_types (find_of of.now) name.now) }
 {
     match place_at(of.unit, of.path.as_slice()) {
         None => Ok(Finds::Nothing),
         Some(place) => types_at(alloc, of, place, name),
+    }
+}
+
+fn is_parameter_named(name: &str, place: Place<'_>) -> bool
+    ensures { result ≡ is_parameter_named name.now (node_of place.entry) }
+{
+    match place {
+        Place::TypeParameter(parameter) => parameter.name.as_str() == name,
+        _ => false,
+    }
+}
+
+fn parameters_at<'a>(
+    alloc: Global,
+    of: &Found<'a>,
+    place: Place<'a>,
+    name: &str,
+) -> Result<Finds<'a>, NoMemory>
+    requires { length (children (node_of place)) ≤ 65535 }
+    ensures { IfOk result (λ f. finds_of f ≡ params_here (find_of of.now) name.now (node_of place.entry)) }
+{
+    let mut finds = Finds::Nothing;
+    for number in 0..place.children() {
+        match place.child(number) {
+            None => return Ok(finds),
+            Some(child) => {
+                let more = one_if(alloc, is_parameter_named(name, child), of, number)?;
+                finds = both(finds, more);
+            }
+        }
+    }
+    Ok(finds)
+}
+
+/// The type parameters of this name that an element declares (JLS 8.1.2, 8.4.4, 8.8.4, 9.1.2).
+pub fn declared_parameters<'a>(
+    alloc: Global,
+    of: &Found<'a>,
+    name: &str,
+) -> Result<Finds<'a>, NoMemory>
+    ensures { IfOk result (λ f. finds_of f ≡ declared_parameters (find_of of.now) name.now) }
+{
+    match place_at(of.unit, of.path.as_slice()) {
+        None => Ok(Finds::Nothing),
+        Some(place) => parameters_at(alloc, of, place, name),
     }
 }

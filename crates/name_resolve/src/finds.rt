@@ -1,7 +1,9 @@
 // What a look-up finds.
-ghost use Rattle.std.specs.Prelude.{◌≡◌};
+ghost use Rattle.std.specs.Prelude.{◌≡◌, ◌↔◌, IsTrue};
+ghost use Rattle.std.specs.List.{list_any};
+ghost use Rattle.std.specs.Str.{bytes_eq};
 ghost use Rattle.element_table.specs.UnitNames.{simple_name};
-ghost use Rattle.name_resolve.specs.Finds.{same_find, both};
+ghost use Rattle.name_resolve.specs.Finds.{Nothing, same_find, both};
 ghost use Rattle.name_resolve.specs.Shown.{find_of, finds_of};
 
 use decl_tree::{Body, Unit};
@@ -39,7 +41,8 @@ pub(crate) fn simple_name(body: &Body) -> &str
     }
 }
 
-fn is_same(one: &Found<'_>, other: &Found<'_>) -> bool
+/// Whether both are the same element.
+pub(crate) fn is_same(one: &Found<'_>, other: &Found<'_>) -> bool
     ensures { result ≡ same_find (find_of one.now) (find_of other.now) }
 {
     let (first, second) = (one.unit.text(), other.unit.text());
@@ -66,4 +69,23 @@ pub fn both<'a>(one: Finds<'a>, other: Finds<'a>) -> Finds<'a>
             }
         },
     }
+}
+
+/// Whether nothing was found.
+pub(crate) fn is_nothing(finds: &Finds<'_>) -> bool
+    ensures { IsTrue result ↔ (finds_of finds.now ≡ Nothing) }
+{
+    matches!(finds, Finds::Nothing)
+}
+
+/// Whether a top-level type of the file has this name.
+pub(crate) fn is_sibling(unit: &Unit, name: &str) -> bool
+    ensures { result ≡ list_any (bytes_eq name.now) unit.now.siblings }
+{
+    for each in unit.text().siblings.as_slice() {
+        if name == each.as_str() {
+            return true;
+        }
+    }
+    false
 }

@@ -1,10 +1,11 @@
 // Top-level types.
-ghost use Rattle.std.specs.Prelude.{◌≡◌};
+ghost use Rattle.std.specs.Prelude.{◌≡◌, IfOk, string_bytes};
+ghost use Rattle.element_table.specs.UnitNames.{in_package};
 ghost use Rattle.name_resolve.specs.Meaning.{top_of, met_from, tops_of};
 ghost use Rattle.name_resolve.specs.Shown.{finds_of};
 
 use crate::finds::{Finds, Found};
-use apt_base::Name;
+use apt_base::{Name, NoMemory};
 use decl_tree::{Body, Unit};
 use element_table::{Part, Table};
 use std::alloc::Global;
@@ -47,4 +48,44 @@ pub fn top_level<'a>(alloc: Global, table: &'a Table, part: Part, name: &Name) -
         None => Finds::Nothing,
         Some(unit) => met_from(alloc, part, at, unit),
     }
+}
+
+/// The same by a name that is a text.
+pub(crate) fn top_named<'a>(
+    alloc: Global,
+    table: &'a Table,
+    part: Part,
+    name: &str,
+) -> Result<Finds<'a>, NoMemory>
+    ensures { IfOk result (λ f. finds_of f ≡ tops_of table.now part name.now) }
+{
+    let name = Name::new(alloc, name)?;
+    Ok(top_level(alloc, table, part, &name))
+}
+
+// A simple name behind a package's name and a dot; nothing stands before it in the unnamed package.
+fn in_package(alloc: Global, package: &str, name: &str) -> Result<String, NoMemory>
+    ensures { IfOk result (λ text. string_bytes text ≡ in_package «package».now name.now) }
+{
+    if package.is_empty() {
+        return Ok(String::from_str(alloc, name)?);
+    }
+    let mut text = String::from_str(alloc, package)?;
+    text.push('.')?;
+    text.push_str(name)?;
+    Ok(text)
+}
+
+/// The top-level type of this simple name of a package.
+pub(crate) fn top_of_package<'a>(
+    alloc: Global,
+    table: &'a Table,
+    part: Part,
+    package: &str,
+    name: &str,
+) -> Result<Finds<'a>, NoMemory>
+    ensures { IfOk result (λ f. finds_of f ≡ tops_of table.now part (in_package «package».now name.now)) }
+{
+    let whole = in_package(alloc, package, name)?;
+    top_named(alloc, table, part, whole.as_str())
 }

@@ -1,0 +1,118 @@
+//! Prints a table of names of types with what each means where it is written.
+//!
+//! The lines are taken one after another by one table, which is empty at the beginning. The library `case_lines` says how lists are written. The calls are:
+//!
+//! | Call | Its result |
+//! |---|---|
+//! | `empty` | `done`: the table is empty from now on |
+//! | `source PACKAGE IMPORTS FILE PIECE..` | `done`: the unit that the pieces declare is in the sources from now on |
+//! | `stub PACKAGE IMPORTS FILE PIECE..` | the same in the stubs |
+//! | `chain NUMBER` | `done`: the sources have classes `m.C0`, `m.C1` and so on to this number, each of which extends the next one; the last has a member class `N` |
+//! | `within UNIT PATH NAME` | what the name means in that element |
+//! | `header UNIT PATH NAME` | what it means in the `extends` or `implements` clause of that element |
+//!
+//! What is found is a unit and the steps of a path, joined by colons; it is `none` where the name means nothing, and `several` where it is ambiguous.
+//!
+//! The unnamed package is `-`. Imports are a list: `r.N` or `r.*`, and `static:r.N` or `static:r.*`. A file is the list of the types that it declares. Pieces are a type as far as its members, then its members one by one, of which a type is again followed by its own. A type is `KIND:NAME:MEMBERS` with a kind `enum`, `class`, `annotation` or `interface` and the number of its members, or `KIND:NAME:MEMBERS:PARAMETERS:SUPERCLASS:INTERFACES`; other members are `field:NAME` and `method:NAME:PARAMETERS:ARGUMENTS`. Type parameters, interfaces and the parameters of a method are names that are joined by `+`, or `-` for none.
+#![tactic(auto)]
+
+mod declared;
+mod looks;
+
+use case_lines::{Calls, CaseFault, run};
+use decl_syntax::Unit;
+use element_table::{EnterFault, Part, Table};
+use std::alloc::Global;
+use std::process::ExitCode;
+
+/// The look-ups over one table.
+#[derive(Drop)]
+struct Names {
+    table: Table,
+}
+
+impl Calls for Names {
+    fn call(&mut self, alloc: Global, words: &[&str]) -> Result<String, CaseFault> {
+        match words {
+            ["empty"] => {
+                self.table = Table::new(alloc);
+                text_of(alloc, "done")
+            }
+            ["source", package, imports, file, pieces @ ..] => {
+                let unit = declared::unit(alloc, &[*package, *imports, *file], pieces)?;
+                enter(alloc, &mut self.table, Part::Source, unit)
+            }
+            ["stub", package, imports, file, pieces @ ..] => {
+                let unit = declared::unit(alloc, &[*package, *imports, *file], pieces)?;
+                enter(alloc, &mut self.table, Part::Stub, unit)
+            }
+            ["chain", last] => chain(alloc, &mut self.table, last.parse::<u32>()?),
+            ["within", unit, path, word] => {
+                looks::meaning(alloc, &self.table, false, &[*unit, *path, *word])
+            }
+            ["header", unit, path, word] => {
+                looks::meaning(alloc, &self.table, true, &[*unit, *path, *word])
+            }
+            _ => Err(CaseFault::NotACase),
+        }
+    }
+}
+
+fn text_of(alloc: Global, word: &str) -> Result<String, CaseFault> {
+    Ok(String::from_str(alloc, word)?)
+}
+
+fn refusal(fault: &EnterFault) -> &'static str {
+    match fault {
+        EnterFault::Duplicate(_) => "duplicate",
+        EnterFault::TooMany(_) => "too many",
+        EnterFault::Memory(_) => "memory",
+    }
+}
+
+// A function of its own, so that what drops a unit is proved once.
+fn let_go(_fault: EnterFault) {}
+
+/// Enters a unit: `done`, or what stands against it.
+fn enter(alloc: Global, table: &mut Table, part: Part, unit: Unit) -> Result<String, CaseFault> {
+    match table.enter(part, unit) {
+        Ok(()) => text_of(alloc, "done"),
+        Err(fault) => {
+            let word = refusal(&fault);
+            let_go(fault);
+            text_of(alloc, word)
+        }
+    }
+}
+
+fn class(
+    alloc: Global,
+    table: &mut Table,
+    name: &str,
+    pieces: &[&str],
+) -> Result<String, CaseFault> {
+    let unit = declared::unit(alloc, &["m", "[]", name], pieces)?;
+    enter(alloc, table, Part::Source, unit)
+}
+
+fn link(alloc: Global, table: &mut Table, number: u32) -> Result<String, CaseFault> {
+    let next = number.saturating_add(1);
+    let name = format!(in alloc; "C{number}")?;
+    let piece = format!(in alloc; "class:C{number}:0:-:C{next}:-")?;
+    class(alloc, table, name.as_str(), &[piece.as_str()])
+}
+
+/// Enters the classes of a chain.
+fn chain(alloc: Global, table: &mut Table, last: u32) -> Result<String, CaseFault> {
+    for number in 0..last {
+        link(alloc, table, number)?;
+    }
+    let name = format!(in alloc; "C{last}")?;
+    let piece = format!(in alloc; "class:C{last}:1")?;
+    class(alloc, table, name.as_str(), &[piece.as_str(), "class:N:0"])
+}
+
+fn main(rt: HostRuntime) -> ExitCode {
+    let table = Table::new(rt.alloc());
+    run(&rt, &mut Names { table })
+}

@@ -1,0 +1,11 @@
+use Rattle.std.proofs.Common.{◌≡◌, drop}
+use Rattle.name_resolve.specs.Parts.{on_demand_import_within}
+use Rattle.name_resolve.specs.Shown.{finds_of}
+use Rattle.name_resolve.proofs.LookSteps.{from_each}
+use Rattle.name_resolve.proofs.looks.Looks.on_demand_among.Given as goal
+
+-- what is found so far, with the imports that are left
+abbrev pub invariant-loop-import : goal.invariant-loop-import
+invariant-loop-import l =
+    from_each (on_demand_import_within l.self l.levels l.part l.name) (finds_of l.finds) (drop l.import-index l.imports)
+    ≡ from_each (on_demand_import_within l.self l.levels l.part l.name) (finds_of l.initial.finds) l.imports

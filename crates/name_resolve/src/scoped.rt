@@ -1,0 +1,150 @@
+// Simple names: in the elements around a place, and in its unit.
+ghost use Rattle.std.specs.Prelude.{◌≡◌, true, is_some, IfErr, IfOk};
+ghost use Rattle.name_resolve.specs.Ways.{node_at};
+ghost use Rattle.name_resolve.specs.Meaning.{scope_of, in_scope};
+ghost use Rattle.name_resolve.specs.Parts.{left, element_finds, enclosing_within, header_finds, in_scope_from, in_unit_within, simple_from};
+ghost use Rattle.name_resolve.specs.Placed.{IsPlaced};
+ghost use Rattle.name_resolve.specs.Remembered.{IsWanted};
+ghost use Rattle.name_resolve.specs.Shown.{find_of, finds_of, Gives};
+
+use crate::children::{declared_parameters, declared_types};
+use crate::finds::{Finds, Found, is_nothing};
+use crate::looks::Looks;
+use crate::memory::{Stop, copied};
+use decl_elements::place_at;
+
+fn is_there(at: &Found<'_>) -> bool
+    ensures { result ≡ is_some (node_at at.now.unit.now at.now.path.items) }
+{
+    place_at(at.unit, at.path.as_slice()).is_some()
+}
+
+impl<'a> Looks<'a> {
+    // In one element: the member types that it declares, its type parameters, and the member types that it inherits.
+    fn in_element(&self, levels: u32, at: &Found<'a>, name: &str) -> Result<Finds<'a>, Stop<'a>>
+        requires placed { IsPlaced self.now (find_of at.now) }
+        ensures value { Gives result (element_finds (left self.now levels) (find_of at.now) name.now) }
+        ensures wanted { IfErr result (IsWanted self.now levels) }
+    {
+        let own = declared_types(self.alloc, at, name)?;
+        if !is_nothing(&own) {
+            return Ok(own);
+        }
+        let parameters = declared_parameters(self.alloc, at, name)?;
+        if !is_nothing(&parameters) {
+            return Ok(parameters);
+        }
+        let finds = self.members(levels, at, name)?;
+        Ok(finds)
+    }
+
+    // In an element that is there and in all that encloses it, from the inside out.
+    fn in_elements(
+        &self,
+        levels: u32,
+        innermost: Found<'a>,
+        name: &str,
+    ) -> Result<Finds<'a>, Stop<'a>>
+        requires placed { IsPlaced self.now (find_of innermost) }
+        requires there { is_some (node_at innermost.unit.now innermost.path.items) ≡ true }
+        ensures value { Gives result (enclosing_within self.now levels (find_of innermost.entry) name.now) }
+        ensures wanted { IfErr result (IsWanted self.now levels) }
+    {
+        let mut here = innermost;
+        loop {
+            let finds = self.in_element(levels, &here, name)?;
+            if !is_nothing(&finds) {
+                return Ok(finds);
+            }
+            match here.path.pop() {
+                None => return Ok(Finds::Nothing),
+                Some(_) => {}
+            }
+        }
+    }
+
+    // In the `extends` or `implements` clause of an element that is there: its type parameters, and then what is around it.
+    fn in_header(&self, levels: u32, at: Found<'a>, name: &str) -> Result<Finds<'a>, Stop<'a>>
+        requires placed { IsPlaced self.now (find_of at) }
+        requires there { is_some (node_at at.unit.now at.path.items) ≡ true }
+        ensures value { Gives result (header_finds (left self.now levels) (find_of at.entry) name.now) }
+        ensures wanted { IfErr result (IsWanted self.now levels) }
+    {
+        let parameters = declared_parameters(self.alloc, &at, name)?;
+        if !is_nothing(&parameters) {
+            return Ok(parameters);
+        }
+        let mut above = at;
+        match above.path.pop() {
+            None => Ok(Finds::Nothing),
+            Some(_) => {
+                let finds = self.in_elements(levels, above, name)?;
+                Ok(finds)
+            }
+        }
+    }
+
+    fn in_scope(
+        &self,
+        levels: u32,
+        header: bool,
+        at: &Found<'a>,
+        name: &str,
+    ) -> Result<Finds<'a>, Stop<'a>>
+        requires placed { IsPlaced self.now (find_of at.now) }
+        ensures value { Gives result (in_scope_from self.now levels header (find_of at.now) name.now) }
+        ensures wanted { IfErr result (IsWanted self.now levels) }
+    {
+        if !is_there(at) {
+            return Ok(Finds::Nothing);
+        }
+        let innermost = copied(self.alloc, at)?;
+        if header {
+            let finds = self.in_header(levels, innermost, name)?;
+            return Ok(finds);
+        }
+        let finds = self.in_elements(levels, innermost, name)?;
+        Ok(finds)
+    }
+
+    // The types of the file, single imports, the types of the package, and imports on demand together with `java.lang`.
+    fn in_unit(&self, levels: u32, at: &Found<'a>, name: &str) -> Result<Finds<'a>, Stop<'a>>
+        ensures value { Gives result (in_unit_within self.now levels at.now.part at.now.unit.now name.now) }
+        ensures wanted { IfErr result (IsWanted self.now levels) }
+    {
+        let own = self.of_file(at, name)?;
+        if !is_nothing(&own) {
+            return Ok(own);
+        }
+        let single = self.single_imports(levels, at, name)?;
+        if !is_nothing(&single) {
+            return Ok(single);
+        }
+        let beside = self.beside(at, name)?;
+        if !is_nothing(&beside) {
+            return Ok(beside);
+        }
+        let finds = self.on_demand_imports(levels, at, name)?;
+        Ok(finds)
+    }
+
+    /// What a simple name means.
+    pub fn simple(
+        &self,
+        levels: u32,
+        header: bool,
+        at: &Found<'a>,
+        name: &str,
+    ) -> Result<Finds<'a>, Stop<'a>>
+        requires placed { IsPlaced self.now (find_of at.now) }
+        ensures value { Gives result (simple_from self.now levels header (find_of at.now) name.now) }
+        ensures wanted { IfErr result (IsWanted self.now levels) }
+    {
+        let near = self.in_scope(levels, header, at, name)?;
+        if !is_nothing(&near) {
+            return Ok(near);
+        }
+        let finds = self.in_unit(levels, at, name)?;
+        Ok(finds)
+    }
+}
