@@ -108,6 +108,23 @@ def program():
     return os.path.join(BUILT, NAME)
 
 
+def run(built, words, settings):
+    """One run of the built program with these words: its processor time in seconds, its peak memory in bytes, and the words that it prints."""
+    step = words[1]
+    reading, writing = os.pipe()
+    child = os.fork()
+    if child == 0:
+        os.dup2(writing, 1)
+        os.execve(built, [built, *words], settings)
+    os.close(writing)
+    with os.fdopen(reading, encoding="ascii") as output:
+        line = output.read()
+    _, status, used = os.wait4(child, 0)
+    if status != 0 or not line.startswith(step + ": "):
+        sys.exit(f"{' '.join(words)} ended with {status}: {line}")
+    return used.ru_utime + used.ru_stime, used.ru_maxrss * 1024, line.split()
+
+
 def main():
     print(program())
 

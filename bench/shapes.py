@@ -27,18 +27,8 @@ SETTINGS = dict(os.environ, MALLOC_TRIM_THRESHOLD_=str(4 << 30), MALLOC_MMAP_THR
 
 def run(step, members, rounds):
     """The processor time of one run in seconds, its peak memory in bytes, and the bytes of a round."""
-    reading, writing = os.pipe()
-    child = os.fork()
-    if child == 0:
-        os.dup2(writing, 1)
-        os.execve(PROGRAM, [PROGRAM, "shapes", step, str(members), str(rounds)], SETTINGS)
-    os.close(writing)
-    with os.fdopen(reading, encoding="ascii") as output:
-        line = output.read()
-    _, status, used = os.wait4(child, 0)
-    if status != 0 or not line.startswith(step + ": "):
-        sys.exit(f"{step} {members} {rounds} ended with {status}: {line}")
-    return used.ru_utime + used.ru_stime, used.ru_maxrss * 1024, int(line.split()[1])
+    seconds, peak, said = measured.run(PROGRAM, ["shapes", step, str(members), str(rounds)], SETTINGS)
+    return seconds, peak, int(said[1])
 
 
 def seconds_of_round(step, members):

@@ -40,19 +40,8 @@ EXPORTS = [word for name in ("file", "parser", "util")
 
 def run(step, methods, rounds, settings):
     """The processor seconds of one run, its peak memory in bytes, the bytes of a round, and the checksum."""
-    reading, writing = os.pipe()
-    child = os.fork()
-    if child == 0:
-        os.dup2(writing, 1)
-        os.execve(PROGRAM, [PROGRAM, "tokens", step, str(methods), str(rounds)], settings)
-    os.close(writing)
-    with os.fdopen(reading, encoding="ascii") as output:
-        line = output.read()
-    _, status, used = os.wait4(child, 0)
-    if status != 0 or not line.startswith(step + ": "):
-        sys.exit(f"{step} {methods} {rounds} ended with {status}: {line}")
-    words = line.split()
-    return used.ru_utime + used.ru_stime, used.ru_maxrss * 1024, int(words[1]), int(words[4])
+    seconds, peak, said = measured.run(PROGRAM, ["tokens", step, str(methods), str(rounds)], settings)
+    return seconds, peak, int(said[1]), int(said[4])
 
 
 def seconds_of_round(step, methods):

@@ -6,6 +6,7 @@
 PROGRAM is crates/apt_vectors/out/apt_vectors where it is left out. Each case prints a line. The first that fails ends the run with status 1.
 """
 import os
+import resource
 import subprocess
 import sys
 
@@ -42,6 +43,43 @@ CASES = [
 UNPRINTED = [([], 1), (["--table", "tokens"], 1), (["--help"], 2)]
 
 
+# The exit status for want of memory, and the limits of the address space, in KiB, at one of which it is to come: below them
+# the program does not start, and above them it has all that it wants.
+MEMORY = 3
+LIMITS = range(512, 65_536, 16)
+
+
+def runs_within(program, kibibytes):
+    """What the program prints without words where its address space is limited, and its exit status."""
+    most = kibibytes << 10
+
+    def limit():
+        resource.setrlimit(resource.RLIMIT_AS, (most, most))
+
+    try:
+        run = subprocess.run([program], stdout=subprocess.PIPE, stderr=subprocess.DEVNULL, timeout=SECONDS,
+                             check=False, preexec_fn=limit)
+    except (OSError, subprocess.SubprocessError):
+        return None
+    return run.stdout, run.returncode
+
+
+def test_want_of_memory(program):
+    """Without memory for all of it the program prints nothing and answers so; what ends it before it begins is passed over."""
+    met = False
+    for kibibytes in LIMITS:
+        seen = runs_within(program, kibibytes)
+        if seen == (TOKENS + FRAMES, 0):
+            break
+        if seen is not None and seen[1] >= 0 and seen[1] != 127:
+            if seen != (b"", MEMORY):
+                failed([], seen, (b"", MEMORY))
+            met = True
+    if not met:
+        failed([], "no want of memory", (b"", MEMORY))
+    print("no words, without memory: ok")
+
+
 def shown(words):
     return " ".join(word if isinstance(word, str) else repr(word) for word in words) or "no words"
 
@@ -66,7 +104,8 @@ def main():
         if run.returncode != status:
             failed(words, run.returncode, status)
         print(f"{shown(words)}, unprinted: ok")
-    print(f"vectors: {len(CASES) + len(UNPRINTED)} passed, 0 failed")
+    test_want_of_memory(program)
+    print(f"vectors: {len(CASES) + len(UNPRINTED) + 1} passed, 0 failed")
 
 
 if __name__ == "__main__":

@@ -1,0 +1,90 @@
+#!/usr/bin/env python3
+"""Runs the built program with each of its allocations failing in turn, over a former output.
+
+    bench/allocations.py [PROGRAM]
+
+PROGRAM is crates/apt_cli/out/apt_cli where it is left out. A library that is loaded before the C library (bench/refuse.c, which `cc`
+compiles) counts what the program asks for and refuses one of them. For each build below there is first a run in which none is refused,
+which has to give the answer that is named, and then one for each number up to those that it asked for. Each of them has to answer that
+memory was wanting. Before that nothing is printed, or the whole report, which is written before the record takes its place; where there
+is no memory for the line of a refusal, nothing is. What was published before has to stand, no child may be left, and no unfinished
+file. The first that does not ends the run with status 1. A line says how many there were of each build.
+"""
+import os
+import subprocess
+import sys
+import tempfile
+
+HERE = os.path.dirname(os.path.abspath(__file__))
+sys.path.insert(0, os.path.join(HERE, "..", "tests"))
+import generated
+import host
+from host import (CREATE, DONE_STATUS, ERRORS, GENERATED_DUPLICATE, TOO_MANY_QUESTIONS, UNBUILT_FORM, UNBUILT_TALK,
+                  Failure, expect, former_stands)
+
+MEMORY_STATUS = 3
+MEMORY = b"refused: Memory\n"
+
+# What a child says in its rounds, and the status of the build without want of memory.
+BUILDS = {
+    "created sources in three rounds": ([[generated.create_source("p.D"), CREATE], [], []], DONE_STATUS),
+    "a source of the last round": ([[generated.create_source("p.D")], [], [generated.create_source("p.E")]], DONE_STATUS),
+    "printed errors": ([[CREATE, generated.message(generated.ERROR, "bad")], []], ERRORS),
+    "a type that is there": ([[generated.create_source("p.E", generated.source_of("p.C"))]], GENERATED_DUPLICATE),
+    "a created source off the form": ([[generated.create_source("p.E", b"")]], UNBUILT_FORM),
+    "a frame that is none": ([[[host.say(b"\0\0\0\1\xff")]]], UNBUILT_TALK),
+}
+
+
+def library(folder):
+    made = os.path.join(folder, "refuse.so")
+    subprocess.run(["cc", "-O1", "-shared", "-fPIC", "-o", made, os.path.join(HERE, "refuse.c")], check=True)
+    return made
+
+
+def run(made, rounds, number, report=b""):
+    """How a build over a former output ended in which this allocation failed, and how many the program asked for. Its report is this."""
+    project = host.Project()
+    try:
+        project.publish_former()
+        counted = project.path("counted")
+        environment = dict(os.environ, LD_PRELOAD=made, REFUSED=str(number), COUNTED=counted)
+        ended = project.run(project.scripted(generated.talk(*rounds)), environment=environment)
+        if number > 0:
+            expect("the status", ended.status, MEMORY_STATUS)
+            # (without memory for the line of a refusal there is none)
+            if ended.output not in (report + MEMORY, b""):
+                expect("the output", ended.output, MEMORY)
+            former_stands(project)
+            expect("the files below out", sorted(os.listdir(project.path("out"))), ["record", "store"])
+        return ended, int(project.read("counted"))
+    finally:
+        project.remove()
+
+
+def try_build(made, name, rounds, status):
+    ended, all_asked = run(made, rounds, 0)
+    expect("the status", ended.status, status)
+    report = ended.output if status in (DONE_STATUS, ERRORS) else b""
+    for number in range(1, all_asked + 1):
+        try:
+            run(made, rounds, number, report)
+        except Failure as failure:
+            raise Failure(f"allocation {number} of {all_asked}: {failure}") from None
+    print(f"{name}: {all_asked} allocations, each of them refused once: Memory, and the former output stands", flush=True)
+
+
+def main():
+    if len(sys.argv) > 1:
+        host.PROGRAM = sys.argv[1]
+    with tempfile.TemporaryDirectory(prefix="apt-bench-allocations-") as folder:
+        made = library(folder)
+        for name, (rounds, status) in BUILDS.items():
+            try:
+                try_build(made, name, rounds, status)
+            except Failure as failure:
+                sys.exit(f"{name}: {failure}")
+
+
+if __name__ == "__main__":
+    main()
