@@ -6,6 +6,7 @@
 PROGRAM is crates/apt_cli/out/apt_cli where it is left out. It prints the median of each and their ratio, which is to be
 at most 12. Nothing but the ratio means anything on another machine, and no test depends on it.
 """
+import json
 import os
 import shutil
 import statistics
@@ -33,12 +34,14 @@ def make_project(count):
         name = f"C{number:05}"
         with open(os.path.join(folder, "src", "p", name + ".java"), "w", encoding="ascii") as file:
             file.write(f"package p; @q.A class {name} {{}}\n")
+    with open(os.path.join(folder, "apt.json"), "w", encoding="ascii") as file:
+        json.dump({"order": ["maker"], "processors": {"maker": {"command": CHILD, "version": "1"}}}, file)
     return folder
 
 
 def seconds_of_build(folder):
     start = time.perf_counter()
-    run = subprocess.run([PROGRAM, "build", "maker", *CHILD], cwd=folder, capture_output=True, check=False)
+    run = subprocess.run([PROGRAM, "build"], cwd=folder, capture_output=True, check=False)
     taken = time.perf_counter() - start
     if run.returncode != 0:
         sys.exit(f"the build ended with status {run.returncode}: {run.stdout.decode()}")

@@ -11,6 +11,7 @@ On a disk nearly all of a build's time is the wait until each file of the store 
 itself takes, and it was seen to vary between 1 and 8 ms for a file. So the builds run many times in /dev/shm, where it
 is there, and the goal is for the ratio of these; a few run on the disk, in which the memory is looked at too.
 """
+import json
 import os
 import shutil
 import statistics
@@ -62,6 +63,8 @@ class Project:
         os.makedirs(os.path.join(self.folder, "src", "p"))
         with open(os.path.join(self.folder, "src", "p", "C.java"), "wb") as file:
             file.write(b"package p; @q.A class C {}\n")
+        with open(os.path.join(self.folder, "apt.json"), "w", encoding="ascii") as file:
+            json.dump({"order": ["maker"], "processors": {"maker": {"command": CHILD, "version": "1"}}}, file)
         with open(os.path.join(self.folder, "answers"), "wb") as file:
             file.write(answers)
 
@@ -69,7 +72,7 @@ class Project:
         # Each build begins without an output, so that all have the same to do.
         shutil.rmtree(os.path.join(self.folder, "out"), ignore_errors=True)
         self.report = open(os.path.join(self.folder, "report"), "w+b")
-        return [PROGRAM, "build", "maker", *CHILD]
+        return [PROGRAM, "build"]
 
     def check(self, status):
         with self.report:

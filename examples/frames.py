@@ -49,8 +49,11 @@ def frame(tag, fields=b""):
 # What the host sends.
 
 
-def init(name):
-    return frame(INIT, text_field(name) + LEVEL.to_bytes(2, "big") + NO_OPTIONS)
+def init(name, options=()):
+    """The first frame, with the values of options by their keys, which ascend."""
+    pairs = sorted(dict(options).items(), key=lambda pair: pair[0].encode())
+    fields = b"".join(text_field(key) + text_field(value) for key, value in pairs)
+    return frame(INIT, text_field(name) + LEVEL.to_bytes(2, "big") + number_field(len(pairs)) + fields)
 
 
 def round_frame(number, roots, offered=(), over=False, error=False):

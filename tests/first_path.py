@@ -13,10 +13,10 @@ import subprocess
 import sys
 import time
 
-from host import (ACCEPTED, BAD_WORDS, CHILD_FAULT, CLAIM_BROKEN, CREATE, DONE, DONE_STATUS, EXISTS, FIRST_ROUND,
-                  HELLO, INIT, LAST_ROUND, PAST_A_LIMIT, SECONDS, SINK_FAULT, SOURCE, TREE_FAULT, UNBUILT_FORM,
-                  UNBUILT_TALK, Cases, Failure, NotRun, by_hand, expect, former_stands, frames, processes_of, program,
-                  record_of, refused, say, says)
+from host import (ACCEPTED, BAD_CONFIG, BAD_WORDS, CHILD_FAULT, CLAIM_BROKEN, CREATE, DONE, DONE_STATUS, EXISTS,
+                  FIRST_ROUND, HELLO, INIT, KINDS, LAST_ROUND, PAST_A_LIMIT, SECONDS, SERVICES, SINK_FAULT, SOURCE,
+                  TREE_FAULT, UNBUILT_FORM, UNBUILT_TALK, UNKNOWN_PROCESSOR, Cases, Failure, NotRun, by_hand, expect,
+                  former_stands, frames, processes_of, program, record_of, refused, say, says)
 
 # The steps of a child that creates one file, and of one that creates nothing.
 CREATES = ["read", say(HELLO), "read", say(CREATE), "read", say(DONE), "read", say(DONE), "rest"]
@@ -60,8 +60,10 @@ def a_source_without_an_annotation(project):
 
 
 @case
-def a_processor_without_a_command(project):
-    refused(project, ["build", "maker"], BAD_WORDS, "BadWords(2)")
+def a_word_that_is_no_option(project):
+    refused(project, ["build", "maker"], BAD_WORDS, "BadWords(1)")
+    refused(project, ["build", "k=v", "--fast"], BAD_WORDS, "BadWords(2)")
+    refused(project, ["build", "--full", "--full"], BAD_WORDS, "BadWords(2)")
 
 
 @case
@@ -118,13 +120,13 @@ def a_first_word_that_is_no_text(project):
 
 
 @case
-def a_name_that_is_no_text(project):
-    refused(project, ["build", b"maker\xff", "m"], BAD_WORDS, "BadWords(1)")
+def an_option_that_is_no_text(project):
+    refused(project, ["build", b"k=\xff", "m"], BAD_WORDS, "BadWords(1)")
 
 
 @case
-def an_argument_that_is_no_text(project):
-    refused(project, ["build", "maker", "m", b"\xc3"], BAD_WORDS, "BadWords(3)")
+def a_later_word_that_is_no_text(project):
+    refused(project, ["build", "k=v", "--full", b"\xc3"], BAD_WORDS, "BadWords(3)")
 
 
 @case
@@ -136,9 +138,14 @@ def a_wrong_word_before_one_that_is_no_text(project):
 def long_words(project):
     # A word is read whole, however much longer it is than the room that it is first read into.
     for length in [255, 256, 257, 300, 511, 512, 513, 4000]:
+        value = "x" * length
+        refused(project, ["build", value], BAD_WORDS, "BadWords(1)")
+        run = project.run([*project.scripted(CREATES_NOTHING), "k=" + value])
+        expect("the output", run.output, REPORT_OF_NO_FILE)
+        init = frames.init("maker", {"k": value})
+        expect("what the child was sent", project.sent(), init + FIRST_ROUND + LAST_ROUND)
         name = "x" * length
-        refused(project, ["build", name], BAD_WORDS, "BadWords(2)")
-        refused(project, ["build", name, "no-such-program"], CHILD_FAULT, f"ChildFault({name})")
+        refused(project, project.with_command(["no-such-program"], name), CHILD_FAULT, f"ChildFault({name})")
 
 
 # Children that do not do what they should.
@@ -165,7 +172,7 @@ def a_folder_as_a_program(project):
 
 
 def not_started(project, word, reason):
-    run = refused(project, ["build", "maker", word], CHILD_FAULT, "ChildFault(maker)")
+    run = refused(project, project.with_command([word]), CHILD_FAULT, "ChildFault(maker)")
     says(run, f"cannot start {word}: {reason}")
 
 
@@ -178,16 +185,16 @@ def what_a_child_complains(project):
 
 @case
 def a_program_without_a_name(project):
-    run = refused(project, ["build", "maker", ""], CHILD_FAULT, "ChildFault(maker)")
+    run = refused(project, project.with_command([""]), CHILD_FAULT, "ChildFault(maker)")
     says(run, 'cannot start "": No such file or directory (os error 2)')
 
 
 @case
 def a_program_of_the_search_path(project):
-    project.write("tools/maker-tool", b"#!/bin/sh\nexec " + program_line(project.scripted(CREATES)[2:]) + b"\n")
+    project.write("tools/maker-tool", b"#!/bin/sh\nexec " + program_line(project.command(CREATES)) + b"\n")
     os.chmod(project.path("tools/maker-tool"), 0o755)
     environment = dict(os.environ, PATH="/no-such-folder:" + project.path("tools") + ":" + os.environ["PATH"])
-    run = project.run(["build", "maker", "maker-tool"], environment=environment)
+    run = project.run(project.with_command(["maker-tool"]), environment=environment)
     expect("the output", run.output, REPORT_OF_ONE_FILE)
     expect("the status", run.status, DONE_STATUS)
 
@@ -198,9 +205,9 @@ def program_line(words):
 
 @case
 def a_program_of_the_project(project):
-    project.write("tools/maker-tool", b"#!/bin/sh\nexec " + program_line(project.scripted(CREATES)[2:]) + b"\n")
+    project.write("tools/maker-tool", b"#!/bin/sh\nexec " + program_line(project.command(CREATES)) + b"\n")
     os.chmod(project.path("tools/maker-tool"), 0o755)
-    run = project.run(["build", "maker", "tools/maker-tool"])
+    run = project.run(project.with_command(["tools/maker-tool"]))
     expect("the output", run.output, REPORT_OF_ONE_FILE)
     expect("the status", run.status, DONE_STATUS)
 
@@ -209,7 +216,7 @@ def a_program_of_the_project(project):
 def a_child_that_ends_at_once(project):
     # The host may see that nobody reads what it sends, or that nothing comes.
     project.publish_former()
-    run = project.run(["build", "maker", "true"])
+    run = project.run(project.with_command(["true"]))
     ends = {CHILD_FAULT: b"refused: ChildFault(maker)\n", UNBUILT_TALK: b"refused: UnbuiltTalk(maker)\n"}
     expect("the output", run.output, ends.get(run.status))
     former_stands(project)
@@ -236,7 +243,7 @@ def a_child_that_a_signal_ends(project):
 def ended_by(project, command):
     """A build whose child does all that it should, and then this. Its output is published."""
     shell = ["/bin/sh", "-c", '"$@"; ' + command, "sh"]
-    run = project.run(["build", "maker", *shell, *project.scripted(CREATES)[2:]])
+    run = project.run(project.with_command([*shell, *project.command(CREATES)]))
     expect("the output", run.output, REPORT_OF_ONE_FILE)
     expect("the status", run.status, DONE_STATUS)
     return run
@@ -363,6 +370,220 @@ def a_done_with_one_byte_more(project):
     refused(project, project.scripted(steps), UNBUILT_TALK, "UnbuiltTalk(maker)")
 
 
+# Several processors, and the configuration.
+
+
+# A Hello that supports q.A and says that its claims vary, and a Done that claims nothing.
+VARIES = by_hand("00000011 40 00000001 00000003 712e41 00000000 02")
+CLAIMS_NOTHING = by_hand("00000002 41 00")
+
+
+# How a report ends that has the file x alone, and one without a file.
+ONE_FILE = ["file CLASS_OUTPUT/x 2", "done: 2 rounds, 1 files, 0 errors, 0 warnings"]
+NO_FILE = "done: 2 rounds, 0 files, 0 errors, 0 warnings"
+
+
+def several(project, scripts):
+    """The words of a build with children that follow these steps, by the names of their processors.
+
+    Each writes what it reads to a file of its name.
+    """
+    project.configure({name: project.command(steps, name) for name, steps in scripts.items()})
+    return ["build"]
+
+
+def report(started, *lines):
+    return "".join(line + "\n" for line in (f"mode: clean (Full), started {started}", *lines)).encode()
+
+
+@case
+def a_processor_without_sources(project):
+    # The three frames of the child are written out, and so is what it is sent.
+    shutil.rmtree(project.path("src"))
+    hello = by_hand("0000000f 40 00000001 00000001 2a 00000000 01")
+    star = ["read", say(hello), *["read", say(CLAIMS_NOTHING)] * 2, "rest"]
+    run = project.run(several(project, {"star": star}))
+    expect("the output", run.output, REPORT_OF_NO_FILE)
+    expect("what the child was sent", project.sent("star"), by_hand(
+        "0000000f 01 00000004 73746172 000b 00000000"
+        "0000000f 02 00000001 00 00 00000000 00000000"
+        "0000000f 02 00000002 01 00 00000000 00000000"))
+
+
+@case
+def a_star_by_the_shell(project):
+    # The command prints its three frames at once, and reads what it is sent.
+    shutil.rmtree(project.path("src"))
+    says_all = by_hand("0000000f 40 00000001 00000001 2a 00000000 01" + 2 * "00000002 41 00")
+    printed = "".join(f"\\{byte:03o}" for byte in says_all)
+    run = project.run(project.with_command(["sh", "-c", f"printf '{printed}'; cat > /dev/null"], "star"))
+    expect("the output", run.output, REPORT_OF_NO_FILE)
+    expect("the status", run.status, DONE_STATUS)
+
+
+@case
+def two_processors_of_which_the_first_claims_always(project):
+    run = project.run(several(project, {"one": CREATES, "two": ["read", say(HELLO), "rest"]}))
+    expect("the output", run.output, report(2, *ONE_FILE))
+    expect("the status", run.status, DONE_STATUS)
+    expect("what the first was sent", project.sent("one"), frames.init("one") + FIRST_ROUND + ACCEPTED + LAST_ROUND)
+    expect("what the second was sent", project.sent("two"), by_hand("0000000e 01 00000003 74776f 000b 00000000"))
+
+
+@case
+def two_processors_of_which_the_first_claims_nothing(project):
+    claims_nothing = ["read", say(VARIES), *["read", say(CLAIMS_NOTHING)] * 2, "rest"]
+    run = project.run(several(project, {"one": claims_nothing, "two": CREATES}))
+    expect("the output", run.output, report(2, *ONE_FILE))
+    expect("what the first was sent", project.sent("one"), frames.init("one") + FIRST_ROUND + LAST_ROUND)
+    expect("what the second was sent", project.sent("two"), frames.init("two") + FIRST_ROUND + ACCEPTED + LAST_ROUND)
+
+
+@case
+def all_processors_are_started_before_the_first_round(project):
+    # The first answers the first round only once the second, which is never asked, has read its first frame.
+    steps = ["read", say(HELLO), "read", "until:" + project.path("two"), *CREATES[3:]]
+    run = project.run(several(project, {"one": steps, "two": ["read", say(HELLO), "rest"]}))
+    expect("the status", run.status, DONE_STATUS)
+    expect("what the second was sent", project.sent("two"), frames.init("two"))
+
+
+@case
+def a_refused_processor_between_two(project):
+    talks = {"one": ["read", say(HELLO), "rest"], "two": ["read", say(DONE), "rest"], "three": CREATES}
+    refused(project, several(project, talks), UNBUILT_TALK, "UnbuiltTalk(two)")
+    expect("what the first was sent", project.sent("one"), frames.init("one"))
+    expect("whether the third was started", os.path.exists(project.path("three")), False)
+
+
+@case
+def a_processor_between_two_that_is_not_there(project):
+    commands = {name: project.command(["read", say(HELLO), "rest"], name) for name in ("one", "three")}
+    project.configure({"one": commands["one"], "two": ["no-such-program"], "three": commands["three"]})
+    run = refused(project, ["build"], CHILD_FAULT, "ChildFault(two)")
+    says(run, "cannot start no-such-program: No such file or directory (os error 2)")
+    expect("whether the third was started", os.path.exists(project.path("three")), False)
+
+
+@case
+def options_of_the_words_over_those_of_the_file(project):
+    project.configure({"maker": project.command(CREATES_NOTHING)}, options={"b": "2", "a": "1"})
+    run = project.run(["build", "b=3", "--full", "c=", "b=4"])
+    expect("the output", run.output, REPORT_OF_NO_FILE)
+    init = by_hand("0000002d 01 00000005 6d616b6572 000b 00000003"
+                   "00000001 61 00000001 31 00000001 62 00000001 34 00000001 63 00000000")
+    expect("what the child was sent", project.sent(), init + FIRST_ROUND + LAST_ROUND)
+
+
+@case
+def processors_of_the_file_of_services(project):
+    claims_nothing = ["read", say(VARIES), *["read", say(CLAIMS_NOTHING)] * 2, "rest"]
+    project.configure({"a": project.command(CREATES, "a"), "b": project.command(claims_nothing, "b")}, order=None)
+    project.write(SERVICES, b"b # x\n\na\r\nb")
+    run = project.run(["build"])
+    expect("the output", run.output, report(2, *ONE_FILE))
+    expect("what the first was sent", project.sent("b"), frames.init("b") + FIRST_ROUND + LAST_ROUND)
+    expect("what the second was sent", project.sent("a"), frames.init("a") + FIRST_ROUND + ACCEPTED + LAST_ROUND)
+
+
+def refused_unstarted(project, status, line):
+    """A build is refused, and the processor of its configuration is not started."""
+    refused(project, ["build"], status, line)
+    expect("whether the child was started", os.path.exists(project.record), False)
+
+
+@case
+def a_processor_without_a_row(project):
+    project.configure({"maker": project.command(CREATES)}, order=["other"])
+    refused_unstarted(project, UNKNOWN_PROCESSOR, "UnknownProcessor(other)")
+
+
+def nested(depth):
+    """An object in which arrays stand, one in another, this deep with the object."""
+    return b'{"x":' + b"[" * (depth - 1) + b"]" * (depth - 1) + b"}"
+
+
+@case
+def a_configuration_that_names_nobody(project):
+    for text in [b"{}", b"{}\n", b"{}\r", b"\r\n\t {} ", b'{"level":12,"level":11}', nested(127)]:
+        project.write("apt.json", text)
+        expect(f"the output for {text}", project.run(["build"]).output, report(0, NO_FILE))
+
+
+@case
+def a_configuration_off_its_form(project):
+    for text, place in [(b"{", "json"), (b"", "json"), (b"\xef\xbb\xbf{}", "json"), (b'{"x":"\xff"}', "json"), (nested(128), "json"),
+                        (b'{"level":12}', "/level"), (b'{"level":1.0}', "/level"), (b'{"level":1e3}', "/level"),
+                        (b'{"level":11.5}', "/level"), (b'{"level":11,"level":12}', "/level"), (b'{"order":["a","a"]}', "/order"),
+                        (b'{"processors":{"a":{"command":["m"]}}}', "/processors/a/version")]:
+        project.write("apt.json", text)
+        refused_unstarted(project, BAD_CONFIG, f"BadConfig(apt.json, {place})")
+
+
+@case
+def lists_off_their_form(project):
+    project.configure({"maker": project.command(CREATES)})
+    project.write(KINDS, b"builder,isolated")
+    refused_unstarted(project, BAD_CONFIG, f"BadConfig({KINDS}, 1)")
+    project.write(KINDS, b"builder,isolating\rmaker,Dynamic")
+    project.configure({"maker": project.command(CREATES)}, order=None)
+    project.write(SERVICES, b"maker\r\n# more\r\nnot a name\r\n")
+    refused_unstarted(project, BAD_CONFIG, f"BadConfig({SERVICES}, 3)")
+
+
+@case
+def lists_as_they_may_stand(project):
+    for services in [b"", b"# none", b"\r\r\n\n \t"]:
+        project.write(SERVICES, services)
+        expect(f"the output for {services}", project.run(["build"]).output, report(0, NO_FILE))
+    claims_nothing = ["read", say(VARIES), *["read", say(CLAIMS_NOTHING)] * 2, "rest"]
+    project.configure({name: project.command(claims_nothing, name) for name in ("a", "b")}, order=None)
+    # The lines end at a CR, and the last one at nothing; of two kinds of one name the last counts; a comment may be no text.
+    project.write(SERVICES, b"b # \xff\ra\rb")
+    project.write(KINDS, b"a,isolating\rb,dynamic\r\na , AGGREGATING # \xff")
+    expect("the output", project.run(["build"]).output, report(2, NO_FILE))
+    for name in ("b", "a"):
+        expect(f"what {name} was sent", project.sent(name), frames.init(name) + FIRST_ROUND + LAST_ROUND)
+    for path, text, line in [(SERVICES, b"\xef\xbb\xbfa", 1), (SERVICES, b"a\r\xff", 2), (SERVICES, b"a\r\n\r\na b", 3),
+                             (KINDS, b"\xef\xbb\xbfa,isolating", 1), (KINDS, b"\ra,isolating\ra", 3)]:
+        project.write(SERVICES, b"a")
+        project.write(KINDS, b"")
+        project.write(path, text)
+        refused(project, ["build"], BAD_CONFIG, f"BadConfig({path}, {line})")
+
+
+@case
+def files_of_the_configuration_of_a_byte_too_many(project):
+    for path in ["apt.json", SERVICES, KINDS]:
+        project.write(path, b"\n" * 1_048_577)
+        refused_unstarted(project, PAST_A_LIMIT, "TooLarge(ConfigBytes, 1048576)")
+        os.remove(project.path(path))
+
+
+@case
+def a_configuration_that_cannot_be_read(project):
+    os.makedirs(project.path("apt.json"))
+    run = refused(project, ["build"], TREE_FAULT, "TreeFault")
+    says(run, "cannot read apt.json: not a regular file")
+
+
+@case
+def sixty_five_processors(project):
+    project.write(SERVICES, b"".join(b"n%d\n" % number for number in range(65)))
+    refused_unstarted(project, PAST_A_LIMIT, "TooLarge(Processors, 64)")
+
+
+@case
+def sixty_four_processors(project):
+    # The first that is asked claims always: all others are sent Init alone.
+    names = [f"n{number:02}" for number in range(64)]
+    others = {name: ["read", say(HELLO), "rest"] for name in names[1:]}
+    run = project.run(several(project, {names[0]: CREATES_NOTHING, **others}))
+    expect("the output", run.output, report(64, "done: 2 rounds, 0 files, 0 errors, 0 warnings"))
+    for name in names[1:]:
+        expect(f"what {name} was sent", project.sent(name), frames.init(name))
+
+
 # Files and streams that fail.
 
 
@@ -409,7 +630,7 @@ def a_link_where_a_store_file_goes(project):
 def a_file_that_came_where_a_store_file_goes(project):
     # The processor makes it, after the host has listed the store. What is there is never written over.
     makes = ["/bin/sh", "-c", 'mkdir -p out/store; printf early >out/store/0; exec "$@"', "sh"]
-    run = project.run(["build", "maker", *makes, *project.scripted(CREATES)[2:]])
+    run = project.run(project.with_command([*makes, *project.command(CREATES)]))
     refused_by_the_tree(run)
     says(run, "cannot write out/store/0: File exists (os error 17)")
     expect("the file", project.read("out/store/0"), b"early")

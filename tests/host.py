@@ -1,4 +1,5 @@
 """What the scripts of this folder share: frames by name, a project in a fresh folder, and the run of their cases."""
+import json
 import os
 import shutil
 import signal
@@ -15,10 +16,15 @@ CHILD = os.path.join(HERE, "scripted_child.py")
 SECONDS = 60
 
 SOURCE = b"package p; @q.A class C {}"
+# The files of the configuration, beside apt.json.
+SERVICES = "res/META-INF/services/javax.annotation.processing.Processor"
+KINDS = "res/META-INF/gradle/incremental.annotation.processors"
+
 FORMER = {"CLASS_OUTPUT/former": (0, b"what stood before")}
 
 DONE_STATUS, ERRORS, BAD_WORDS, TREE_FAULT, SINK_FAULT, CHILD_FAULT = 0, 1, 2, 4, 5, 7
-TOO_MANY_QUESTIONS, CLAIM_BROKEN, GENERATED_DUPLICATE, TOO_MANY_ROUNDS, PAST_A_LIMIT = 11, 12, 19, 20, 21
+TOO_MANY_QUESTIONS, CLAIM_BROKEN, BAD_CONFIG, UNKNOWN_PROCESSOR = 11, 12, 13, 17
+GENERATED_DUPLICATE, TOO_MANY_ROUNDS, PAST_A_LIMIT = 19, 20, 21
 UNBUILT_FORM, UNBUILT_TALK = 25, 26
 
 # What the host sends in a build of the source above whose child creates no source.
@@ -88,7 +94,7 @@ class Project:
 
     def __init__(self):
         self.folder = tempfile.mkdtemp(prefix="apt-host-")
-        self.record = os.path.join(self.folder, "child-record")
+        self.record = self.path("child-record")
         self.write("src/p/C.java", SOURCE)
 
     def path(self, name):
@@ -119,13 +125,28 @@ class Project:
         expect("the length of the record", len(record.data), record.at)
         return files
 
+    def configure(self, commands, **items):
+        """Writes an apt.json with these processors, by name in their order, each with the words of its command."""
+        rows = {name: {"command": command, "version": "1"} for name, command in commands.items()}
+        value = {"order": list(commands), **items, "processors": rows}
+        self.write("apt.json", json.dumps({name: item for name, item in value.items() if item is not None}).encode())
+
+    def command(self, steps, record="child-record"):
+        """The command of a child that follows these steps, and writes what it reads to this file."""
+        return [sys.executable, CHILD, self.path(record), *steps]
+
+    def with_command(self, command, name="maker"):
+        """The words of a build whose one processor is started by this command."""
+        self.configure({name: command})
+        return ["build"]
+
     def scripted(self, steps):
         """The words of a build with a child that follows these steps."""
-        return ["build", "maker", sys.executable, CHILD, self.record, *steps]
+        return self.with_command(self.command(steps))
 
-    def sent(self):
-        """All bytes that the scripted child read."""
-        return self.read("child-record")
+    def sent(self, record="child-record"):
+        """All bytes that a scripted child read."""
+        return self.read(record)
 
     def run(self, words, stdout=subprocess.PIPE, stderr=subprocess.PIPE, before=(), environment=None):
         """Runs the program, and sees that no child outlives it."""

@@ -15,6 +15,7 @@ It writes its process number to RECORD.pid, and all bytes that it reads to RECOR
     streams       writes what the host's three standard streams are to RECORD.streams, each in a line
     deaf          closes its input
     wait:SECONDS  does nothing for that long
+    until:FILE    does nothing until this file has a byte
 """
 import os
 import signal
@@ -82,6 +83,10 @@ class Child:
 
     def wait(self, seconds):
         time.sleep(float(seconds))
+
+    def until(self, path):
+        while not os.path.exists(path) or not os.path.getsize(path):
+            time.sleep(0.01)
 
 
 def give(data):

@@ -1,5 +1,5 @@
 -- From what was spelled to what a build leaves.
-use Rattle.std.proofs.Common.{◌≡◌, ◌≢◌, ℕ, zero, suc, ◌<◌, ◌^◌, List, [], ◌∷◌, length, map, get_or, All, None, Result, Ok, Err, inl, inr, refl, sym, ap, ◌∙◌, subst, Contains, append-nil, arith}
+use Rattle.std.proofs.Common.{◌≡◌, ◌≢◌, ℕ, zero, suc, ◌<◌, ◌^◌, List, [], ◌∷◌, length, map, get_or, All, None, Result, Ok, Err, inl, inr, refl, sym, ap, ◌∙◌, subst, Contains, arith}
 use Rattle.std.specs.Prelude.{AllPairs, ◌+◌, ◌==◌, cond, not, Bool, true, false}
 use Rattle.std.specs.FinMap as fin
 use Rattle.std.proofs.lemmas.List.Elements.{All-head, All-tail, All-cons}
@@ -19,23 +19,23 @@ use Rattle.round_engine.specs.declared.numbering.Made.{Made}
 use Rattle.round_engine.specs.Numbering.{AreLeast}
 use Rattle.round_engine.specs.declared.running.Finished.{Finished}
 use Rattle.round_engine.specs.Refusals.{Refusal, Tree, Sink, Children}
-use Rattle.element_table.specs.TypeTable.{TypeTable}
-use Rattle.round_engine.specs.Units.{and_then}
-use Rattle.round_engine.specs.Run.{files_among, run_of}
+use Rattle.round_engine.specs.Run.{files_among, frames_of, run_of}
+use Rattle.round_engine.specs.Shown.{ShowsNoMore}
 use Rattle.round_engine.specs.Clean.{AreNumbered, ShowsWhole, Talked, is_error, is_warning, count_of}
+use Rattle.round_engine.proofs.FrontsOfHellos.{shows_nothing}
 use Rattle.round_engine.proofs.NumberingLemmas.{All-from_AreLeast, AllPairs-from_AreLeast}
 use Rattle.apt_host.specs.declared.status.Status.{Status}
-use Rattle.apt_host.specs.Words.{Build}
-use Rattle.apt_host.specs.Project.{Read, plan_by, read_as, read_of, units_of}
-use Rattle.apt_host.specs.CleanBuild.{Summary, summary, Outcome, names_in, outcome_of, outcome_of_run, clean}
+use Rattle.apt_host.specs.Words.{Options, Build}
+use Rattle.apt_host.specs.Project.{Read, read_of}
+use Rattle.apt_host.specs.CleanBuild.{Summary, summary, Outcome, outcome_of, outcome_of_run, clean}
 use Rattle.apt_host.specs.CleanBuild as outcome
 use Rattle.apt_host.specs.Report.{report_of, errors_report, report_text}
-use Rattle.apt_host.specs.Verdicts.{Verdict, Done, Errors, Refused, Failed, Memory, is_free, has_run, is_tree, is_children, fails, OrFree, verdict, verdict_of}
+use Rattle.apt_host.specs.Verdicts.{Verdict, Done, Errors, Refused, Failed, Memory, is_free, is_tree, is_children, fails, OrFree, verdict, verdict_of}
 use Rattle.apt_host.specs.Listed.{listed, entry_of, numbered_of, file_of, Gains, GainsFirst, Places, FitsEntry}
 use Rattle.apt_host.specs.Endings.{of_store, EndsEarly}
 use Rattle.apt_host.specs.Entering.{RefusesAs}
 use Rattle.apt_host.specs.Making.{finished_summary, concluded, concluding_report, outcome_with, Makes}
-use Rattle.apt_host.specs.Promises.{TalkedOf, ToldOf, Answers, Stores, Publishes, PublishesOutcome, PublishesClean, Leaves, LeavesUndone, StoresOutcome, StoresFirst, IsFront, Reports, Adds, Starts, Tries, TellsMore, ShowsBy, ShowsOver}
+use Rattle.apt_host.specs.Promises.{TalkedOf, ToldOf, Answers, Stores, Publishes, PublishesOutcome, PublishesClean, Leaves, LeavesUndone, StoresOutcome, StoresFirst, IsFront, Reports, Adds, ShowsBy, ShowsOver}
 use Rattle.apt_host.proofs.MakingLemmas.{talked_then}
 use Rattle.apt_host.proofs.Writing.{talked, front_more}
 use Rattle.apt_host.proofs.Leaving.{stands_by}
@@ -159,27 +159,23 @@ by_case : {P : Type 0} (b : Bool) → (b ≡ true → P) → (b ≡ false → P)
 by_case true first second = first refl
 by_case false first second = second refl
 
--- what is read of a project with these processors, once its sources are entered
-abbrev read_with : List Try → Result TypeTable Refusal → Result Read Refusal
-read_with processors entered = and_then entered (λ table. Ok (read_as processors table))
-
-module _ (tells talks : Bool) (processors : List Try) (says : Says) (project : Files) where
-  -- a source is refused, or the tree failed or memory was wanted
-  answer_of_read : (v : Verdict) → RefusesAs (units_of project) v → OrFree (verdict_of (clean says processors project)) v
+module _ (tells talks : Bool) (options : Options) (says : Says) (project : Files) where
+  -- the project is refused, or the tree failed or memory was wanted
+  answer_of_read : (v : Verdict) → RefusesAs (read_of options project) v → OrFree (verdict_of (clean says options project)) v
   answer_of_read Done refuses = absurd refuses
   answer_of_read (Errors count) refuses = absurd refuses
-  answer_of_read (Refused refusal) refuses = λ free. sym (ap (λ o. verdict_of (outcome_of says (read_with processors o))) refuses)
+  answer_of_read (Refused refusal) refuses = λ free. sym (ap (λ o. verdict_of (outcome_of says o)) refuses)
   answer_of_read (Failed object) refuses = λ free. absurd cc
   answer_of_read Memory refuses = λ free. absurd cc
 
-  pub answers_read : (v : Verdict) → Told tells (RefusesAs (units_of project) v) → Answers tells talks (Build processors) says project v
-  answers_read v refuses = λ told. talked talks (read_of processors project) _ (answer_of_read v (refuses told))
+  pub answers_read : (v : Verdict) → Told tells (RefusesAs (read_of options project) v) → Answers tells talks (Build options) says project v
+  answers_read v refuses = λ told. talked talks (read_of options project) _ (answer_of_read v (refuses told))
 
-  pub answers_free : (v : Verdict) → is_free v ≡ true → Answers tells talks (Build processors) says project v
-  answers_free v free = λ told. talked talks (read_of processors project) _ (λ unfree. absurd (let e : true ≡ false = sym free ∙ unfree in cc))
+  pub answers_free : (v : Verdict) → is_free v ≡ true → Answers tells talks (Build options) says project v
+  answers_free v free = λ told. talked talks (read_of options project) _ (λ unfree. absurd (let e : true ≡ false = sym free ∙ unfree in cc))
 
-  pub publishes_not : (new : Files) (v : Verdict) → v ≢ Done → PublishesClean tells talks (Build processors) says project new v
-  publishes_not new v ne = λ told. talked talks (read_of processors project) _ (λ done. absurd (ne done))
+  pub publishes_not : (new : Files) (v : Verdict) → v ≢ Done → PublishesClean tells talks (Build options) says project new v
+  publishes_not new v ne = λ told. talked talks (read_of options project) _ (λ done. absurd (ne done))
 
 -- the whole run was shown
 shows_whole : (P Q : Type 0) (v : Verdict) → P → ShowsBy v P Q
@@ -202,41 +198,27 @@ shows_early P Q (Failed (Children processor)) early shown = tt
 shows_early P Q Memory early shown = tt
 
 -- nothing was shown to a child
-unread_over : (processors : List Try) (entered : Result TypeTable Refusal) (state : State) (v : Verdict) → RefusesAs entered v → ShowsOver (read_with processors entered) state state v
-unread_over processors (Err refusal) state v refuses = λ k. refl
-unread_over processors (Ok table) state Done refuses = absurd refuses
-unread_over processors (Ok table) state (Errors count) refuses = absurd refuses
-unread_over processors (Ok table) state (Refused refusal) refuses = absurd (let e : Ok table ≡ Err refusal = refuses in cc)
-unread_over processors (Ok table) state (Failed Tree) refuses = inr refl
-unread_over processors (Ok table) state (Failed Sink) refuses = absurd (let e : false ≡ true = refuses in cc)
-unread_over processors (Ok table) state (Failed (Children processor)) refuses = tt
-unread_over processors (Ok table) state Memory refuses = tt
+no_fronts : (read : Read) (state : State) → ShowsNoMore read.plan.processors (frames_of (run_of state.says read.plan read.table)) state state
+no_fronts read state = shows_nothing read.plan.processors (frames_of (run_of state.says read.plan read.table)) state
 
-pub shows_unread : (processors : List Try) (project : Files) (state : State) (v : Verdict) → RefusesAs (units_of project) v → ShowsOver (read_of processors project) state state v
-shows_unread processors project state v refuses = unread_over processors (units_of project) state v refuses
+pub shows_unread : (read : Result Read Refusal) (state : State) (v : Verdict) → RefusesAs read v → ShowsOver read state state v
+shows_unread (Err refusal) state v refuses = λ k. refl
+shows_unread (Ok read) state Done refuses = absurd refuses
+shows_unread (Ok read) state (Errors count) refuses = absurd refuses
+shows_unread (Ok read) state (Refused refusal) refuses = absurd (let e : Ok read ≡ Err refusal = refuses in cc)
+shows_unread (Ok read) state (Failed Tree) refuses = record { by = inr refl; fronts = no_fronts read state }
+shows_unread (Ok read) state (Failed Sink) refuses = absurd (let e : false ≡ true = refuses in cc)
+shows_unread (Ok read) state (Failed (Children processor)) refuses = absurd (let e : false ≡ true = refuses in cc)
+shows_unread (Ok read) state Memory refuses = record { by = tt; fronts = no_fronts read state }
 
 pub shows_store : (read : Result Read Refusal) (state : State) (fault : StoreFault) → ShowsOver read state state (verdict (of_store fault))
 shows_store (Err refusal) state fault = λ k. refl
-shows_store (Ok read) state store.Failed = inr refl
-shows_store (Ok read) state store.Memory = tt
+shows_store (Ok read) state store.Failed = record { by = inr refl; fronts = no_fronts read state }
+shows_store (Ok read) state store.Memory = record { by = tt; fronts = no_fronts read state }
 
 pub shows_memory : (read : Result Read Refusal) (state : State) → ShowsOver read state state Memory
 shows_memory (Err refusal) state = λ k. refl
-shows_memory (Ok read) state = tt
-
--- no child was started or tried for a build that stops before its run
-pub starts_none : (processors : List Try) (state : State) (v : Verdict) → has_run v ≡ false → Starts (Build processors) v state state
-starts_none processors state v stops = record { finished = λ run. absurd (let e : true ≡ false = sym run ∙ stops in cc); least = omega arith; most = omega arith }
-
-pub tells_none : (processors : List Try) (state : State) → TellsMore (Build processors) state state
-tells_none processors state = record { group = []; few = omega arith; tells = record { different = tt; unknown = tt; others = λ child outside. refl } }
-
-pub tries_none : (processors : List Try) (state : State) → Tries (Build processors) state state
-tries_none processors state = record { count = 0; few = omega arith; tried = sym (append-nil state.tried) }
-
--- a project whose sources were entered is not refused
-pub read_not_refused : (processors : List Try) (project : Files) (table : TypeTable) (refusal : Refusal) → units_of project ≡ Ok table → read_of processors project ≢ Err refusal
-read_not_refused processors project table refusal is e = let same : Ok (read_as processors table) ≡ Err refusal = sym (ap (read_with processors) is) ∙ e in cc
+shows_memory (Ok read) state = record { by = tt; fronts = no_fronts read state }
 
 -- ---- a build whose run is known
 
@@ -244,33 +226,38 @@ made_of : (talks : Bool) (processors : List Try) (M : Type 0) → Talked talks p
 made_of talks [] M makes told = makes
 made_of talks (processor ∷ others) M makes told = makes told
 
-talked_over : (talks : Bool) (processors : List Try) (entered : Result TypeTable Refusal) (table : TypeTable) (M P : Type 0) → entered ≡ Ok table → Talked talks processors M → (M → P) → TalkedOf talks (read_with processors entered) P
-talked_over talks processors entered table M P is makes then = subst (λ o. TalkedOf talks (read_with processors o) P) (sym is) (talked_then talks processors M P makes then)
+talked_over : (talks : Bool) (due : Result Read Refusal) (read : Read) (M P : Type 0) → due ≡ Ok read → Talked talks read.plan.processors M → (M → P) → TalkedOf talks due P
+talked_over talks due read M P is makes then = subst (λ o. TalkedOf talks o P) (sym is) (talked_then talks read.plan.processors M P makes then)
 
--- the frames of a run over this table
-shown_over : (processors : List Try) (entered : Result TypeTable Refusal) (table : TypeTable) (before after : State) (v : Verdict) → entered ≡ Ok table
-    → ShowsBy v (ShowsWhole processors (run_of before.says (plan_by processors) table) before after) (after ≡ before) → ShowsOver (read_with processors entered) before after v
-shown_over processors entered table before after v is shown = subst (λ o. ShowsOver (read_with processors o) before after v) (sym is) shown
+-- the frames of its run
+shown_over : (due : Result Read Refusal) (read : Read) (before after : State) (v : Verdict) → due ≡ Ok read
+    → ShowsBy v (ShowsWhole read.plan.processors (run_of before.says read.plan read.table) before after) (after ≡ before)
+    → ShowsNoMore read.plan.processors (frames_of (run_of before.says read.plan read.table)) before after → ShowsOver due before after v
+shown_over due read before after v is by fronts = subst (λ o. ShowsOver o before after v) (sym is) (record { by = by; fronts = fronts })
 
-module _ (tells talks : Bool) (processors : List Try) (project : Files) (table : TypeTable) (before after : State) (is : Told tells (units_of project ≡ Ok table)) where
+module _ (tells talks : Bool) (options : Options) (project : Files) (read : Read) (before after : State) (is : Told tells (read_of options project ≡ Ok read)) where
+  abbrev whole : Result Read Refusal
+  whole = read_of options project
+
+  abbrev processors : List Try
+  processors = read.plan.processors
+
   abbrev MakesAs : Result Finished Status → Type 0
-  MakesAs result = Makes (read_as processors table) before after result
+  MakesAs result = Makes read before after result
 
   -- a run that was refused
   module _ (status : Status) (makes : Talked talks processors (MakesAs (Err status))) where
     abbrev MakesHere : Type 0
     MakesHere = MakesAs (Err status)
 
-    pub answers_refused : Answers tells talks (Build processors) before.says project (verdict status)
-    answers_refused = λ told. talked_over talks processors (units_of project) table MakesHere _ (is told) makes
-        (λ m. subst (λ o. OrFree (verdict_of (outcome_of before.says (read_with processors o))) (verdict status)) (sym (is told)) m.comes)
+    pub answers_refused : Answers tells talks (Build options) before.says project (verdict status)
+    answers_refused = λ told. talked_over talks whole read MakesHere _ (is told) makes
+        (λ m. subst (λ o. OrFree (verdict_of (outcome_of before.says o)) (verdict status)) (sym (is told)) m.comes)
 
-    pub shown_refused : EndsEarly is_children (verdict status) → Told tells (Told talks (ShowsOver (read_of processors project) before after (verdict status)))
-    shown_refused early = λ told said. shown_over processors (units_of project) table before after (verdict status) (is told)
-        (shows_early (ShowsWhole processors (run_of before.says (plan_by processors) table) before after) (after ≡ before) (verdict status) early (λ free. (made_of talks processors MakesHere makes said).shown (ap not free)))
-
-    pub more_refused : Told talks (TellsMore (Build processors) before after)
-    more_refused = λ said. (made_of talks processors MakesHere makes said).more
+    pub shown_refused : EndsEarly is_children (verdict status) → Told tells (Told talks (ShowsOver whole before after (verdict status)))
+    shown_refused early = λ told said. shown_over whole read before after (verdict status) (is told)
+        (shows_early (ShowsWhole processors (run_of before.says read.plan read.table) before after) (after ≡ before) (verdict status) early (λ free. (made_of talks processors MakesHere makes said).shown (ap not free)))
+        (made_of talks processors MakesHere makes said).fronts
 
   -- a run that was finished
   module _ (taken : List ℕ) (finished : Finished) (numbered : AreNumbered taken finished.files) (makes : Talked talks processors (MakesAs (Ok finished))) where
@@ -278,7 +265,7 @@ module _ (tells talks : Bool) (processors : List Try) (project : Files) (table :
     MadeHere = MakesAs (Ok finished)
 
     abbrev names_here : List (List ℕ)
-    names_here = names_in (plan_by processors)
+    names_here = outcome.names_in read.plan
 
     abbrev summary_here : Summary
     summary_here = finished_summary names_here finished
@@ -300,12 +287,12 @@ module _ (tells talks : Bool) (processors : List Try) (project : Files) (table :
     files_are m = sym (from_entries-entries (files_among m.comes.made)) ∙ ap (λ es. fin.from_entries es) (sym m.comes.has.files ∙ numbered.entries) ∙ from_entries-entries numbered.published
 
     -- the clean build's outcome
-    outcome_is_here : tells ≡ true → MadeHere → outcome_here ≡ clean before.says processors project
-    outcome_is_here told m = sym (ap (λ o. outcome_of before.says (read_with processors o)) (is told) ∙ ap (outcome_of_run (plan_by processors)) m.comes.is
+    outcome_is_here : tells ≡ true → MadeHere → outcome_here ≡ clean before.says options project
+    outcome_is_here told m = sym (ap (outcome_of before.says) (is told) ∙ ap (outcome_of_run read.plan) m.comes.is
         ∙ ap (λ s. outcome.finished s (files_among m.comes.made)) (summed m) ∙ ap (λ files. outcome.finished summary_here files) (files_are m))
 
-    pub outcome_told : ToldOf tells talks processors project (outcome_here ≡ clean before.says processors project)
-    outcome_told = λ told. talked_over talks processors (units_of project) table MadeHere _ (is told) makes (outcome_is_here told)
+    pub outcome_told : ToldOf tells talks options project (outcome_here ≡ clean before.says options project)
+    outcome_told = λ told. talked_over talks whole read MadeHere _ (is told) makes (outcome_is_here told)
 
     -- errors were printed, or none was
     some_errors : (finished.errors == 0) ≡ false → outcome_here ≡ outcome.Errors summary_here
@@ -329,13 +316,14 @@ module _ (tells talks : Bool) (processors : List Try) (project : Files) (table :
 
     module _ (v : Verdict) (answer : OrFree (concluded finished) v) where
       -- the verdict is that of the clean build
-      pub answers_finished : Answers tells talks (Build processors) before.says project v
-      answers_finished = λ told. talked_over talks processors (units_of project) table MadeHere _ (is told) makes
+      pub answers_finished : Answers tells talks (Build options) before.says project v
+      answers_finished = λ told. talked_over talks whole read MadeHere _ (is told) makes
           (λ m. subst (λ o. OrFree (verdict_of o) v) (outcome_is_here told m) (subst (λ w. OrFree w v) verdict_here answer))
 
-      pub shown_finished : Told tells (Told talks (ShowsOver (read_of processors project) before after v))
-      shown_finished = λ told said. shown_over processors (units_of project) table before after v (is told)
-          (shows_whole (ShowsWhole processors (run_of before.says (plan_by processors) table) before after) (after ≡ before) v ((made_of talks processors MadeHere makes said).shown refl))
+      pub shown_finished : Told tells (Told talks (ShowsOver whole before after v))
+      shown_finished = λ told said. shown_over whole read before after v (is told)
+          (shows_whole (ShowsWhole processors (run_of before.says read.plan read.table) before after) (after ≡ before) v ((made_of talks processors MadeHere makes said).shown refl))
+          (made_of talks processors MadeHere makes said).fronts
 
       module _ (old new : Files) (are : Told tells (AreTaken old taken)) (same : Told tells (old ≡ project)) where
         published_here : tells ≡ true → (v ≡ Done → Places (map numbered_of finished.files) (record_form (map entry_of finished.files)) old new) → v ≡ Done → PublishesOutcome outcome_here old new
@@ -344,8 +332,8 @@ module _ (tells talks : Bool) (processors : List Try) (project : Files) (table :
             (λ some. absurd (let e : Done ≡ Errors finished.errors = sym done ∙ answer (ap is_free done) ∙ ap (λ b. cond b Done (Errors finished.errors)) some in cc))
 
         -- what a finished build published is the clean build's
-        pub publishes_finished : Told tells (v ≡ Done → Places (map numbered_of finished.files) (record_form (map entry_of finished.files)) old new) → PublishesClean tells talks (Build processors) before.says project new v
-        publishes_finished placed = λ told. talked_over talks processors (units_of project) table MadeHere _ (is told) makes
+        pub publishes_finished : Told tells (v ≡ Done → Places (map numbered_of finished.files) (record_form (map entry_of finished.files)) old new) → PublishesClean tells talks (Build options) before.says project new v
+        publishes_finished placed = λ told. talked_over talks whole read MadeHere _ (is told) makes
             (λ m done. subst (λ o. PublishesOutcome o project new) (outcome_is_here told m) (subst (λ t. PublishesOutcome outcome_here t new) (same told) (published_here told (placed told) done)))
 
         stores_here : (text : List ℕ) → tells ≡ true → (fails is_tree v ≡ true → finished.errors ≡ 0) → GainsFirst v text (map numbered_of finished.files) old new → StoresFirst outcome_here v text project new
@@ -355,7 +343,7 @@ module _ (tells talks : Bool) (processors : List Try) (project : Files) (table :
         -- what was written is the report of the outcome
         pub reports_finished : (rose : Type 0) (written written' : List ℕ) → (fails is_tree v ≡ true → finished.errors ≡ 0)
             → Adds (λ text. IsFront ⊥ (concluding_report names_here finished) v text × Told tells (GainsFirst v text (map numbered_of finished.files) old new)) written written'
-            → Adds (Reports tells talks (Build processors) before.says project new v rose) written written'
+            → Adds (Reports tells talks (Build options) before.says project new v rose) written written'
         reports_finished rose written written' none (text, (front, gains), added) = (
           text,
           record {
@@ -366,6 +354,3 @@ module _ (tells talks : Bool) (processors : List Try) (project : Files) (table :
           },
           added,
         )
-
-    pub more_finished : Told talks (TellsMore (Build processors) before after)
-    more_finished = λ said. (made_of talks processors MadeHere makes said).more

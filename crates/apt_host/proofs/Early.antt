@@ -5,7 +5,7 @@ use Rattle.tree_store.specs.declared.fault.StoreFault.{StoreFault}
 use Rattle.tree_store.specs.declared.fault.StoreFault.TheVariants as store
 use Rattle.round_engine.specs.Refusals.{BadWords, Object, Tree, Sink, Children}
 use Rattle.apt_host.specs.Verdicts.{Verdict, Done, Errors, Refused, Failed, Memory, verdict, is_finished, has_run, is_tree, is_sink, named_in, fails}
-use Rattle.apt_host.specs.Endings.{of_store, EndsEarly}
+use Rattle.apt_host.specs.Endings.{of_store, EndsEarly, IsConcluded}
 
 module _ (is : Object → Bool) where
   pub not_done_early : (v : Verdict) → EndsEarly is v → v ≢ Done
@@ -47,3 +47,13 @@ store_early store.Memory = tt
 pub store_unnamed : (fault : StoreFault) → named_in (verdict (of_store fault)) ≡ None
 store_unnamed store.Failed = refl
 store_unnamed store.Memory = refl
+
+-- what comes behind a run names no processor
+pub unnamed_concluded : (v : Verdict) → IsConcluded v → named_in v ≡ None
+unnamed_concluded Done concluded = refl
+unnamed_concluded (Errors count) concluded = refl
+unnamed_concluded (Refused refusal) concluded = absurd concluded
+unnamed_concluded (Failed Tree) concluded = refl
+unnamed_concluded (Failed Sink) concluded = refl
+unnamed_concluded (Failed (Children processor)) concluded = absurd cc
+unnamed_concluded Memory concluded = refl

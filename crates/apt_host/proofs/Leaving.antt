@@ -1,15 +1,15 @@
--- What a build leaves in the tree, and whom its refusal names.
-use Rattle.std.proofs.Common.{◌≡◌, ◌≢◌, List, map, None, IfSome, Contains, Result, Ok, Err, refl, sym, ap, ◌∙◌, subst}
+-- What a build leaves in the tree, what its children were shown, and what is due, also where the line of a refusal wants memory.
+use Rattle.std.proofs.Common.{◌≡◌, ◌≢◌, None, Result, Ok, Err, inr, refl, sym, ap, ◌∙◌, subst}
 use Rattle.apt_outside.specs.Files.{Files}
-use Rattle.apt_outside.specs.Child.{Try, State}
+use Rattle.apt_outside.specs.Child.{State}
 use Rattle.tree_store.specs.Output.{StoresStand}
 use Rattle.tree_store.specs.Storing.{AddsToStore}
-use Rattle.round_engine.specs.Refusals.{Refusal, BadWords, UnbuiltForm, UnbuiltTalk, TooManyQuestions, ClaimBroken, GeneratedDuplicate, TooManyRounds, TooLarge, Tree, Sink, Children}
+use Rattle.round_engine.specs.Refusals.{Refusal, BadWords, BadConfig, UnknownProcessor, UnbuiltForm, UnbuiltTalk, TooManyQuestions, ClaimBroken, GeneratedDuplicate, TooManyRounds, TooLarge, Tree, Sink, Children}
 use Rattle.apt_host.specs.Words.{Request, Build, Bad}
-use Rattle.apt_host.specs.Verdicts.{Verdict, Done, Errors, Refused, Failed, Memory, OrFree, is_output, named_in}
+use Rattle.apt_host.specs.Verdicts.{Verdict, Done, Errors, Refused, Failed, Memory, OrMemory, named_in}
 use Rattle.apt_host.specs.Endings.{IsConcluded}
 use Rattle.apt_host.specs.Project.{Read, read_of}
-use Rattle.apt_host.specs.Promises.{Leaves, NamesChild, Finishes, Starts, ShowsOver, ShowsRun, IsDue}
+use Rattle.apt_host.specs.Promises.{Leaves, Finishes, ShowsOver, ShowsRun, IsDue}
 use Rattle.apt_host.proofs.Writing.{memory_or_not}
 
 -- ---- the tree
@@ -43,23 +43,25 @@ stands_by v old new ne leaves stand = (leaves_memory v old new ne leaves).stand 
 pub not_done : (before after : Verdict) → Finishes before after → after ≡ Memory → before ≢ Done
 not_done before after finishes memory done = let e : Memory ≡ Done = sym memory ∙ (finishes.done (ap Rattle.apt_host.specs.Verdicts.is_finished done) ∙ done) in cc
 
+-- a refusal leaves the same
+pub leaves_finish : (v w : Verdict) (old new : Files) → Finishes v w → Leaves v old new → Leaves w old new
+leaves_finish v w old new finishes leaves = memory_or_not w (Leaves w old new)
+    (λ memory. subst (λ u. Leaves u old new) (sym memory) (leaves_memory v old new (not_done v w finishes memory) leaves))
+    (λ ne. subst (λ u. Leaves u old new) (sym (finishes.same ne)) leaves)
+
+-- want of memory stays so
+pub finishes_memory : (expected w : Verdict) → Finishes Memory w → OrMemory expected w
+finishes_memory expected w finishes = memory_or_not w (OrMemory expected w) (λ memory. inr memory) (λ ne. absurd (ne (finishes.same ne)))
+
 -- ---- the children
 
 -- a refusal whose line wants memory
-starts_memory : (request : Request) (v : Verdict) (old new : State) → Starts request v old new → Starts request Memory old new
-starts_memory request v old new starts = record { finished = λ run. absurd cc; least = starts.least; most = starts.most }
-
-pub starts_finish : (request : Request) (v w : Verdict) (old new : State) → Finishes v w → Starts request v old new → Starts request w old new
-starts_finish request v w old new finishes starts = memory_or_not w (Starts request w old new)
-    (λ memory. subst (λ u. Starts request u old new) (sym memory) (starts_memory request v old new starts))
-    (λ ne. subst (λ u. Starts request u old new) (sym (finishes.same ne)) starts)
-
 shown_memory : (read : Result Read Refusal) (v : Verdict) (old new : State) → ShowsOver read old new v → ShowsOver read old new Memory
 shown_memory (Err refusal) v old new shown = shown
-shown_memory (Ok read) v old new shown = tt
+shown_memory (Ok read) v old new shown = record { by = tt; fronts = shown.fronts }
 
 shows_run_memory : (request : Request) (project : Files) (v : Verdict) (old new : State) → ShowsRun request project old new v → ShowsRun request project old new Memory
-shows_run_memory (Build processors) project v old new shown = shown_memory (read_of processors project) v old new shown
+shows_run_memory (Build options) project v old new shown = shown_memory (read_of options project) v old new shown
 shows_run_memory (Bad at) project v old new shown = tt
 
 pub shows_finish : (request : Request) (project : Files) (v w : Verdict) (old new : State) → Finishes v w → ShowsRun request project old new v → ShowsRun request project old new w
@@ -67,37 +69,14 @@ shows_finish request project v w old new finishes shown = memory_or_not w (Shows
     (λ memory. subst (λ u. ShowsRun request project old new u) (sym memory) (shows_run_memory request project v old new shown))
     (λ ne. subst (λ u. ShowsRun request project old new u) (sym (finishes.same ne)) shown)
 
--- ---- the name
-
--- no processor is named for want of memory
-pub names_memory : (request : Request) → NamesChild request Memory
-names_memory (Build processors) = tt
-names_memory (Bad at) = refl
-
--- a verdict that names none names none but these
-pub names_none : (processors : List Try) (v : Verdict) → named_in v ≡ None → NamesChild (Build processors) v
-names_none processors v none = subst (λ name. IfSome name (Contains (map (λ (processor : Try). processor.0) processors))) (sym none) tt
-
-pub names_concluded : (processors : List Try) (v : Verdict) → IsConcluded v → NamesChild (Build processors) v
-names_concluded processors Done concluded = tt
-names_concluded processors (Errors count) concluded = tt
-names_concluded processors (Refused refusal) concluded = absurd concluded
-names_concluded processors (Failed Tree) concluded = tt
-names_concluded processors (Failed Sink) concluded = tt
-names_concluded processors (Failed (Children processor)) concluded = absurd cc
-names_concluded processors Memory concluded = tt
-
-pub names_finish : (request : Request) (v w : Verdict) → Finishes v w → NamesChild request v → NamesChild request w
-names_finish request v w finishes named = memory_or_not w (NamesChild request w)
-    (λ memory. subst (λ u. NamesChild request u) (sym memory) (names_memory request))
-    (λ ne. subst (λ u. NamesChild request u) (sym (finishes.same ne)) named)
-
 -- ---- what is due
 
 pub due_unnamed : (v : Verdict) → named_in v ≡ None → IsDue v
 due_unnamed Done none = tt
 due_unnamed (Errors count) none = tt
 due_unnamed (Refused (BadWords at)) none = tt
+due_unnamed (Refused (BadConfig path place)) none = tt
+due_unnamed (Refused (UnknownProcessor name)) none = tt
 due_unnamed (Refused (UnbuiltForm path)) none = tt
 due_unnamed (Refused (UnbuiltTalk processor)) none = tt
 due_unnamed (Refused (TooManyQuestions processor most)) none = absurd cc

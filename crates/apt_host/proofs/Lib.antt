@@ -1,6 +1,12 @@
+pub mod Refusing
 pub mod Units
+pub mod ProjectLemmas
 pub mod Early
 pub mod Writing
 pub mod Leaving
 pub mod MakingLemmas
+pub mod Settling
+pub mod Counting
+pub mod Using
 pub mod Building
+pub mod UnreadWords

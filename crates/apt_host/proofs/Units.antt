@@ -1,10 +1,8 @@
 -- How sources are entered one by one.
-use Rattle.std.proofs.Common.{◌≡◌, ℕ, suc, ◌+◌, ◌<◌, ◌≤◌, Bool, true, false, cond, List, [], ◌∷◌, ◌++◌, length, Result, Ok, Err, inl, inr, refl, sym, ap, ◌∙◌, subst, arith}
+use Rattle.std.proofs.Common.{◌≡◌, ℕ, suc, ◌+◌, ◌<◌, ◌≤◌, Bool, true, false, cond, List, [], ◌∷◌, ◌++◌, length, Result, Ok, Err, refl, sym, ap, ◌∙◌, subst, arith}
 use Rattle.std.specs.Prelude.{nat_lt}
 use Rattle.std.proofs.lemmas.Bool.{lt-ltb, le-ltb}
-use Rattle.apt_outside.specs.Files.{Files}
 use Rattle.element_table.specs.TypeTable.{TypeTable, empty_table}
-use Rattle.tree_store.specs.Sources.{sources_of}
 use Rattle.tree_store.specs.declared.sources.RawSource.{RawSource}
 use Rattle.round_engine.specs.declared.source_fault.SourceFault.{SourceFault}
 use Rattle.round_engine.specs.declared.source_fault.SourceFault.TheVariants as code
@@ -12,9 +10,10 @@ use Rattle.round_engine.specs.Refusals.{Refusal, UnbuiltForm, past}
 use Rattle.round_engine.specs.Units.{Obstacle, Unbuilt, Duplicate, TooLarge, Entered, enter_source, and_then}
 use Rattle.round_engine.specs.Entering.{Obstructs}
 use Rattle.apt_host.specs.declared.status.Status.{Status}
-use Rattle.apt_host.specs.Verdicts.{Verdict, Done, Errors, Refused, Failed, Memory, OrMemory}
-use Rattle.apt_host.specs.Project.{max_source, table_after, enter_next, enter_all, units_of, StopsAt}
+use Rattle.apt_host.specs.Verdicts.{Verdict, OrMemory}
+use Rattle.apt_host.specs.Project.{table_after, enter_next, enter_all, StopsAt}
 use Rattle.apt_host.specs.Entering.{of_source, RefusesAs, EntersAll, StopsLeast}
+use Rattle.apt_host.proofs.Refusing.{refuses_or, refuses_then}
 
 -- ---- one source
 
@@ -37,24 +36,16 @@ module _ (table : TypeTable) (count : ℕ) (source : RawSource) where
   refused_by outcome (code.TooLarge what) is = ap (table_after source.path) is
   refused_by outcome code.Memory is = tt
 
-  or_memory : (outcome : Result TypeTable Refusal) (due v : Verdict) → RefusesAs outcome due → OrMemory due v → RefusesAs outcome v
-  or_memory outcome due v is (inl same) = subst (RefusesAs outcome) (sym same) is
-  or_memory outcome due v is (inr memory) = subst (RefusesAs outcome) (sym memory) tt
-
   pub refused : (fault : SourceFault) (v : Verdict) → count < 1000 → Obstructs (enter_source table source.bytes) fault → OrMemory (of_source source.path fault) v → RefusesAs (enter_next table count source) v
-  refused fault v below is due = subst (λ o. RefusesAs o v) (sym (room below)) (or_memory here (of_source source.path fault) v (refused_by (enter_source table source.bytes) fault is) due)
+  refused fault v below is due = subst (λ o. RefusesAs o v) (sym (room below)) (refuses_or here (of_source source.path fault) v (refused_by (enter_source table source.bytes) fault is) due)
 
   pub full_as : (v : Verdict) → 1000 ≤ count → OrMemory (of_source source.path code.Unbuilt) v → RefusesAs (enter_next table count source) v
-  full_as v past due = subst (λ o. RefusesAs o v) (sym (full past)) (or_memory (Err (UnbuiltForm source.path)) (of_source source.path code.Unbuilt) v refl due)
+  full_as v past due = subst (λ o. RefusesAs o v) (sym (full past)) (refuses_or {A = TypeTable} (Err (UnbuiltForm source.path)) (of_source source.path code.Unbuilt) v refl due)
 
 -- ---- more sources
 
-refuses_then : (outcome : Result TypeTable Refusal) (v : Verdict) (next : TypeTable → Result TypeTable Refusal) → RefusesAs outcome v → RefusesAs (and_then outcome next) v
-refuses_then outcome (Refused refusal) next is = ap (λ o. and_then o next) is
-refuses_then outcome (Failed object) next is = is
-refuses_then outcome Memory next is = tt
-refuses_then outcome Done next is = absurd is
-refuses_then outcome (Errors count) next is = absurd is
+pub enters_then : (outcome : Result TypeTable Refusal) (v : Verdict) (next : TypeTable → Result TypeTable Refusal) → RefusesAs outcome v → RefusesAs (and_then outcome next) v
+enters_then outcome v next is = refuses_then outcome v next is
 
 -- ---- the source at which entering stops
 
@@ -134,7 +125,7 @@ module _ (refusal : Refusal) where
         refused = refused;
       }
 
--- a project that is refused is so by the least path
-pub stops_least : (project : Files) (result : Result TypeTable Status) → EntersAll (units_of project) result → StopsLeast project result
-stops_least project (Ok table) enters = tt
-stops_least project (Err status) enters = λ refusal is. stops_at refusal (sources_of max_source project) (subst (RefusesAs (units_of project)) is enters)
+-- sources that are refused are so by the least path
+pub stops_least : (sources : List RawSource) (result : Result TypeTable Status) → EntersAll (enter_all empty_table 0 sources) result → StopsLeast sources result
+stops_least sources (Ok table) enters = tt
+stops_least sources (Err status) enters = λ refusal is. stops_at refusal sources (subst (RefusesAs (enter_all empty_table 0 sources)) is enters)

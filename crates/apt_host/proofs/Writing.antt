@@ -110,12 +110,12 @@ module _ (tells talks : Bool) (request : Request) (says : Says) (project project
   }
 
   outcome_for : Request → Outcome
-  outcome_for (Build processors) = clean says processors project
+  outcome_for (Build options) = clean says options project
   outcome_for (Bad at) = outcome.Refused (BadWords at)
 
   own_outcome : (r : Request) → IsOutcome tells talks r says project (outcome_for r)
   unfolding outcome_for
-  own_outcome (Build processors) = λ told. talked talks (read_of processors project) (clean says processors project ≡ clean says processors project) refl
+  own_outcome (Build options) = λ told. talked talks (read_of options project) (clean says options project ≡ clean says options project) refl
   own_outcome (Bad at) = refl
 
   -- nothing was written yet

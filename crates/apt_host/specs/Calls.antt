@@ -12,15 +12,11 @@ use Rattle.apt_host.specs.Promises as promise
 
 -- ---- what is started
 
--- where a source of the project is refused, no child is started
-abbrev pub NotStarted : {T C : Type 0} → tree.Ghosts T → children.Ghosts C → List (String Global) → T → C → C → Type 0
-NotStarted t c words tree old new = Told t.tells (promise.StartsUnread (asked words) (t.files tree) (c.state old) (c.state new))
+-- what is done with the children is done for the processors that were read
+abbrev pub Uses : {T C : Type 0} → tree.Ghosts T → children.Ghosts C → List (String Global) → T → C → C → Status → Type 0
+Uses t c words tree old new result = promise.Uses t.tells c.tells (asked words) (t.files tree) (verdict result) (c.state old) (c.state new)
 
--- nor is a start of one tried
-abbrev pub NotTried : {T C : Type 0} → tree.Ghosts T → children.Ghosts C → List (String Global) → T → C → C → Type 0
-NotTried t c words tree old new = Told t.tells (Told c.tells (promise.TriesUnread (asked words) (t.files tree) (c.state old) (c.state new)))
-
--- the child is shown exactly the run
+-- the children are shown exactly the run
 abbrev pub Shows : {T C : Type 0} → tree.Ghosts T → children.Ghosts C → List (String Global) → T → C → C → Status → Type 0
 Shows t c words tree old new result = Told t.tells (Told c.tells (promise.ShowsRun (asked words) (t.files tree) (c.state old) (c.state new) (verdict result)))
 
@@ -59,8 +55,14 @@ IsReport t c w words tree tree' children old new result =
 
 -- it was added
 abbrev pub Reports : {T C W : Type 0} → tree.Ghosts T → children.Ghosts C → sink.Ghosts W → List (String Global) → T → T → C → W → W → Status → Type 0
-Reports t c w words tree tree' children old new result = Told w.tells (promise.Adds (IsReport t c w words tree tree' children old new result) (w.written old) (w.written new))
+Reports t c w words tree tree' children old new result =
+    Told w.tells (promise.Adds (IsReport t c w words tree tree' children old new result) (w.written old) (w.written new))
 
 -- it was added, and then the line
 abbrev pub Writes : {T C W : Type 0} → tree.Ghosts T → children.Ghosts C → sink.Ghosts W → List (String Global) → T → T → C → W → W → Status → Type 0
-Writes t c w words tree tree' children old new result = Told w.tells (promise.Writes (IsReport t c w words tree tree' children old new result) (IsLine w old new result) (w.written old) (w.written new))
+Writes t c w words tree tree' children old new result =
+    Told w.tells (promise.Writes (IsReport t c w words tree tree' children old new result) (IsLine w old new result) (w.written old) (w.written new))
+
+-- the report begins with the number of the children that were started
+abbrev pub Counts : {C W : Type 0} → children.Ghosts C → sink.Ghosts W → C → C → W → W → Status → Type 0
+Counts c w children children' old new result = Told w.tells (promise.Counts (verdict result) (c.state children) (c.state children') (w.written old) (w.written new))

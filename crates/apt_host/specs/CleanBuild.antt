@@ -6,6 +6,7 @@ use Rattle.round_engine.specs.declared.messages.Placed.{Placed}
 use Rattle.round_engine.specs.Refusals.{Refusal}
 use Rattle.round_engine.specs.Run.{Plan, Run, files_among, run_of}
 use Rattle.round_engine.specs.Clean.{is_error, is_warning, count_of}
+use Rattle.apt_host.specs.Words.{Options}
 use Rattle.apt_host.specs.Project.{Read, read_of}
 
 -- what a report says of a run, beside its files
@@ -59,5 +60,6 @@ abbrev pub outcome_of : Says → Result Read Refusal → Outcome
 outcome_of says (Err refusal) = Refused refusal
 outcome_of says (Ok read) = outcome_of_run read.plan (run_of says read.plan read.table)
 
-abbrev pub clean : Says → List Try → Files → Outcome
-clean says processors project = outcome_of says (read_of processors project)
+-- with these options of the words
+abbrev pub clean : Says → Options → Files → Outcome
+clean says options project = outcome_of says (read_of options project)

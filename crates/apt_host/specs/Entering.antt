@@ -1,30 +1,81 @@
--- What entering sources gives.
-use Rattle.std.specs.Prelude.{◌≡◌, ℕ, true, List, Result, Ok, Err, IfErr}
-use Rattle.apt_outside.specs.Files.{Files}
+-- What reading a project gives: its configuration, and its units, which are entered one after another.
+use Rattle.std.specs.Prelude.{◌≡◌, ℕ, not, true, List, Result, Ok, Err, IfErr}
+use Rattle.apt_base.specs.declared.kinds.What.TheVariants as what
 use Rattle.element_table.specs.TypeTable.{TypeTable}
-use Rattle.tree_store.specs.Sources.{sources_of}
+use Rattle.tree_store.specs.declared.fault.ConfigReadFault.{ConfigReadFault}
+use Rattle.tree_store.specs.declared.fault.ConfigReadFault.TheVariants as reads
+use Rattle.tree_store.specs.declared.sources.RawSource.{RawSource}
+use Rattle.tree_store.specs.Config.{AreLists, IsShort}
+use Rattle.project_config.specs.declared.fault.ConfigFault.{ConfigFault}
+use Rattle.project_config.specs.declared.fault.ConfigFault.TheVariants as wrong
+use Rattle.project_config.specs.Reading.{has_order}
 use Rattle.round_engine.specs.declared.source_fault.SourceFault.{SourceFault}
 use Rattle.round_engine.specs.declared.source_fault.SourceFault.TheVariants as code
 use Rattle.round_engine.specs.Refusals as stop
+use Rattle.round_engine.specs.Refusals.{Tree, past}
 use Rattle.round_engine.specs.Units.{Unbuilt, Duplicate, TooLarge}
+use Rattle.apt_host.specs.declared.configuration.RawConfiguration.{RawConfiguration}
 use Rattle.apt_host.specs.declared.status.Status.{Status}
-use Rattle.apt_host.specs.Project.{max_source, refusal_at, StopsAt}
+use Rattle.apt_host.specs.Configuration.{Configuration, refusal_by}
+use Rattle.apt_host.specs.Project.{refusal_at, StopsAt}
 use Rattle.apt_host.specs.Verdicts.{Verdict, Done, Errors, Refused, Failed, Memory, verdict, is_tree}
 
--- what stands against a source at this path, as the end of the call
+-- ---- faults, as the end of the call
+
+-- a file of the configuration that was not read
+abbrev pub of_read : ConfigReadFault → Verdict
+of_read reads.Failed = Failed Tree
+of_read (reads.TooLarge file) = Refused (past what.ConfigBytes)
+of_read reads.Memory = Memory
+
+-- what is wrong with the configuration
+abbrev pub of_config : ConfigFault → Verdict
+of_config wrong.Json = Refused (refusal_by wrong.Json)
+of_config (wrong.Item place) = Refused (refusal_by (wrong.Item place))
+of_config (wrong.ServiceLine line) = Refused (refusal_by (wrong.ServiceLine line))
+of_config (wrong.KindLine line) = Refused (refusal_by (wrong.KindLine line))
+of_config wrong.TooManyProcessors = Refused (refusal_by wrong.TooManyProcessors)
+of_config (wrong.UnknownProcessor name) = Refused (refusal_by (wrong.UnknownProcessor name))
+of_config wrong.Memory = Memory
+
+-- what stands against a source at this path
 abbrev pub of_source : List ℕ → SourceFault → Verdict
 of_source path code.Unbuilt = Refused (refusal_at path Unbuilt)
 of_source path (code.Duplicate name) = Refused (refusal_at path (Duplicate name))
 of_source path (code.TooLarge what) = Refused (refusal_at path (TooLarge what))
 of_source path code.Memory = Memory
 
--- a project is refused as its entering has it, unless its tree failed or memory was wanted
-abbrev pub RefusesAs : Result TypeTable stop.Refusal → Verdict → Type 0
-RefusesAs entered (Refused refusal) = entered ≡ Err refusal
-RefusesAs entered (Failed object) = is_tree object ≡ true
-RefusesAs entered Memory = Unit {0}
-RefusesAs entered Done = ⊥
-RefusesAs entered (Errors count) = ⊥
+-- ---- what came of a part
+
+-- it is refused as the definition has it, unless the tree failed or memory was wanted
+abbrev pub RefusesAs : {A : Type 0} → Result A stop.Refusal → Verdict → Type 0
+RefusesAs due (Refused refusal) = due ≡ Err refusal
+RefusesAs due (Failed object) = is_tree object ≡ true
+RefusesAs due Memory = Unit {0}
+RefusesAs due Done = ⊥
+RefusesAs due (Errors count) = ⊥
+
+-- it came to what the definition has, where means says what a value of the code is there, or it is refused
+abbrev pub ComesAs : {A T : Type 0} → Result A stop.Refusal → (T → A) → Result T Status → Type 0
+ComesAs due means (Ok value) = due ≡ Ok (means value)
+ComesAs due means (Err status) = RefusesAs due (verdict status)
+
+-- it came to a value of the definition itself
+abbrev pub ComesTo : {A : Type 0} → Result A stop.Refusal → Result A Status → Type 0
+ComesTo due (Ok value) = due ≡ Ok value
+ComesTo due (Err status) = RefusesAs due (verdict status)
+
+-- ---- the configuration
+
+abbrev pub shown_configuration : RawConfiguration → Configuration
+shown_configuration raw = record { config = raw.config; lists = raw.lists }
+
+-- whatever the tree tells, each file that was read is within its limit, and that of services was read only where it is asked for
+pub record IsWithin (raw : RawConfiguration) : Type 0 where
+  pub config : IsShort raw.config
+  pub lists : AreLists (not (has_order raw.config)) raw.lists
+
+-- ---- the units
 
 -- a source was entered, or it is refused
 abbrev pub Enters : Result TypeTable stop.Refusal → TypeTable → Result Unit Status → Type 0
@@ -37,5 +88,5 @@ EntersAll entered (Ok table) = entered ≡ Ok table
 EntersAll entered (Err status) = RefusesAs entered (verdict status)
 
 -- a source is refused by the least path of one that can't be entered
-abbrev pub StopsLeast : Files → Result TypeTable Status → Type 0
-StopsLeast project result = IfErr result (λ status. (refusal : stop.Refusal) → verdict status ≡ Refused refusal → StopsAt (sources_of max_source project) refusal)
+abbrev pub StopsLeast : List RawSource → Result TypeTable Status → Type 0
+StopsLeast sources result = IfErr result (λ status. (refusal : stop.Refusal) → verdict status ≡ Refused refusal → StopsAt sources refusal)

@@ -1,6 +1,7 @@
 pub mod Words
-pub mod Shown
+pub mod Configuration
 pub mod Project
+pub mod Shown
 pub mod CleanBuild
 pub mod Report
 pub mod Verdicts

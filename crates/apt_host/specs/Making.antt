@@ -3,8 +3,8 @@ use Rattle.std.specs.Prelude.{◌≡◌, ◌==◌, ℕ, Bool, true, not, List, l
 use Rattle.apt_outside.specs.Files.{Files}
 use Rattle.apt_outside.specs.Child.{Says, State}
 use Rattle.round_engine.specs.declared.running.Finished.{Finished}
-use Rattle.round_engine.specs.Run.{run_of}
-use Rattle.round_engine.specs.Shown.{TellsMore}
+use Rattle.round_engine.specs.Run.{run_of, frames_of}
+use Rattle.round_engine.specs.Shown.{TellsMore, ShowsNoMore}
 use Rattle.round_engine.specs.Clean.{FinishesAs, ShowsWhole}
 use Rattle.apt_host.specs.declared.status.Status.{Status}
 use Rattle.apt_host.specs.Project.{Read}
@@ -28,6 +28,8 @@ pub record Makes (read : Read) (old new : State) (result : Result Finished Statu
   pub comes : MakesOf old.says read result
   pub more : TellsMore (length read.plan.processors) old new
   pub shown : is_made result ≡ true → ShowsWhole read.plan.processors (run_of old.says read.plan read.table) old new
+  -- also after a fault of the children or want of memory
+  pub fronts : ShowsNoMore read.plan.processors (frames_of (run_of old.says read.plan read.table)) old new
 
 -- ---- what comes after the run
 

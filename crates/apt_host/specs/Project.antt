@@ -1,14 +1,14 @@
--- The type table of a project, whose sources are entered in order of path, and what its run is told.
+-- A project that is read: what its run is told, and its type table, whose sources are entered in order of path.
 use Rattle.std.specs.Prelude.{◌≡◌, ◌++◌, length, ℕ, ◌+◌, nat_lt, List, [], ◌∷◌, Result, Ok, Err, if◌then◌else◌}
 use Rattle.apt_outside.specs.Files.{Files}
-use Rattle.apt_outside.specs.Child.{Try}
 use Rattle.element_table.specs.TypeTable.{TypeTable, empty_table}
 use Rattle.tree_store.specs.declared.sources.RawSource.{RawSource}
 use Rattle.tree_store.specs.Sources.{sources_of}
 use Rattle.round_engine.specs.Refusals.{Refusal, UnbuiltForm, past}
 use Rattle.round_engine.specs.Run.{Plan}
-use Rattle.round_engine.specs.Clean.{level}
 use Rattle.round_engine.specs.Units.{Obstacle, Unbuilt, Duplicate, TooLarge, Entered, enter_source, and_then}
+use Rattle.apt_host.specs.Words.{Options}
+use Rattle.apt_host.specs.Configuration.{plan_for}
 
 -- a source has at most this many bytes, and a project this many sources
 abbrev pub max_source : ℕ
@@ -47,15 +47,12 @@ pub record Read : Type 0 where
   pub plan : Plan
   pub table : TypeTable
 
--- so far the words of a call name the processors, and there are no options
-abbrev pub plan_by : List Try → Plan
-plan_by processors = record { level = level; options = []; processors = processors }
+abbrev pub read_with : Plan → Result TypeTable Refusal → Result Read Refusal
+read_with plan entered = and_then entered (λ table. Ok (record { plan = plan; table = table }))
 
-abbrev pub read_as : List Try → TypeTable → Read
-read_as processors table = record { plan = plan_by processors; table = table }
-
-abbrev pub read_of : List Try → Files → Result Read Refusal
-read_of processors project = and_then (units_of project) (λ table. Ok (read_as processors table))
+-- a project with these options of the words: its configuration is looked into before its sources
+abbrev pub read_of : Options → Files → Result Read Refusal
+read_of options project = and_then (plan_for options project) (λ plan. read_with plan (units_of project))
 
 -- Entering stops at the first source in order of path that is off the form, has a name that is too long, gives a name again or is
 -- past the thousandth: all before it were entered.

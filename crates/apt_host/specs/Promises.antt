@@ -1,5 +1,5 @@
 -- What `run` promises, by what its words ask for.
-use Rattle.std.specs.Prelude.{◌≡◌, ◌≢◌, ◌⊎◌, ℕ, ◌+◌, ◌≤◌, Bool, true, List, [], ◌++◌, map, length, take, Contains, None, IfSome, Result, Ok, Err}
+use Rattle.std.specs.Prelude.{◌≡◌, ◌≢◌, ◌⊎◌, ℕ, ◌+◌, ◌≤◌, Bool, true, List, [], ◌++◌, map, length, take, Contains, IfSome, Result, Ok, Err}
 use Rattle.std.specs.FinMap as fin
 use Rattle.apt_outside.specs.Count.{Told}
 use Rattle.apt_outside.specs.Files.{Files}
@@ -11,15 +11,14 @@ use Rattle.tree_store.specs.Storing.{Numbered, AreTaken, AddsToStore, ChangesAmo
 use Rattle.round_engine.specs.Numbering.{AreLeast}
 use Rattle.round_engine.specs.Refusals as stop
 use Rattle.round_engine.specs.Refusals.{Refusal, BadWords, Object, Tree, Sink, Children}
-use Rattle.round_engine.specs.Run.{run_of}
-use Rattle.round_engine.specs.Shown as shown
-use Rattle.round_engine.specs.Shown.{TriesInOrder}
+use Rattle.round_engine.specs.Run.{run_of, frames_of}
+use Rattle.round_engine.specs.Shown.{TriesInOrder, TellsMore, ShowsNoMore, IsDueStop}
 use Rattle.round_engine.specs.Clean.{Talked, ShowsWhole}
-use Rattle.apt_host.specs.Words.{Request, Build, Bad}
+use Rattle.apt_host.specs.Words.{Options, Request, Build, Bad}
 use Rattle.apt_host.specs.Project.{Read, read_of}
 use Rattle.apt_host.specs.CleanBuild.{Outcome, clean}
 use Rattle.apt_host.specs.CleanBuild as outcome
-use Rattle.apt_host.specs.Report.{report_text}
+use Rattle.apt_host.specs.Report.{mode_line, report_text}
 use Rattle.apt_host.specs.Listed.{GainsFirst}
 use Rattle.apt_host.specs.Verdicts.{Verdict, Done, Errors, Refused, Failed, Memory, OrFree, OrMemory, is_finished, has_run, named_in, verdict_of, refusal_of}
 
@@ -31,20 +30,20 @@ TalkedOf talks (Err refusal) P = P
 TalkedOf talks (Ok read) P = Talked talks read.plan.processors P
 
 -- a fact of a build over this project, where the tree tells what it holds and the children what they say
-abbrev pub ToldOf : Bool → Bool → List Try → Files → Type 0 → Type 0
-ToldOf tells talks processors project P = Told tells (TalkedOf talks (read_of processors project) P)
+abbrev pub ToldOf : Bool → Bool → Options → Files → Type 0 → Type 0
+ToldOf tells talks options project P = Told tells (TalkedOf talks (read_of options project) P)
 
 -- ---- the answer
 
 -- the answer to a request over a project is the clean build's, or that of words that no command has
 abbrev pub Answers : Bool → Bool → Request → Says → Files → Verdict → Type 0
-Answers tells talks (Build processors) says project v = ToldOf tells talks processors project (OrFree (verdict_of (clean says processors project)) v)
+Answers tells talks (Build options) says project v = ToldOf tells talks options project (OrFree (verdict_of (clean says options project)) v)
 Answers tells talks (Bad at) says project v = OrMemory (Refused (BadWords at)) v
 
 -- Words that no command has leave the tree and the children as they were. No build answers that its words are such.
 abbrev pub OffTable : {T C : Type 0} → Request → Verdict → T → T → C → C → Type 0
 OffTable (Bad at) v tree tree' children children' = (tree' ≡ tree) × (children' ≡ children)
-OffTable (Build processors) v tree tree' children children' = (at : ℕ) → v ≢ Refused (BadWords at)
+OffTable (Build options) v tree tree' children children' = (at : ℕ) → v ≢ Refused (BadWords at)
 
 -- ---- what is published
 
@@ -72,7 +71,7 @@ PublishesOutcome (outcome.Refused refusal) old new = ⊥
 
 -- a finished build published what the clean build gives
 abbrev pub PublishesClean : Bool → Bool → Request → Says → Files → Files → Verdict → Type 0
-PublishesClean tells talks (Build processors) says old new v = ToldOf tells talks processors old (v ≡ Done → PublishesOutcome (clean says processors old) old new)
+PublishesClean tells talks (Build options) says old new v = ToldOf tells talks options old (v ≡ Done → PublishesOutcome (clean says options old) old new)
 PublishesClean tells talks (Bad at) says old new v = v ≢ Done
 
 -- after any other answer the former output stands
@@ -131,7 +130,7 @@ IsLine v rose line = (line ≡ refusal_of v) ⊎ ((v ≡ Memory) × (line ≡ []
 
 -- the outcome whose report is written: the clean build's, or that of words that no command has
 abbrev pub IsOutcome : Bool → Bool → Request → Says → Files → Outcome → Type 0
-IsOutcome tells talks (Build processors) says project o = ToldOf tells talks processors project (o ≡ clean says processors project)
+IsOutcome tells talks (Build options) says project o = ToldOf tells talks options project (o ≡ clean says options project)
 IsOutcome tells talks (Bad at) says project o = o ≡ outcome.Refused (BadWords at)
 
 -- the store files of an outcome stand
@@ -163,6 +162,11 @@ pub record Writes (reports lines : List ℕ → Type 0) (old new : List ℕ) : T
   pub is_line : lines line
   pub added : new ≡ old ++ (text ++ line)
 
+-- the report of a finished build begins with the number of the children that were started, whatever the tree and the children tell
+abbrev pub Counts : Verdict → State → State → List ℕ → List ℕ → Type 0
+Counts v old new written written' =
+    is_finished v ≡ true → (started : ℕ) × (rest : List ℕ) × (new.starts ≡ old.starts + started) × (written' ≡ written ++ (mode_line started ++ rest))
+
 -- the refusal stays, but where its line wants memory
 pub record Finishes (before after : Verdict) : Type 0 where
   pub same : after ≢ Memory → after ≡ before
@@ -171,48 +175,41 @@ pub record Finishes (before after : Verdict) : Type 0 where
 
 -- ---- what children are started and shown
 
--- how many children a finished build starts, one for each processor: the number of its mode line
-abbrev pub started_of : Request → ℕ
-started_of (Build processors) = length processors
-started_of (Bad at) = 0
+-- the processors of a project that was read; one that is refused has none
+abbrev pub processors_in : Result Read Refusal → List Try
+processors_in (Ok read) = read.plan.processors
+processors_in (Err refusal) = []
 
-pub record Starts (request : Request) (v : Verdict) (old new : State) : Type 0 where
-  pub finished : has_run v ≡ true → new.starts ≡ old.starts + started_of request
+abbrev pub processors_of : Request → Files → List Try
+processors_of (Build options) project = processors_in (read_of options project)
+processors_of (Bad at) project = []
+
+-- these are the processors of a build, where the tree tells what it holds; words that no command has name none
+abbrev pub AreRead : Bool → Request → Files → List Try → Type 0
+AreRead tells (Build options) project processors = Told tells (processors ≡ processors_of (Build options) project)
+AreRead tells (Bad at) project processors = processors ≡ []
+
+-- Children are started for the processors that were read, which are those of the project where the tree tells what it holds: one for each where the run was finished. Their
+-- starts were tried in order, up to one of them, and no other. A refusal or a fault that names a processor names one of them, and nothing is told anew but of one new child for
+-- each at most. So nothing is started or tried for a project that is refused, and where the words name no command.
+pub record Uses (tells talks : Bool) (request : Request) (project : Files) (v : Verdict) (old new : State) : Type 0 where
+  pub processors : List Try
+  pub are : AreRead tells request project processors
+  pub finished : has_run v ≡ true → new.starts ≡ old.starts + length processors
   pub least : old.starts ≤ new.starts
-  pub most : new.starts ≤ old.starts + started_of request
-
--- the starts of the processors were tried in order, up to one of them, and no other
-abbrev pub Tries : Request → State → State → Type 0
-Tries (Build processors) old new = TriesInOrder processors old new
-Tries (Bad at) old new = new.tried ≡ old.tried
-
--- where a project is refused, no child is started
-abbrev pub StartsUnread : Request → Files → State → State → Type 0
-StartsUnread (Build processors) project old new = (refusal : Refusal) → read_of processors project ≡ Err refusal → new.starts ≡ old.starts
-StartsUnread (Bad at) project old new = new.starts ≡ old.starts
-
--- nor is a start of one tried
-abbrev pub TriesUnread : Request → Files → State → State → Type 0
-TriesUnread (Build processors) project old new = (refusal : Refusal) → read_of processors project ≡ Err refusal → new.tried ≡ old.tried
-TriesUnread (Bad at) project old new = new.tried ≡ old.tried
-
--- a refusal or a fault of the children that names a processor names one of these
-abbrev pub NamesChild : Request → Verdict → Type 0
-NamesChild (Build processors) v = IfSome (named_in v) (Contains (map (λ (processor : Try). processor.0) processors))
-NamesChild (Bad at) v = named_in v ≡ None
+  pub most : new.starts ≤ old.starts + length processors
+  pub few : new.starts ≤ old.starts + 64
+  pub named : IfSome (named_in v) (Contains (map (λ (processor : Try). processor.0) processors))
+  pub tried : Told talks (TriesInOrder processors old new)
+  pub more : Told talks (TellsMore (length processors) old new)
 
 -- whatever the children tell, a refusal by a limit has that of some roots, and one by a claim that was broken broke it
 abbrev pub IsDue : Verdict → Type 0
-IsDue (Refused refusal) = shown.IsDueStop (stop.Refused refusal)
+IsDue (Refused refusal) = IsDueStop (stop.Refused refusal)
 IsDue other = Unit {0}
 
--- nothing is told anew but of one child for each processor at most, of which nothing was told before
-abbrev pub TellsMore : Request → State → State → Type 0
-TellsMore (Build processors) old new = shown.TellsMore (length processors) old new
-TellsMore (Bad at) old new = AllKept old.known new.known
-
 -- By how a build ended, its children were shown the whole run, or none was started: a fault of the tree comes before the run or behind it, and one of the sink
--- behind it. Of a fault of the children, and of want of memory, nothing is said.
+-- behind it. After a fault of the children, or want of memory, `ShowsRead.fronts` says what there was of it.
 abbrev pub ShowsBy : Verdict → Type 0 → Type 0 → Type 0
 ShowsBy Done P Q = P
 ShowsBy (Errors count) P Q = P
@@ -224,10 +221,16 @@ ShowsBy Memory P Q = Unit {0}
 
 -- As many processors, the first in order, were started as the run has frames for, all of them where it finished. The child of each was not known before and was
 -- shown exactly its frames of the run: the first frame, the rounds in which it is asked with the names that it is offered, and the replies between them.
+pub record ShowsRead (read : Read) (old new : State) (v : Verdict) : Type 0 where
+  pub by : ShowsBy v (ShowsWhole read.plan.processors (run_of old.says read.plan read.table) old new) (new ≡ old)
+  -- Whatever came of it, each child that is new is that of its processor, in order, and was sent the first of these frames and nothing else; but for at most one,
+  -- where a fault of the children or want of memory came.
+  pub fronts : ShowsNoMore read.plan.processors (frames_of (run_of old.says read.plan read.table)) old new
+
 abbrev pub ShowsOver : Result Read Refusal → State → State → Verdict → Type 0
 ShowsOver (Err refusal) old new v = AllKept old.known new.known
-ShowsOver (Ok read) old new v = ShowsBy v (ShowsWhole read.plan.processors (run_of old.says read.plan read.table) old new) (new ≡ old)
+ShowsOver (Ok read) old new v = ShowsRead read old new v
 
 abbrev pub ShowsRun : Request → Files → State → State → Verdict → Type 0
-ShowsRun (Build processors) project old new v = ShowsOver (read_of processors project) old new v
+ShowsRun (Build options) project old new v = ShowsOver (read_of options project) old new v
 ShowsRun (Bad at) project old new v = Unit {0}

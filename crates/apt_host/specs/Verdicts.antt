@@ -6,7 +6,9 @@ use Rattle.apt_base.specs.declared.kinds.Claim.TheVariants as claim
 use Rattle.apt_base.specs.declared.kinds.What.{What}
 use Rattle.apt_base.specs.declared.kinds.What.TheVariants as what
 use Rattle.round_engine.specs.Refusals as stop
-use Rattle.round_engine.specs.Refusals.{Refusal, BadWords, UnbuiltForm, UnbuiltTalk, TooManyQuestions, ClaimBroken, GeneratedDuplicate, TooManyRounds, TooLarge, Object, Tree, Sink, Children, Stop, processor_of}
+use Rattle.round_engine.specs.Refusals.{Refusal, BadWords, BadConfig, UnknownProcessor, UnbuiltForm, UnbuiltTalk, TooManyQuestions, ClaimBroken, GeneratedDuplicate, TooManyRounds, TooLarge, Place, Object, Tree, Sink, Children, Stop, processor_of}
+use Rattle.apt_host.specs.declared.status.Place as status
+use Rattle.apt_host.specs.declared.status.Place.TheVariants as code_place
 use Rattle.apt_host.specs.declared.status.Status.{Status}
 use Rattle.apt_host.specs.declared.status.Status.TheVariants as code
 use Rattle.apt_host.specs.CleanBuild as outcome
@@ -22,10 +24,18 @@ pub data Verdict : Type 0 where
   -- want of memory
   Memory : Verdict
 
+-- the place of a fault in a file of the configuration
+abbrev pub shown_place : status.Place → Place
+shown_place code_place.Json = stop.Json
+shown_place (code_place.Item item) = stop.Item item
+shown_place (code_place.Line line) = stop.Line line
+
 abbrev pub verdict : Status → Verdict
 verdict code.Done = Done
 verdict (code.Errors count) = Errors count
 verdict (code.BadWords at) = Refused (BadWords at)
+verdict (code.BadConfig path place) = Refused (BadConfig path (shown_place place))
+verdict (code.UnknownProcessor name) = Refused (UnknownProcessor name)
 verdict (code.UnbuiltForm path) = Refused (UnbuiltForm path)
 verdict (code.UnbuiltTalk processor) = Refused (UnbuiltTalk processor)
 verdict (code.TooManyQuestions processor most) = Refused (TooManyQuestions processor most)
@@ -112,7 +122,7 @@ abbrev pub fails : (Object → Bool) → Verdict → Bool
 fails is (Failed object) = is object
 fails is other = false
 
--- the processor that a verdict names, if it names one
+-- the processor that a verdict names as one that was read, if it names one
 abbrev pub named_in : Verdict → Option (List ℕ)
 named_in (Refused refusal) = processor_of refusal
 named_in (Failed (Children processor)) = Some processor
@@ -129,6 +139,8 @@ abbrev pub number_of : Refusal → ℕ
 number_of (BadWords at) = 2
 number_of (TooManyQuestions processor most) = 11
 number_of (ClaimBroken processor declared said) = 12
+number_of (BadConfig path place) = 13
+number_of (UnknownProcessor name) = 17
 number_of (GeneratedDuplicate name) = 19
 number_of TooManyRounds = 20
 number_of (TooLarge what limit) = 21
@@ -174,9 +186,17 @@ abbrev pub truth_text : Bool → List ℕ
 truth_text true = codes "true"
 truth_text false = codes "false"
 
+-- a place in a file of the configuration: the file as a whole, an item as it is, or the number of a line
+abbrev pub place_text : Place → List ℕ
+place_text stop.Json = codes "json"
+place_text (stop.Item item) = item
+place_text (stop.Line line) = decimal line
+
 -- the line of a refusal
 abbrev pub line_of : Refusal → List ℕ
 line_of (BadWords at) = codes "refused: BadWords(" ++ (decimal at ++ codes ")\n")
+line_of (BadConfig path place) = codes "refused: BadConfig(" ++ (path ++ (codes ", " ++ (place_text place ++ codes ")\n")))
+line_of (UnknownProcessor name) = codes "refused: UnknownProcessor(" ++ (name ++ codes ")\n")
 line_of (UnbuiltForm path) = codes "refused: UnbuiltForm(" ++ (path ++ codes ")\n")
 line_of (UnbuiltTalk processor) = codes "refused: UnbuiltTalk(" ++ (processor ++ codes ")\n")
 line_of (TooManyQuestions processor most) = codes "refused: TooManyQuestions(" ++ (processor ++ (codes ", " ++ (decimal most ++ codes ")\n")))

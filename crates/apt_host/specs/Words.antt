@@ -1,22 +1,35 @@
 -- What the words of a call ask for.
-use Rattle.std.specs.Prelude.{ℕ, List, [], ◌∷◌, codes, bytes_eq, length, min, if◌then◌else◌}
-use Rattle.source_form.specs.Form.{is_chain}
-use Rattle.apt_outside.specs.Child.{Try}
+use Rattle.std.specs.Prelude.{ℕ, ◌+◌, Bool, true, false, List, [], ◌∷◌, ◌++◌, Option, None, Some, codes, bytes_eq, length, min, if◌then◌else◌}
+use Rattle.project_config.specs.Options.{option_in}
+
+-- options as keys and their values, in the order in which they were given
+abbrev pub Options : Type 0
+Options = List (List ℕ × List ℕ)
 
 pub data Request : Type 0 where
-  -- one build, with the processors that the words name
-  Build : (processors : List Try) → Request
+  -- one build with these options over those of the configuration; of one key the last counts
+  Build : (options : Options) → Request
   -- the place of the first word that no command has there, or the number of words where one is missing
   Bad : (at : ℕ) → Request
 
--- A processor's name and then the words of its command, at least one.
-abbrev pub build_with : List ℕ → List (List ℕ) → Request
-build_with name [] = Bad 2
-build_with name (word ∷ words) = Build ((name, word ∷ words) ∷ [])
+-- where every build is clean, this asks for nothing more
+abbrev pub full_word : List ℕ
+full_word = codes "--full"
+
+-- the word at this place, which is to be an option; go says what the words behind it ask for
+abbrev pub with_option : ℕ → Option (List ℕ × List ℕ) → (List ℕ × List ℕ → Request) → Request
+with_option at None go = Bad at
+with_option at (Some option) go = go option
+
+-- The words from this place on, behind these options. `--full` stands once at most, at any place, and every other word is an option.
+abbrev pub build_from : ℕ → Bool → Options → List (List ℕ) → Request
+build_from at full options [] = Build options
+build_from at full options (word ∷ words) =
+    if bytes_eq word full_word then (if full then Bad at else build_from (at + 1) true options words)
+    else with_option at (option_in word) (λ option. build_from (at + 1) full (options ++ option ∷ []) words)
 
 abbrev pub build_of : List (List ℕ) → Request
-build_of [] = Build []
-build_of (name ∷ words) = if is_chain name then build_with name words else Bad 1
+build_of words = build_from 1 false [] words
 
 abbrev pub request_of : List (List ℕ) → Request
 request_of [] = Bad 0
@@ -24,7 +37,7 @@ request_of (word ∷ words) = if bytes_eq word (codes "build") then build_of wor
 
 -- the place of a refusal, where the word after this many is no text
 abbrev pub cut_place : Request → ℕ → ℕ
-cut_place (Build processors) count = count
+cut_place (Build options) count = count
 cut_place (Bad at) count = min at count
 
 abbrev pub cut_at : List (List ℕ) → ℕ

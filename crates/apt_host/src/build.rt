@@ -1,30 +1,25 @@
 // One build.
-ghost use Rattle.std.specs.Prelude.{◌≡◌, ◌<◌, ◌^◌, All, IfOk, IfErr, length, map, true};
+ghost use Rattle.std.specs.Prelude.{◌≡◌, ◌<◌, ◌≤◌, ◌^◌, All, IfOk, IfErr, length, map, true};
 ghost use Rattle.std.specs.List.Sorted.{IsStrictlyIncreasing};
 ghost use Rattle.apt_outside.specs.Count.{Told};
-ghost use Rattle.round_engine.specs.Clean.{IsPlain, try_of, AreNumbered};
+ghost use Rattle.round_engine.specs.Clean.{names_in, AreNumbered};
 ghost use Rattle.tree_store.specs.Output.{StoresStand, SameOutside};
 ghost use Rattle.apt_base.specs.Fields.{is_text};
 ghost use Rattle.tree_store.specs.Storing.{AreDistinct, AreAbsent};
-ghost use Rattle.apt_host.specs.Shown.{shown_processor, shown_processors, build_by};
-ghost use Rattle.apt_host.specs.Project.{plan_by};
-ghost use Rattle.apt_host.specs.CleanBuild.{names_in};
 ghost use Rattle.apt_host.specs.Verdicts.{verdict, OrFree, is_tree, is_sink, is_children, fails, HasCause};
 ghost use Rattle.apt_host.specs.Endings.{ended, closed, EndsEarly, IsConcluded};
 ghost use Rattle.apt_host.specs.Making.{concluded};
 ghost use Rattle.apt_host.specs.Listed.{numbered_of, FitsEntry};
-ghost use Rattle.apt_host.specs.Promises.{Leaves, LeavesUndone, KeepsOutput, NamesChild, IsDue};
-ghost use Rattle.apt_host.specs.Builds.{IsTold, Starts, StartsFor, TriesAll, NotStarted, NotTried, TellsMore, Shows, Makes, OnTable, Answers, Publishes, PlacesMade, Tells, Reports};
+ghost use Rattle.apt_host.specs.Promises.{Leaves, LeavesUndone, KeepsOutput, IsDue};
+ghost use Rattle.apt_host.specs.Builds.{Uses, UsesFor, Shows, Makes, OnTable, Answers, Publishes, PlacesMade, Tells, Counts, Reports};
 
 use crate::Status;
-use crate::project::read_units;
+use crate::project::read_project;
 use crate::publish::{publish, spell, tell_errors};
 use crate::report::Summary;
-use crate::words::Processor;
-use apt_base::{Kind, List, Name, NoMemory};
+use apt_base::{List, Name, NoMemory};
 use apt_outside::{Children, Sink, Tree};
-use element_table::Table;
-use round_engine::{Finished, Key, KeyProcessor, LEVEL, Project, clean};
+use round_engine::{Finished, Key, Project, clean};
 use std::alloc::Global;
 use tree_store::taken_numbers;
 
@@ -40,74 +35,37 @@ pub enum Ending {
     },
 }
 
-// A processor of the words: nothing is known of its version and of what it promises.
-fn key_processor(alloc: Global, processor: &Processor<'_>) -> Result<KeyProcessor, NoMemory>
-    ensures { IfOk result (λ key. try_of key ≡ shown_processor processor.now) }
-{
-    let mut command = List::new(alloc);
-    for word in processor.command {
-        command.push(Name::new(alloc, word.as_str())?)?;
-    }
-    Ok(KeyProcessor {
-        name: Name::new(alloc, processor.name)?,
-        command,
-        version: Name::new(alloc, "")?,
-        kind: Kind::Undeclared,
-    })
-}
-
-fn key_of(alloc: Global, processor: &Option<Processor<'_>>) -> Result<Key, NoMemory>
-    ensures plain { IfOk result IsPlain }
-    ensures told { IfOk result (IsTold processor.now) }
-{
-    let mut processors = List::new(alloc);
-    if let Some(processor) = processor {
-        processors.push(key_processor(alloc, processor)?)?;
-    }
-    Ok(Key {
-        level: LEVEL,
-        options: List::new(alloc),
-        processors,
-        stubs: List::new(alloc),
-    })
-}
-
-// The names of the processors, in order.
-fn names_of(alloc: Global, processor: &Option<Processor<'_>>) -> Result<List<Name>, NoMemory>
-    ensures { IfOk result (λ names. names ≡ names_in (plan_by (shown_processors processor.now))) }
+// The names of the processors of a key, in order.
+fn names_of(alloc: Global, key: &Key) -> Result<List<Name>, NoMemory>
+    ensures { IfOk result (λ names. names ≡ names_in key.now) }
 {
     let mut names = List::new(alloc);
-    if let Some(processor) = processor {
-        names.push(Name::new(alloc, processor.name)?)?;
+    for processor in key.processors.as_slice() {
+        names.push(processor.name.copy()?)?;
     }
     Ok(names)
 }
 
-/// Runs the rounds over the table of a project, and gives what they came to.
+/// Runs the rounds over a project, and gives what they came to.
 fn make<C: Children>(
     alloc: Global,
-    processor: &Option<Processor<'_>>,
-    table: Table,
+    project: &Project,
     taken: &List<u32>,
     children: &mut C,
 ) -> Result<Finished, Status>
-    requires { IsStrictlyIncreasing taken.now }
+    requires few { length project.now.key.processors ≤ 64 }
+    requires ascending { IsStrictlyIncreasing taken.now }
     ensures cause { HasCause is_children (ended result) (C.faults children.old) (C.faults children.new) }
     ensures early { IfErr result (λ status. EndsEarly is_children (verdict status)) }
     ensures live { (C.state children.new).live ≡ (C.state children.old).live }
-    ensures starts { StartsFor C.Children processor.now children.old children.new result }
     ensures says { Told C.tells ((C.state children.new).says ≡ (C.state children.old).says) }
-    ensures tried { TriesAll C.Children processor.now children.old children.new }
-    ensures named { NamesChild (build_by processor.now) (ended result) }
+    ensures uses { UsesFor C.Children project.now children.old children.new result }
+    ensures started { IfOk result (λ finished. finished.started ≡ length project.now.key.processors) }
     ensures due { IsDue (ended result) }
     ensures numbered { IfOk result (λ finished. AreNumbered taken.now finished.files) }
-    ensures made { Makes C.Children processor.now table children.old children.new result }
+    ensures made { Makes C.Children project.now children.old children.new result }
 {
-    let project = Project {
-        key: key_of(alloc, processor)?,
-        initial: table,
-    };
-    match clean(alloc, &project, taken.as_slice(), children) {
+    match clean(alloc, project, taken.as_slice(), children) {
         Ok(finished) => Ok(finished),
         Err(refusal) => Err(Status::from(refusal)),
     }
@@ -162,10 +120,11 @@ fn conclude<T: Tree, W: Sink>(
     Ok(Ending::Published)
 }
 
-/// One build: reads the project, lists the store, runs the rounds, and publishes what they made or tells the errors.
+/// One build with these options of the words: reads the project, lists the store, runs the rounds, and publishes what they made
+/// or tells the errors.
 pub fn build<T: Tree, C: Children, W: Sink>(
     alloc: Global,
-    processor: Option<Processor<'_>>,
+    options: &List<(Name, Name)>,
     tree: &mut T,
     children: &mut C,
     output: &mut W,
@@ -174,28 +133,24 @@ pub fn build<T: Tree, C: Children, W: Sink>(
     ensures children { HasCause is_children (closed result) (C.faults children.old) (C.faults children.new) }
     ensures sink_cause { HasCause is_sink (closed result) (W.faults output.old) (W.faults output.new) }
     ensures live { (C.state children.new).live ≡ (C.state children.old).live }
-    ensures starts { Starts C.Children processor.entry children.old children.new result }
     ensures says { Told C.tells ((C.state children.new).says ≡ (C.state children.old).says) }
-    ensures tried { TriesAll C.Children processor.entry children.old children.new }
-    ensures starts_unread { NotStarted T.Tree C.Children processor.entry tree.old children.old children.new }
-    ensures tries_unread { NotTried T.Tree C.Children processor.entry tree.old children.old children.new }
-    ensures named { NamesChild (build_by processor.entry) (closed result) }
+    ensures uses { Uses T.Tree C.Children options.now tree.old children.old children.new result }
     ensures due { IsDue (closed result) }
-    ensures on_table { OnTable processor.entry tree.old tree.new children.old children.new result }
-    ensures answer { Answers T.Tree C.Children processor.entry tree.old children.old result }
-    ensures published { Publishes T.Tree C.Children processor.entry tree.old tree.new children.old result }
+    ensures on_table { OnTable options.now tree.old tree.new children.old children.new result }
+    ensures answer { Answers T.Tree C.Children options.now tree.old children.old result }
+    ensures published { Publishes T.Tree C.Children options.now tree.old tree.new children.old result }
     ensures leaves { Told T.tells (Leaves (closed result) (T.files tree.old) (T.files tree.new)) }
     ensures kept { Told T.tells (KeepsOutput (T.files tree.old) (T.files tree.new) (closed result)) }
     ensures stand { Told T.tells (StoresStand (T.files tree.old) → StoresStand (T.files tree.new)) }
     ensures outside { Told T.tells (SameOutside (T.files tree.old) (T.files tree.new)) }
-    ensures more { TellsMore C.Children processor.entry children.old children.new }
-    ensures shown { Shows T.Tree C.Children processor.entry tree.old children.old children.new result }
-    ensures written { Reports T.Tree C.Children W.Sink processor.entry
+    ensures shown { Shows T.Tree C.Children options.now tree.old children.old children.new result }
+    ensures counted { Counts C.Children W.Sink children.old children.new output.old output.new result }
+    ensures written { Reports T.Tree C.Children W.Sink options.now
         tree.old tree.new children.old output.old output.new result }
 {
-    let names = names_of(alloc, &processor)?;
-    let table = read_units(alloc, tree)?;
+    let project = read_project(alloc, options, tree)?;
+    let names = names_of(alloc, &project.key)?;
     let taken = taken_numbers(alloc, tree)?;
-    let finished = make(alloc, &processor, table, &taken, children)?;
+    let finished = make(alloc, &project, &taken, children)?;
     conclude(alloc, &names, finished, tree, output)
 }

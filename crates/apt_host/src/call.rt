@@ -4,11 +4,10 @@ ghost use Rattle.apt_outside.specs.Count.{Told};
 ghost use Rattle.tree_store.specs.Output.{StoresStand, SameOutside};
 ghost use Rattle.round_engine.specs.Refusals.{BadWords};
 ghost use Rattle.apt_host.specs.Words.{cut_at};
-ghost use Rattle.apt_host.specs.Shown.{asked};
 ghost use Rattle.apt_host.specs.Verdicts.{verdict, Refused, OrMemory, is_tree, is_sink, is_children, HasCause, is_finished};
 ghost use Rattle.apt_host.specs.Endings.{closed};
-ghost use Rattle.apt_host.specs.Promises.{Leaves, KeepsOutput, Finishes, Starts, Tries, NamesChild, IsDue, TellsMore};
-ghost use Rattle.apt_host.specs.Calls.{NotStarted, NotTried, Shows, OffTable, Answers, Publishes, AddsLine, Reports, Writes};
+ghost use Rattle.apt_host.specs.Promises.{Leaves, KeepsOutput, Finishes, IsDue};
+ghost use Rattle.apt_host.specs.Calls.{Uses, Shows, OffTable, Answers, Publishes, AddsLine, Counts, Reports, Writes};
 
 use crate::Status;
 use crate::build::{Ending, build};
@@ -39,12 +38,8 @@ fn work<T: Tree, C: Children, W: Sink>(
     ensures children { HasCause is_children (verdict result) (C.faults children.old) (C.faults children.new) }
     ensures sink_cause { HasCause is_sink (verdict result) (W.faults output.old) (W.faults output.new) }
     ensures live { (C.state children.new).live ≡ (C.state children.old).live }
-    ensures starts { Starts (asked words.now) (verdict result) (C.state children.old) (C.state children.new) }
     ensures says { Told C.tells ((C.state children.new).says ≡ (C.state children.old).says) }
-    ensures tried { Told C.tells (Tries (asked words.now) (C.state children.old) (C.state children.new)) }
-    ensures starts_unread { NotStarted T.Tree C.Children words.now tree.old children.old children.new }
-    ensures tries_unread { NotTried T.Tree C.Children words.now tree.old children.old children.new }
-    ensures named { NamesChild (asked words.now) (verdict result) }
+    ensures uses { Uses T.Tree C.Children words.now tree.old children.old children.new result }
     ensures due { IsDue (verdict result) }
     ensures off_table { OffTable words.now tree.old tree.new children.old children.new result }
     ensures answer { Answers T.Tree C.Children words.now tree.old children.old result }
@@ -53,14 +48,17 @@ fn work<T: Tree, C: Children, W: Sink>(
     ensures kept { Told T.tells (KeepsOutput (T.files tree.old) (T.files tree.new) (verdict result)) }
     ensures stand { Told T.tells (StoresStand (T.files tree.old) → StoresStand (T.files tree.new)) }
     ensures outside { Told T.tells (SameOutside (T.files tree.old) (T.files tree.new)) }
-    ensures more { Told C.tells (TellsMore (asked words.now) (C.state children.old) (C.state children.new)) }
     ensures shown { Shows T.Tree C.Children words.now tree.old children.old children.new result }
+    ensures counted { Counts C.Children W.Sink children.old children.new output.old output.new result }
     ensures written { Reports T.Tree C.Children W.Sink words.now
         tree.old tree.new children.old output.old output.new result }
 {
-    match read_words(words) {
-        Request::Build { processor } => status_of(build(alloc, processor, tree, children, output)),
-        Request::Bad { at } => Status::BadWords { at },
+    match read_words(alloc, words) {
+        Ok(Request::Build { options }) => {
+            status_of(build(alloc, &options, tree, children, output))
+        }
+        Ok(Request::Bad { at }) => Status::BadWords { at },
+        Err(_) => Status::Memory,
     }
 }
 
@@ -94,11 +92,12 @@ fn finish<W: Sink>(alloc: Global, status: Status, output: &mut W) -> Status
 
 /// Does what the words say over a tree of files, children, a source and a sink. It has no condition.
 ///
-/// The one command so far is `build`, alone or followed by a processor's name, a chain of identifiers, and at least one
-/// word of the command that starts it. A build reads the `.java` files below `src`, runs the processor over them in
-/// rounds (JSR 269, `Processor` and `RoundEnvironment`), and publishes what it created and a report at once, or nothing.
-/// Where the processor printed an error the report is written alone. After any other status but success a line says what
-/// was refused. After any status but success the former output stands.
+/// The one command so far is `build`, behind which `--full` may stand once and any number of options `KEY=VALUE`. A build reads
+/// the configuration, `apt.json` with the file of services and that of kinds, and the `.java` files below `src`. It runs the
+/// processors over them in rounds (JSR 269, `Processor` and `RoundEnvironment`), with these options over those of `apt.json`,
+/// and publishes what they created and a report at once, or nothing. Where a processor printed an error the report is written
+/// alone. After any other status but success a line says what was refused. After any status but success the former output
+/// stands.
 pub fn run<T: Tree, C: Children, R: Source, W: Sink>(
     alloc: Global,
     words: &[String],
@@ -115,14 +114,11 @@ pub fn run<T: Tree, C: Children, R: Source, W: Sink>(
     // The source is not touched.
     ensures input { input.new ≡ input.old }
 
-    // Every child that was started is stopped, and none but the processors' was tried; none where a source is refused.
+    // Every child that was started is stopped. None is started or tried but those of the processors that were read, which are
+    // those of the project where the tree tells it, and none for a project that is refused.
     ensures live { (C.state children.new).live ≡ (C.state children.old).live }
-    ensures starts { Starts (asked words.now) (verdict result) (C.state children.old) (C.state children.new) }
     ensures says { Told C.tells ((C.state children.new).says ≡ (C.state children.old).says) }
-    ensures tried { Told C.tells (Tries (asked words.now) (C.state children.old) (C.state children.new)) }
-    ensures starts_unread { NotStarted T.Tree C.Children words.now tree.old children.old children.new }
-    ensures tries_unread { NotTried T.Tree C.Children words.now tree.old children.old children.new }
-    ensures named { NamesChild (asked words.now) (verdict result) }
+    ensures uses { Uses T.Tree C.Children words.now tree.old children.old children.new result }
     ensures due { IsDue (verdict result) }
 
     // The answer is the clean build's, unless it is a fault or want of memory; words that no command has change nothing.
@@ -136,11 +132,11 @@ pub fn run<T: Tree, C: Children, R: Source, W: Sink>(
     ensures stand { Told T.tells (StoresStand (T.files tree.old) → StoresStand (T.files tree.new)) }
     ensures outside { Told T.tells (SameOutside (T.files tree.old) (T.files tree.new)) }
 
-    // New children, one for each processor that is started, are shown exactly the run.
-    ensures more { Told C.tells (TellsMore (asked words.now) (C.state children.old) (C.state children.new)) }
+    // New children, one for each processor that is started, are shown exactly the run, and the front of it where it broke off.
     ensures shown { Shows T.Tree C.Children words.now tree.old children.old children.new result }
 
-    // What is written is the clean build's report, or ends in the refusal's line.
+    // What is written is the clean build's report, or ends in the refusal's line. A report begins with the number of starts.
+    ensures counted { Counts C.Children W.Sink children.old children.new output.old output.new result }
     ensures written { Writes T.Tree C.Children W.Sink words.now
         tree.old tree.new children.old output.old output.new result }
 {
@@ -156,9 +152,10 @@ pub fn refuse_cut_words<W: Sink>(alloc: Global, words: &[String], output: &mut W
     ensures line { AddsLine W.Sink output.old output.new result }
 {
     let count = words.len() as u64;
-    let at = match read_words(words) {
-        Request::Bad { at } => at.min(count),
-        Request::Build { .. } => count,
+    let at = match read_words(alloc, words) {
+        Ok(Request::Bad { at }) => at.min(count),
+        Ok(Request::Build { .. }) => count,
+        Err(_) => return finish(alloc, Status::Memory, output),
     };
     finish(alloc, Status::BadWords { at }, output)
 }

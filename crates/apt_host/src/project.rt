@@ -1,18 +1,20 @@
-// The type table of a project.
-ghost use Rattle.std.specs.Prelude.{◌≡◌, IfErr, None, drop, false};
+// A project: its configuration and its type table.
+ghost use Rattle.std.specs.Prelude.{◌≡◌, ◌≤◌, length, IfOk, IfErr, None, drop, false};
 ghost use Rattle.apt_outside.specs.Count.{Told};
 ghost use Rattle.element_table.specs.TypeTable.{empty_table};
 ghost use Rattle.round_engine.specs.declared.source_fault.SourceFault.TheVariants as code;
 ghost use Rattle.apt_host.specs.Verdicts.{verdict, named_in, OrMemory, is_tree, HasCause};
 ghost use Rattle.apt_host.specs.Endings.{ended, EndsEarly};
-ghost use Rattle.apt_host.specs.Project.{enter_next, enter_all, units_of};
-ghost use Rattle.apt_host.specs.Entering.{of_source, Enters, EntersAll, StopsLeast};
+ghost use Rattle.apt_host.specs.Shown.{shown_project};
+ghost use Rattle.apt_host.specs.Project.{enter_next, enter_all, read_of};
+ghost use Rattle.apt_host.specs.Entering.{of_source, ComesAs, Enters, EntersAll, StopsLeast};
 
 use crate::Status;
-use apt_base::Name;
+use crate::configuration::{key_of, read_files};
+use apt_base::{List, Name};
 use apt_outside::Tree;
 use element_table::Table;
-use round_engine::{SourceFault, enter_source, limit_of};
+use round_engine::{Project, SourceFault, enter_source, limit_of};
 use source_form::MAX_SOURCE;
 use std::alloc::Global;
 use tree_store::{RawSource, read_sources};
@@ -66,8 +68,8 @@ fn enter_next(
     }
 }
 
-/// Enters all sources, or refuses the first that cannot be entered.
-fn enter_all(alloc: Global, sources: &[RawSource]) -> Result<Table, Status>
+// Enters sources one after another, up to the first that cannot be entered.
+fn enter_each(alloc: Global, sources: &[RawSource]) -> Result<Table, Status>
     ensures units { EntersAll (enter_all empty_table 0 sources.now) result }
     ensures early { IfErr result (λ status. EndsEarly (λ _. false) (verdict status)) }
     ensures unnamed { IfErr result (λ status. named_in (verdict status) ≡ None) }
@@ -79,15 +81,33 @@ fn enter_all(alloc: Global, sources: &[RawSource]) -> Result<Table, Status>
     Ok(table)
 }
 
-/// Reads the sources, and enters them into the type table.
-pub fn read_units<T: Tree>(alloc: Global, tree: &mut T) -> Result<Table, Status>
+/// Enters all sources, or refuses the first that cannot be entered: all before it were.
+fn enter_all(alloc: Global, sources: &[RawSource]) -> Result<Table, Status>
+    ensures units { EntersAll (enter_all empty_table 0 sources.now) result }
+    ensures early { IfErr result (λ status. EndsEarly (λ _. false) (verdict status)) }
+    ensures unnamed { IfErr result (λ status. named_in (verdict status) ≡ None) }
+    ensures least { StopsLeast sources.now result }
+{
+    enter_each(alloc, sources)
+}
+
+/// Reads a project, with these options of the words over those of its configuration: first all of its files, and then what they
+/// say, the configuration before the sources, which are entered into the type table.
+pub fn read_project<T: Tree>(
+    alloc: Global,
+    options: &List<(Name, Name)>,
+    tree: &mut T,
+) -> Result<Project, Status>
     ensures cause { HasCause is_tree (ended result) (T.faults tree.old) (T.faults tree.new) }
     ensures early { IfErr result (λ status. EndsEarly is_tree (verdict status)) }
     ensures unnamed { IfErr result (λ status. named_in (verdict status) ≡ None) }
     ensures same { Told T.tells (T.files tree.new ≡ T.files tree.old) }
-    ensures units { Told T.tells (EntersAll (units_of (T.files tree.old)) result) }
-    ensures least { Told T.tells (StopsLeast (T.files tree.old) result) }
+    ensures few { IfOk result (λ project. length project.key.processors ≤ 64) }
+    ensures read { Told T.tells (ComesAs (read_of options.now (T.files tree.old)) shown_project result) }
 {
+    let raw = read_files(alloc, tree)?;
     let sources = read_sources(alloc, tree, MAX_SOURCE)?;
-    enter_all(alloc, sources.as_slice())
+    let key = key_of(alloc, &raw, options)?;
+    let initial = enter_all(alloc, sources.as_slice())?;
+    Ok(Project { key, initial })
 }

@@ -2,10 +2,12 @@
 ghost use Rattle.std.specs.Prelude.{◌≡◌, ◌++◌, [], IfOk, OnOk, codes, string_bytes, map, slice_index_or};
 ghost use Rattle.std.specs.List.{flat_map};
 ghost use Rattle.apt_host.specs.Report.{kind_text, escaped, message_text, message_line, message_lines, unread_line, first_lines, file_line, file_lines, errors_report};
-ghost use Rattle.apt_host.specs.Verdicts.{verdict, what_text, claim_text, refusal_of};
+ghost use Rattle.round_engine.specs.Refusals.{BadConfig, ClaimBroken};
+ghost use Rattle.apt_host.specs.Verdicts.{verdict, shown_place, what_text, claim_text, place_text, line_of, refusal_of};
 ghost use Rattle.apt_host.specs.Listed.{listed, summary_of, report_for};
 
 use crate::Status;
+use crate::status::Place;
 use apt_base::{Claim, List, Name, What};
 use round_engine::Placed;
 use std::alloc::{AllocError, Global};
@@ -243,6 +245,37 @@ fn claim_text(claim: Claim) -> &'static str
     }
 }
 
+// A place in a file of the configuration.
+fn place_text(alloc: Global, place: &Place) -> Result<String, AllocError>
+    ensures { IfOk result (λ text. string_bytes text ≡ place_text (shown_place place.now)) }
+{
+    match place {
+        Place::Json => String::from_str(alloc, "json"),
+        Place::Item(item) => String::from_str(alloc, item.as_str()),
+        Place::Line(line) => format!(in alloc; "{line}"),
+    }
+}
+
+fn config_line(alloc: Global, path: &str, place: &Place) -> Result<String, AllocError>
+    ensures { IfOk result (λ text. string_bytes text ≡ line_of (BadConfig path.now (shown_place place.now))) }
+{
+    let place = place_text(alloc, place)?;
+    let place = place.as_str();
+    format!(in alloc; "refused: BadConfig({path}, {place})\n")
+}
+
+fn claim_line(
+    alloc: Global,
+    processor: &str,
+    declared: Claim,
+    said: bool,
+) -> Result<String, AllocError>
+    ensures { IfOk result (λ text. string_bytes text ≡ line_of (ClaimBroken processor.now declared said)) }
+{
+    let declared = claim_text(declared);
+    format!(in alloc; "refused: ClaimBroken({processor}, {declared}, {said})\n")
+}
+
 /// The line of a refusal. A build that ended with a report has none.
 pub fn refusal(alloc: Global, status: &Status) -> Result<String, AllocError>
     ensures { IfOk result (λ text. string_bytes text ≡ refusal_of (verdict status.now)) }
@@ -250,6 +283,11 @@ pub fn refusal(alloc: Global, status: &Status) -> Result<String, AllocError>
     match status {
         Status::Done | Status::Errors { .. } => Ok(String::new(alloc)),
         Status::BadWords { at } => format!(in alloc; "refused: BadWords({at})\n"),
+        Status::BadConfig { path, place } => config_line(alloc, path.as_str(), place),
+        Status::UnknownProcessor { name } => {
+            let name = name.as_str();
+            format!(in alloc; "refused: UnknownProcessor({name})\n")
+        }
         Status::UnbuiltForm { path } => {
             let path = path.as_str();
             format!(in alloc; "refused: UnbuiltForm({path})\n")
@@ -266,11 +304,7 @@ pub fn refusal(alloc: Global, status: &Status) -> Result<String, AllocError>
             processor,
             declared,
             said,
-        } => {
-            let processor = processor.as_str();
-            let declared = claim_text(*declared);
-            format!(in alloc; "refused: ClaimBroken({processor}, {declared}, {said})\n")
-        }
+        } => claim_line(alloc, processor.as_str(), *declared, *said),
         Status::GeneratedDuplicate { name } => {
             let name = name.as_str();
             format!(in alloc; "refused: GeneratedDuplicate({name})\n")

@@ -9,6 +9,30 @@ use apt_base::{Claim, Name, NoMemory, What};
 use std::alloc::{AllocError, AllocFailed};
 use tree_store::StoreFault;
 
+/// Where a file of the configuration is off its form.
+#[derive(Drop)]
+pub enum Place {
+    /// `apt.json` is no JSON object.
+    Json,
+    /// An item of `apt.json` is, at this place, as `/level` or `/processors/NAME/command`.
+    Item(Name),
+    /// A line of one of the other files is, of this number, from 1.
+    Line(u32),
+}
+
+impl Place {
+    /// An equal place.
+    pub fn copy(&self) -> Result<Place, NoMemory>
+        ensures { IfOk result (λ place. place ≡ self.now) }
+    {
+        match self {
+            Place::Json => Ok(Place::Json),
+            Place::Item(item) => Ok(Place::Item(item.copy()?)),
+            Place::Line(line) => Ok(Place::Line(*line)),
+        }
+    }
+}
+
 /// How a call of `run` ends. A fault of the tree, the sink or the children comes only where its count rose in the call.
 #[derive(Drop)]
 pub enum Status {
@@ -24,6 +48,18 @@ pub enum Status {
         /// The position, from 0, of the first word that no line of the table has there, or the number of
         /// words where one is missing.
         at: u64,
+    },
+    /// A file of the configuration is not of its form: `apt.json`, or one of the two below `res/META-INF`.
+    BadConfig {
+        /// The path of the file, the first of the three that is off its form.
+        path: Name,
+        /// The first place in it that is.
+        place: Place,
+    },
+    /// `apt.json` has no row for a processor that is named, by its `order` or by the file of services.
+    UnknownProcessor {
+        /// The first such name, in the order of discovery.
+        name: Name,
     },
     /// A source, or a created source, is none that can be read so far.
     UnbuiltForm {
@@ -59,7 +95,8 @@ pub enum Status {
     },
     /// Round 64 would not be the last.
     TooManyRounds,
-    /// What is counted passes its limit: the bytes of a canonical name, or the types of the table.
+    /// What is counted passes its limit: the bytes of a file of the configuration, the processors, the bytes of a first frame to a
+    /// processor, the bytes of a canonical name, or the types of the table.
     TooLarge {
         /// Which limit.
         what: What,
@@ -153,6 +190,13 @@ impl Status {
             Status::Done => Ok(Status::Done),
             Status::Errors { count } => Ok(Status::Errors { count: *count }),
             Status::BadWords { at } => Ok(Status::BadWords { at: *at }),
+            Status::BadConfig { path, place } => Ok(Status::BadConfig {
+                path: path.copy()?,
+                place: place.copy()?,
+            }),
+            Status::UnknownProcessor { name } => Ok(Status::UnknownProcessor {
+                name: name.copy()?,
+            }),
             Status::UnbuiltForm { path } => Ok(Status::UnbuiltForm { path: path.copy()? }),
             Status::UnbuiltTalk { processor } => Ok(Status::UnbuiltTalk {
                 processor: processor.copy()?,
@@ -201,6 +245,8 @@ impl Status {
             Status::ChildFault { .. } => 7,
             Status::TooManyQuestions { .. } => 11,
             Status::ClaimBroken { .. } => 12,
+            Status::BadConfig { .. } => 13,
+            Status::UnknownProcessor { .. } => 17,
             Status::GeneratedDuplicate { .. } => 19,
             Status::TooManyRounds => 20,
             Status::TooLarge { .. } => 21,

@@ -1,5 +1,5 @@
 -- How many children were started where a run was refused, and which refusals come before round 1.
-use Rattle.std.proofs.Common.{◌≡◌, ℕ, ◌+◌, ◌≤◌, ◌<◌, List, [], ◌∷◌, ◌++◌, length, length-append, true, Err, inl, inr, refl, sym, ap, ◌∙◌, arith}
+use Rattle.std.proofs.Common.{◌≡◌, ℕ, ◌+◌, ◌≤◌, ◌<◌, List, [], ◌∷◌, ◌++◌, length, length-append, true, false, Err, inl, inr, refl, sym, ap, ◌∙◌, arith}
 use Rattle.std.proofs.lemmas.Bool.{false≢true}
 use Rattle.apt_outside.specs.Child.{Try, State}
 use Rattle.wire_frames.specs.declared.frame.Hello.{Hello}
@@ -33,6 +33,8 @@ due_of_hello (stop.Refused (stop.TooManyQuestions processor most)) is = absurd (
 due_of_hello (stop.Refused (stop.ClaimBroken processor declared said)) is = absurd (false≢true is)
 due_of_hello (stop.Refused (stop.UnbuiltTalk processor)) is = tt
 due_of_hello (stop.Refused (stop.BadWords at)) is = tt
+due_of_hello (stop.Refused (stop.BadConfig path place)) is = tt
+due_of_hello (stop.Refused (stop.UnknownProcessor name)) is = tt
 due_of_hello (stop.Refused (stop.UnbuiltForm path)) is = tt
 due_of_hello (stop.Refused (stop.GeneratedDuplicate name)) is = tt
 due_of_hello (stop.Refused stop.TooManyRounds) is = tt

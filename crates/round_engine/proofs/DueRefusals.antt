@@ -1,5 +1,5 @@
 -- Refusals that are due whatever the children tell: one by a limit has that of a round, and one by a claim that was broken broke it.
-use Rattle.std.proofs.Common.{◌≡◌, ℕ, List, None, Result, Err, inl, inr, sym, subst, ◌∙◌}
+use Rattle.std.proofs.Common.{◌≡◌, ℕ, List, Option, None, Result, Err, inl, inr, refl, sym, subst, ◌∙◌}
 use Rattle.child_session.specs.declared.fault.SessionFault.{SessionFault}
 use Rattle.child_session.specs.declared.fault.SessionFault.TheVariants as fault
 use Rattle.child_session.specs.declared.round.Answer.{Answer}
@@ -14,6 +14,8 @@ use Rattle.round_engine.specs.Shown.{IsDueStop}
 -- a refusal that names no processor is neither of the two
 pub due_unnamed : (s : Stop) → named_by s ≡ None → IsDueStop s
 due_unnamed (stop.Refused (stop.BadWords at)) is = tt
+due_unnamed (stop.Refused (stop.BadConfig path place)) is = tt
+due_unnamed (stop.Refused (stop.UnknownProcessor name)) is = tt
 due_unnamed (stop.Refused (stop.UnbuiltForm path)) is = tt
 due_unnamed (stop.Refused (stop.UnbuiltTalk processor)) is = tt
 due_unnamed (stop.Refused (stop.TooManyQuestions processor most)) is = absurd cc

@@ -21,3 +21,4 @@ pub mod AskedProcessors
 pub mod TurnsOfARound
 pub mod RoundsInTurn
 pub mod CleanLemmas
+pub mod FirstFrames

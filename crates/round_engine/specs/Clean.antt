@@ -1,6 +1,8 @@
 -- The clean run over a project, from nothing.
-use Rattle.std.specs.Prelude.{◌≡◌, ℕ, ◌==◌, ◌+◌, ◌≤◌, ◌<◌, ◌^◌, ◌||◌, Bool, true, List, [], ◌∷◌, ◌++◌, length, take, map, filter, All, Result, Ok, Err, IfErr}
+use Rattle.std.specs.Prelude.{◌≡◌, ℕ, ◌==◌, ◌+◌, ◌<◌, ◌^◌, ◌||◌, nat_le, Bool, true, List, [], ◌∷◌, ◌++◌, length, take, map, filter, All, Result, Ok, Err, IfErr}
+use Rattle.std.specs.List.{list_all}
 use Rattle.std.specs.FinMap as fin
+use Rattle.apt_base.specs.declared.kinds.What.TheVariants as what
 use Rattle.apt_outside.specs.Count.{Told}
 use Rattle.apt_outside.specs.declared.children.Children as children
 use Rattle.apt_outside.specs.Files.{Files}
@@ -20,7 +22,8 @@ use Rattle.round_engine.specs.Faults.{stop_of, is_due}
 use Rattle.element_table.specs.TypeTable.{TypeTable}
 use Rattle.round_engine.specs.Numbering.{AreLeast}
 use Rattle.round_engine.specs.Numbered.{shown_made, number_of, HasText, IsWritten, Fits}
-use Rattle.round_engine.specs.Run.{Plan, Run, Finished, files_among, run_of, frames_of}
+use Rattle.round_engine.specs.Limits.{limit_of}
+use Rattle.round_engine.specs.Run.{Plan, Run, Finished, files_among, init_frame, run_of, frames_of}
 use Rattle.round_engine.specs.Shown.{ShowsAll, TellsMore, ShowsNoMore, TriesInOrder, StartsAll, StopsAs}
 
 -- ---- the run of a key
@@ -42,14 +45,13 @@ names_in key = map name_of key.processors
 abbrev pub plan_of : Key → Plan
 plan_of key = record { level = key.level; options = key.options; processors = tries_in key }
 
--- so far a build is one of this level
-abbrev pub level : ℕ
-level = 11
+-- the first frame to the processor with this name is within the limit of a frame
+abbrev pub init_fits : Plan → List ℕ → Bool
+init_fits plan name = nat_le (length (init_frame plan name)) (limit_of what.Frame)
 
--- it has at most 64 processors
-pub record IsPlain (key : Key) : Type 0 where
-  pub at_level : key.level ≡ level
-  pub few : length key.processors ≤ 64
+-- so is that to each processor
+abbrev pub inits_fit : Plan → Bool
+inits_fit plan = list_all (λ (processor : Try). init_fits plan processor.0) plan.processors
 
 -- ---- what is counted
 

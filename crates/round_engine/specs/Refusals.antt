@@ -4,9 +4,22 @@ use Rattle.apt_base.specs.declared.kinds.Claim.{Claim}
 use Rattle.apt_base.specs.declared.kinds.What.{What}
 use Rattle.round_engine.specs.Limits.{limit_of}
 
+-- where a file of the configuration is off its form
+pub data Place : Type 0 where
+  -- it is no JSON object
+  Json : Place
+  -- an item of `apt.json`, as `/level`
+  Item : (item : List ℕ) → Place
+  -- a line, counted from 1
+  Line : (line : ℕ) → Place
+
 pub data Refusal : Type 0 where
   -- the first word that no command has there, by its position
   BadWords : (at : ℕ) → Refusal
+  -- a file of the configuration is off its form, first at this place
+  BadConfig : (path : List ℕ) (place : Place) → Refusal
+  -- `apt.json` has no row for this processor, the first such that is named
+  UnknownProcessor : (name : List ℕ) → Refusal
   -- a source, or a created source, is none that can be read so far
   UnbuiltForm : (path : List ℕ) → Refusal
   -- a child's bytes are none that can be read so far
@@ -26,7 +39,7 @@ pub data Refusal : Type 0 where
 abbrev pub past : What → Refusal
 past what = TooLarge what (limit_of what)
 
--- the processor that a refusal names, if it names one
+-- the processor of the run that a refusal names, if it names one
 abbrev pub processor_of : Refusal → Option (List ℕ)
 processor_of (UnbuiltTalk processor) = Some processor
 processor_of (TooManyQuestions processor most) = Some processor

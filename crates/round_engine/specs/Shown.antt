@@ -134,7 +134,7 @@ pub record IsFront (some all : Frames) : Type 0 where
 pub record AreFronts (sent all : List Frames) : Type 0 where
   pub at : (number : ℕ) → IsFront (slice_index_or sent number []) (slice_index_or all number [])
 
--- each but one was, in whose talk the run may have broken off
+-- each but at most one was
 pub record FrontsButOne (sent all : List Frames) : Type 0 where
   pub one : ℕ
   pub at : (number : ℕ) → number ≢ one → IsFront (slice_index_or sent number []) (slice_index_or all number [])
@@ -222,8 +222,7 @@ pub record TellsMore (most : ℕ) (old new : State) : Type 0 where
   pub few : length group ≤ most
   pub tells : TellsOf group old new
 
--- Whatever came of it: the group is new, each is the child of its processor, in order, and was sent the first of these frames and nothing else, but for at most one,
--- in whose talk the run may have broken off.
+-- Whatever came of it: the group is new, each is the child of its processor, in order, and was sent the first of these frames and nothing else, but for at most one.
 pub record ShowsFronts (processors : List Try) (group : List ℕ) (all : List Frames) (old new : State) : Type 0 where
   pub tells : TellsOf group old new
   pub theirs : EachOf IsOf processors group new.known

@@ -25,7 +25,7 @@ mod units;
 
 pub use entering::enter_source;
 pub use files::Files;
-pub use frames::LEVEL;
+pub use frames::inits_fit;
 pub use limits::limit_of;
 pub use messages::Placed;
 pub use numbering::{Made, number_files};

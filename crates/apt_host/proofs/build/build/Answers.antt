@@ -1,102 +1,74 @@
-use Rattle.std.proofs.Common.{◌≡◌, ap, sym, ◌∙◌, subst, refl, map}
+use Rattle.std.proofs.Common.{◌≡◌, ◌+◌, false, IfSome, Contains, ap, sym, ◌∙◌, subst, refl, map}
+use Rattle.std.proofs.lemmas.Bool.{false≢true}
 use Rattle.std.proofs.lemmas.Result.{err_from_is_err_and}
 use Rattle.apt_outside.specs.Count.{Rose, Told}
 use Rattle.tree_store.specs.Storing.{AreTaken}
 use Rattle.tree_store.specs.Output.{StoresStand}
-use Rattle.apt_host.specs.Shown.{shown_processors}
-use Rattle.apt_host.specs.Verdicts.{Memory, verdict, named_in, is_finished, is_tree, is_sink, is_children, fails}
+use Rattle.round_engine.specs.Clean.{names_in}
+use Rattle.apt_host.specs.Words.{Build}
+use Rattle.apt_host.specs.Shown.{shown_project}
+use Rattle.apt_host.specs.Verdicts.{Done, Memory, verdict, named_in, is_finished, has_run, is_tree, is_sink, is_children, fails}
 use Rattle.apt_host.specs.Endings.{closed, of_store}
 use Rattle.apt_host.specs.Making.{concluding_report}
 use Rattle.apt_host.specs.Listed.{numbered_of, GainsFirst}
 use Rattle.apt_host.specs.Project.{read_of}
-use Rattle.apt_host.specs.Promises.{Leaves, IsFront, Adds, ShowsOver}
-use Rattle.apt_host.proofs.Early.{unfinished_early, no_sink_early, store_early, store_unnamed}
-use Rattle.apt_host.proofs.Leaving.{names_none, names_concluded, due_unnamed, due_concluded}
+use Rattle.apt_host.specs.Promises.{Answers, Leaves, IsFront, Adds, ShowsOver, processors_in}
+use Rattle.apt_host.proofs.Early.{not_done_early, unfinished_early, not_run_early, no_sink_early, store_early, store_unnamed, unnamed_concluded}
+use Rattle.apt_host.proofs.Leaving.{due_unnamed, due_concluded}
 use Rattle.apt_host.proofs.Writing.{begins_with_nothing}
-use Rattle.apt_host.proofs.Building.{distinct_made, absent_made, leaves_all, stores_stand, publishes_finished, reports_finished, shows_unread, shows_store, shown_refused, shown_finished}
+use Rattle.apt_host.proofs.MakingLemmas.{names_are, count_tries}
+use Rattle.apt_host.proofs.Counting.{counts_finished}
+use Rattle.apt_host.proofs.Using.{uses_none, uses_key, counts_none}
+use Rattle.apt_host.proofs.Building.{distinct_made, absent_made, leaves_all, stores_stand, publishes_finished, reports_finished, publishes_not, answers_read, answers_refused, answers_finished, shows_unread, shows_store, shows_memory, shown_refused, shown_finished}
 use Rattle.apt_host.proofs.build.build.Goals as goal
+
+-- ---- what is answered
+
+pub returns-in_err-project-clause-answer : goal.returns-in_err-project-clause-answer
+returns-in_err-project-clause-answer g c =
+    let T = g.T.Tree in
+    let C = g.C.Children in
+    let options = c.args.options.now in
+    let files = T.files c.args.tree.now in
+    let says = (C.state c.args.children.now).says in
+    let status = c.in_err-project.field-0.0 in
+    let p = err_from_is_err_and c.from_residual.result c.from_residual.ensures.1 in
+    let same : closed c.from_residual.result ≡ verdict status = ap closed p.1 ∙ ap verdict p.2 in
+    subst (λ v. Answers T.tells C.tells (Build options) says files v) (sym same) (answers_read T.tells C.tells options says files (verdict status) c.in_err-project.ensures.read)
+
+pub returns-in_err-finished-clause-answer : goal.returns-in_err-finished-clause-answer
+returns-in_err-finished-clause-answer g c =
+    let T = g.T.Tree in
+    let C = g.C.Children in
+    let options = c.args.options.now in
+    let files = T.files c.args.tree.now in
+    let before = C.state c.args.children.now in
+    let status = c.in_err-finished.field-0.0 in
+    let p = err_from_is_err_and c.from_residual-in_err-finished.result c.from_residual-in_err-finished.ensures.1 in
+    let same : closed c.from_residual-in_err-finished.result ≡ verdict status = ap closed p.1 ∙ ap verdict p.2 in
+    subst (λ v. Answers T.tells C.tells (Build options) before.says files v) (sym same)
+    (answers_refused T.tells C.tells options files (shown_project c.in_ok-project.project) before (C.state c.make.new.children) c.in_ok-project.ensures.read status c.in_err-finished.ensures.made)
+
+pub returns-clause-answer : goal.returns-clause-answer
+returns-clause-answer g c =
+    let T = g.T.Tree in
+    let C = g.C.Children in
+    answers_finished T.tells C.tells c.args.options.now (T.files c.args.tree.now) (shown_project c.in_ok-project.project) (C.state c.args.children.now) (C.state c.make.new.children) c.in_ok-project.ensures.read
+    c.in_ok-taken.taken c.in_ok-finished.finished c.in_ok-finished.ensures.numbered c.in_ok-finished.ensures.made (closed c.conclude.result) c.conclude.ensures.answer
+
+-- ---- what is written
+
+pub returns-in_err-project-clause-written : goal.returns-in_err-project-clause-written
+returns-in_err-project-clause-written g c = λ told.
+    let p = err_from_is_err_and c.from_residual.result c.from_residual.ensures.1 in
+    let same : closed c.from_residual.result ≡ verdict c.in_err-project.field-0.0 = ap closed p.1 ∙ ap verdict p.2 in
+    begins_with_nothing _ _ _ _ _ _ _ _ _ (ap is_finished same ∙ unfinished_early is_tree _ c.in_err-project.ensures.early) (ap (fails is_sink) same ∙ no_sink_early is_tree _ refl c.in_err-project.ensures.early)
 
 pub returns-in_err-names-clause-written : goal.returns-in_err-names-clause-written
 returns-in_err-names-clause-written g c = λ told.
-    let p = err_from_is_err_and c.from_residual.result c.from_residual.ensures.1 in
-    let same : closed c.from_residual.result ≡ Memory = ap closed p.1 ∙ ap verdict p.2 in
+    let p = err_from_is_err_and c.from_residual-in_err-names.result c.from_residual-in_err-names.ensures.1 in
+    let same : closed c.from_residual-in_err-names.result ≡ Memory = ap closed p.1 ∙ ap verdict p.2 in
     begins_with_nothing _ _ _ _ _ _ _ _ _ (ap is_finished same) (ap (fails is_sink) same)
-
-pub returns-in_err-table-clause-written : goal.returns-in_err-table-clause-written
-returns-in_err-table-clause-written g c = λ told.
-    let p = err_from_is_err_and c.from_residual-in_err-table.result c.from_residual-in_err-table.ensures.1 in
-    let same : closed c.from_residual-in_err-table.result ≡ verdict c.in_err-table.field-0.0 = ap closed p.1 ∙ ap verdict p.2 in
-    begins_with_nothing _ _ _ _ _ _ _ _ _ (ap is_finished same ∙ unfinished_early is_tree _ c.in_err-table.ensures.early) (ap (fails is_sink) same ∙ no_sink_early is_tree _ refl c.in_err-table.ensures.early)
-
-pub returns-in_err-table-clause-named : goal.returns-in_err-table-clause-named
-returns-in_err-table-clause-named g c =
-    let p = err_from_is_err_and c.from_residual-in_err-table.result c.from_residual-in_err-table.ensures.1 in
-    let same : closed c.from_residual-in_err-table.result ≡ verdict c.in_err-table.field-0.0 = ap closed p.1 ∙ ap verdict p.2 in
-    names_none (shown_processors c.args.processor) (closed c.from_residual-in_err-table.result) (ap named_in same ∙ c.in_err-table.ensures.unnamed)
-
-pub returns-in_err-taken-clause-named : goal.returns-in_err-taken-clause-named
-returns-in_err-taken-clause-named g c =
-    let p = err_from_is_err_and c.from_residual-in_err-taken.result c.from_residual-in_err-taken.ensures.1 in
-    let same : closed c.from_residual-in_err-taken.result ≡ verdict (of_store c.in_err-taken.field-0.0) = ap closed p.1 ∙ ap verdict p.2 in
-    names_none (shown_processors c.args.processor) (closed c.from_residual-in_err-taken.result) (ap named_in same ∙ store_unnamed c.in_err-taken.field-0.0)
-
-pub returns-clause-named : goal.returns-clause-named
-returns-clause-named g c = names_concluded (shown_processors c.args.processor) (closed c.conclude.result) c.conclude.ensures.concluded
-
-pub returns-in_err-table-clause-due : goal.returns-in_err-table-clause-due
-returns-in_err-table-clause-due g c =
-    let p = err_from_is_err_and c.from_residual-in_err-table.result c.from_residual-in_err-table.ensures.1 in
-    let same : closed c.from_residual-in_err-table.result ≡ verdict c.in_err-table.field-0.0 = ap closed p.1 ∙ ap verdict p.2 in
-    due_unnamed (closed c.from_residual-in_err-table.result) (ap named_in same ∙ c.in_err-table.ensures.unnamed)
-
-pub returns-in_err-taken-clause-due : goal.returns-in_err-taken-clause-due
-returns-in_err-taken-clause-due g c =
-    let p = err_from_is_err_and c.from_residual-in_err-taken.result c.from_residual-in_err-taken.ensures.1 in
-    let same : closed c.from_residual-in_err-taken.result ≡ verdict (of_store c.in_err-taken.field-0.0) = ap closed p.1 ∙ ap verdict p.2 in
-    due_unnamed (closed c.from_residual-in_err-taken.result) (ap named_in same ∙ store_unnamed c.in_err-taken.field-0.0)
-
-pub returns-clause-due : goal.returns-clause-due
-returns-clause-due g c = due_concluded (closed c.conclude.result) c.conclude.ensures.concluded
-
-pub returns-in_err-table-clause-shown : goal.returns-in_err-table-clause-shown
-returns-in_err-table-clause-shown g c = λ told said.
-    let T = g.T.Tree in
-    let C = g.C.Children in
-    let p = err_from_is_err_and c.from_residual-in_err-table.result c.from_residual-in_err-table.ensures.1 in
-    let same : closed c.from_residual-in_err-table.result ≡ verdict c.in_err-table.field-0.0 = ap closed p.1 ∙ ap verdict p.2 in
-    let processors = shown_processors c.args.processor in
-    let state = C.state c.args.children.now in
-    subst (λ v. ShowsOver (read_of processors (T.files c.args.tree.now)) state state v) (sym same) (shows_unread processors (T.files c.args.tree.now) state _ (c.in_err-table.ensures.units told))
-
-pub returns-in_err-taken-clause-shown : goal.returns-in_err-taken-clause-shown
-returns-in_err-taken-clause-shown g c = λ told said.
-    let T = g.T.Tree in
-    let C = g.C.Children in
-    let p = err_from_is_err_and c.from_residual-in_err-taken.result c.from_residual-in_err-taken.ensures.1 in
-    let same : closed c.from_residual-in_err-taken.result ≡ verdict (of_store c.in_err-taken.field-0.0) = ap closed p.1 ∙ ap verdict p.2 in
-    let read = read_of (shown_processors c.args.processor) (T.files c.args.tree.now) in
-    let state = C.state c.args.children.now in
-    subst (λ v. ShowsOver read state state v) (sym same) (shows_store read state c.in_err-taken.field-0.0)
-
-pub returns-in_err-finished-clause-shown : goal.returns-in_err-finished-clause-shown
-returns-in_err-finished-clause-shown g c = λ told said.
-    let T = g.T.Tree in
-    let C = g.C.Children in
-    let p = err_from_is_err_and c.from_residual-in_err-finished.result c.from_residual-in_err-finished.ensures.1 in
-    let same : closed c.from_residual-in_err-finished.result ≡ verdict c.in_err-finished.field-0.0 = ap closed p.1 ∙ ap verdict p.2 in
-    let processors = shown_processors c.args.processor in
-    let before = C.state c.args.children.now in
-    let after = C.state c.make.new.children in
-    subst (λ v. ShowsOver (read_of processors (T.files c.args.tree.now)) before after v) (sym same)
-    (shown_refused T.tells C.tells processors (T.files c.args.tree.now) c.in_ok-table.table before after c.in_ok-table.ensures.units
-    c.in_err-finished.field-0.0 c.in_err-finished.ensures.made c.in_err-finished.ensures.early told said)
-
-pub returns-clause-shown : goal.returns-clause-shown
-returns-clause-shown g c =
-    let T = g.T.Tree in
-    let C = g.C.Children in
-    shown_finished T.tells C.tells (shown_processors c.args.processor) (T.files c.args.tree.now) c.in_ok-table.table (C.state c.args.children.now) (C.state c.make.new.children) c.in_ok-table.ensures.units
-    c.in_ok-taken.taken c.in_ok-finished.finished c.in_ok-finished.ensures.numbered c.in_ok-finished.ensures.made (closed c.conclude.result) c.conclude.ensures.answer
 
 pub returns-in_err-taken-clause-written : goal.returns-in_err-taken-clause-written
 returns-in_err-taken-clause-written g c = λ told.
@@ -110,6 +82,190 @@ returns-in_err-finished-clause-written g c = λ told.
     let same : closed c.from_residual-in_err-finished.result ≡ verdict c.in_err-finished.field-0.0 = ap closed p.1 ∙ ap verdict p.2 in
     begins_with_nothing _ _ _ _ _ _ _ _ _ (ap is_finished same ∙ unfinished_early is_children _ c.in_err-finished.ensures.early) (ap (fails is_sink) same ∙ no_sink_early is_children _ refl c.in_err-finished.ensures.early)
 
+pub returns-clause-written : goal.returns-clause-written
+returns-clause-written g c = λ told.
+    let T = g.T.Tree in
+    let C = g.C.Children in
+    let W = g.W.Sink in
+    let adds = subst (λ names. Adds (λ text. IsFront ⊥ (concluding_report names c.in_ok-finished.finished) (closed c.conclude.result) text
+    × Told T.tells (GainsFirst (closed c.conclude.result) text (map numbered_of c.in_ok-finished.finished.files) (T.files c.taken_numbers.new.tree) (T.files c.conclude.new.tree))) (W.written c.args.output.now) (W.written c.conclude.new.output))
+    (c.in_ok-names.ensures ∙ names_are c.in_ok-project.project.key.processors) (c.conclude.ensures.written told) in
+    reports_finished T.tells C.tells c.args.options.now (T.files c.args.tree.now) (shown_project c.in_ok-project.project) (C.state c.args.children.now) (C.state c.make.new.children) c.in_ok-project.ensures.read
+    c.in_ok-taken.taken c.in_ok-finished.finished c.in_ok-finished.ensures.numbered c.in_ok-finished.ensures.made (closed c.conclude.result) c.conclude.ensures.answer
+    (T.files c.taken_numbers.new.tree) (T.files c.conclude.new.tree)
+    (λ t. subst (λ tree. AreTaken tree c.in_ok-taken.taken) (sym (c.in_ok-taken.ensures.same t)) (c.in_ok-taken.ensures.taken t))
+    (λ t. c.in_ok-taken.ensures.same t ∙ c.in_ok-project.ensures.same t)
+    (Rose (W.faults c.args.output.now) (W.faults c.conclude.new.output)) (W.written c.args.output.now) (W.written c.conclude.new.output) c.conclude.ensures.tree_fails adds
+
+-- ---- how many children are counted there
+
+pub returns-in_err-project-clause-counted : goal.returns-in_err-project-clause-counted
+returns-in_err-project-clause-counted g c = λ told.
+    let p = err_from_is_err_and c.from_residual.result c.from_residual.ensures.1 in
+    let same : closed c.from_residual.result ≡ verdict c.in_err-project.field-0.0 = ap closed p.1 ∙ ap verdict p.2 in
+    counts_none (closed c.from_residual.result) (ap is_finished same ∙ unfinished_early is_tree _ c.in_err-project.ensures.early)
+
+pub returns-in_err-names-clause-counted : goal.returns-in_err-names-clause-counted
+returns-in_err-names-clause-counted g c = λ told.
+    let p = err_from_is_err_and c.from_residual-in_err-names.result c.from_residual-in_err-names.ensures.1 in
+    let same : closed c.from_residual-in_err-names.result ≡ Memory = ap closed p.1 ∙ ap verdict p.2 in
+    counts_none (closed c.from_residual-in_err-names.result) (ap is_finished same)
+
+pub returns-in_err-taken-clause-counted : goal.returns-in_err-taken-clause-counted
+returns-in_err-taken-clause-counted g c = λ told.
+    let p = err_from_is_err_and c.from_residual-in_err-taken.result c.from_residual-in_err-taken.ensures.1 in
+    let same : closed c.from_residual-in_err-taken.result ≡ verdict (of_store c.in_err-taken.field-0.0) = ap closed p.1 ∙ ap verdict p.2 in
+    counts_none (closed c.from_residual-in_err-taken.result) (ap is_finished same ∙ unfinished_early is_tree _ (store_early c.in_err-taken.field-0.0))
+
+pub returns-in_err-finished-clause-counted : goal.returns-in_err-finished-clause-counted
+returns-in_err-finished-clause-counted g c = λ told.
+    let p = err_from_is_err_and c.from_residual-in_err-finished.result c.from_residual-in_err-finished.ensures.1 in
+    let same : closed c.from_residual-in_err-finished.result ≡ verdict c.in_err-finished.field-0.0 = ap closed p.1 ∙ ap verdict p.2 in
+    counts_none (closed c.from_residual-in_err-finished.result) (ap is_finished same ∙ unfinished_early is_children _ c.in_err-finished.ensures.early)
+
+pub returns-clause-counted : goal.returns-clause-counted
+returns-clause-counted g c = λ told.
+    let T = g.T.Tree in
+    let C = g.C.Children in
+    let W = g.W.Sink in
+    let before = C.state c.args.children.now in
+    let starts = c.in_ok-finished.ensures.uses.finished refl ∙ ap (λ n. before.starts + n) (count_tries c.in_ok-project.project.key ∙ sym c.in_ok-finished.ensures.started) in
+    counts_finished T.tells c.in_ok-names.names c.in_ok-finished.finished (closed c.conclude.result) before (C.state c.make.new.children)
+    (T.files c.taken_numbers.new.tree) (T.files c.conclude.new.tree) (W.written c.args.output.now) (W.written c.conclude.new.output) starts (c.conclude.ensures.written told)
+
+-- ---- what is done with children
+
+pub returns-in_err-project-clause-uses : goal.returns-in_err-project-clause-uses
+returns-in_err-project-clause-uses g c =
+    let p = err_from_is_err_and c.from_residual.result c.from_residual.ensures.1 in
+    let same : closed c.from_residual.result ≡ verdict c.in_err-project.field-0.0 = ap closed p.1 ∙ ap verdict p.2 in
+    uses_none _ _ _ _ _ _ (ap has_run same ∙ not_run_early is_tree _ refl c.in_err-project.ensures.early) (ap named_in same ∙ c.in_err-project.ensures.unnamed)
+
+pub returns-in_err-names-clause-uses : goal.returns-in_err-names-clause-uses
+returns-in_err-names-clause-uses g c =
+    let p = err_from_is_err_and c.from_residual-in_err-names.result c.from_residual-in_err-names.ensures.1 in
+    let same : closed c.from_residual-in_err-names.result ≡ Memory = ap closed p.1 ∙ ap verdict p.2 in
+    uses_none _ _ _ _ _ _ (ap has_run same) (ap named_in same)
+
+pub returns-in_err-taken-clause-uses : goal.returns-in_err-taken-clause-uses
+returns-in_err-taken-clause-uses g c =
+    let p = err_from_is_err_and c.from_residual-in_err-taken.result c.from_residual-in_err-taken.ensures.1 in
+    let same : closed c.from_residual-in_err-taken.result ≡ verdict (of_store c.in_err-taken.field-0.0) = ap closed p.1 ∙ ap verdict p.2 in
+    uses_none _ _ _ _ _ _ (ap has_run same ∙ not_run_early is_tree _ refl (store_early c.in_err-taken.field-0.0)) (ap named_in same ∙ store_unnamed c.in_err-taken.field-0.0)
+
+pub returns-in_err-finished-clause-uses : goal.returns-in_err-finished-clause-uses
+returns-in_err-finished-clause-uses g c =
+    let T = g.T.Tree in
+    let C = g.C.Children in
+    let key = c.in_ok-project.project.key in
+    let status = c.in_err-finished.field-0.0 in
+    let uses = c.in_err-finished.ensures.uses in
+    let p = err_from_is_err_and c.from_residual-in_err-finished.result c.from_residual-in_err-finished.ensures.1 in
+    let same : closed c.from_residual-in_err-finished.result ≡ verdict status = ap closed p.1 ∙ ap verdict p.2 in
+    uses_key T.tells C.tells c.args.options.now (T.files c.args.tree.now) key (C.state c.args.children.now) (C.state c.make.new.children)
+    (λ told. sym (ap processors_in (c.in_ok-project.ensures.read told))) c.in_ok-project.ensures.few (verdict status) (closed c.from_residual-in_err-finished.result) uses
+    (λ run. absurd (false≢true (sym (ap has_run same ∙ not_run_early is_children _ refl c.in_err-finished.ensures.early) ∙ run)))
+    (subst (λ v. IfSome (named_in v) (Contains (names_in key))) (sym same) uses.named)
+
+pub returns-clause-uses : goal.returns-clause-uses
+returns-clause-uses g c =
+    let T = g.T.Tree in
+    let C = g.C.Children in
+    let key = c.in_ok-project.project.key in
+    uses_key T.tells C.tells c.args.options.now (T.files c.args.tree.now) key (C.state c.args.children.now) (C.state c.make.new.children)
+    (λ told. sym (ap processors_in (c.in_ok-project.ensures.read told))) c.in_ok-project.ensures.few Done (closed c.conclude.result) c.in_ok-finished.ensures.uses
+    (λ run. refl) (subst (λ name. IfSome name (Contains (names_in key))) (sym (unnamed_concluded (closed c.conclude.result) c.conclude.ensures.concluded)) tt)
+
+-- ---- what is due
+
+pub returns-in_err-project-clause-due : goal.returns-in_err-project-clause-due
+returns-in_err-project-clause-due g c =
+    let p = err_from_is_err_and c.from_residual.result c.from_residual.ensures.1 in
+    let same : closed c.from_residual.result ≡ verdict c.in_err-project.field-0.0 = ap closed p.1 ∙ ap verdict p.2 in
+    due_unnamed (closed c.from_residual.result) (ap named_in same ∙ c.in_err-project.ensures.unnamed)
+
+pub returns-in_err-taken-clause-due : goal.returns-in_err-taken-clause-due
+returns-in_err-taken-clause-due g c =
+    let p = err_from_is_err_and c.from_residual-in_err-taken.result c.from_residual-in_err-taken.ensures.1 in
+    let same : closed c.from_residual-in_err-taken.result ≡ verdict (of_store c.in_err-taken.field-0.0) = ap closed p.1 ∙ ap verdict p.2 in
+    due_unnamed (closed c.from_residual-in_err-taken.result) (ap named_in same ∙ store_unnamed c.in_err-taken.field-0.0)
+
+pub returns-clause-due : goal.returns-clause-due
+returns-clause-due g c = due_concluded (closed c.conclude.result) c.conclude.ensures.concluded
+
+-- ---- what children are shown
+
+pub returns-in_err-project-clause-shown : goal.returns-in_err-project-clause-shown
+returns-in_err-project-clause-shown g c = λ told said.
+    let T = g.T.Tree in
+    let C = g.C.Children in
+    let p = err_from_is_err_and c.from_residual.result c.from_residual.ensures.1 in
+    let same : closed c.from_residual.result ≡ verdict c.in_err-project.field-0.0 = ap closed p.1 ∙ ap verdict p.2 in
+    let read = read_of c.args.options.now (T.files c.args.tree.now) in
+    let state = C.state c.args.children.now in
+    subst (λ v. ShowsOver read state state v) (sym same) (shows_unread read state (verdict c.in_err-project.field-0.0) (c.in_err-project.ensures.read told))
+
+pub returns-in_err-names-clause-shown : goal.returns-in_err-names-clause-shown
+returns-in_err-names-clause-shown g c = λ told said.
+    let T = g.T.Tree in
+    let C = g.C.Children in
+    let p = err_from_is_err_and c.from_residual-in_err-names.result c.from_residual-in_err-names.ensures.1 in
+    let same : closed c.from_residual-in_err-names.result ≡ Memory = ap closed p.1 ∙ ap verdict p.2 in
+    let read = read_of c.args.options.now (T.files c.args.tree.now) in
+    let state = C.state c.args.children.now in
+    subst (λ v. ShowsOver read state state v) (sym same) (shows_memory read state)
+
+pub returns-in_err-taken-clause-shown : goal.returns-in_err-taken-clause-shown
+returns-in_err-taken-clause-shown g c = λ told said.
+    let T = g.T.Tree in
+    let C = g.C.Children in
+    let p = err_from_is_err_and c.from_residual-in_err-taken.result c.from_residual-in_err-taken.ensures.1 in
+    let same : closed c.from_residual-in_err-taken.result ≡ verdict (of_store c.in_err-taken.field-0.0) = ap closed p.1 ∙ ap verdict p.2 in
+    let read = read_of c.args.options.now (T.files c.args.tree.now) in
+    let state = C.state c.args.children.now in
+    subst (λ v. ShowsOver read state state v) (sym same) (shows_store read state c.in_err-taken.field-0.0)
+
+pub returns-in_err-finished-clause-shown : goal.returns-in_err-finished-clause-shown
+returns-in_err-finished-clause-shown g c = λ told said.
+    let T = g.T.Tree in
+    let C = g.C.Children in
+    let p = err_from_is_err_and c.from_residual-in_err-finished.result c.from_residual-in_err-finished.ensures.1 in
+    let same : closed c.from_residual-in_err-finished.result ≡ verdict c.in_err-finished.field-0.0 = ap closed p.1 ∙ ap verdict p.2 in
+    let options = c.args.options.now in
+    let files = T.files c.args.tree.now in
+    let before = C.state c.args.children.now in
+    let after = C.state c.make.new.children in
+    subst (λ v. ShowsOver (read_of options files) before after v) (sym same)
+    (shown_refused T.tells C.tells options files (shown_project c.in_ok-project.project) before after c.in_ok-project.ensures.read
+    c.in_err-finished.field-0.0 c.in_err-finished.ensures.made c.in_err-finished.ensures.early told said)
+
+pub returns-clause-shown : goal.returns-clause-shown
+returns-clause-shown g c =
+    let T = g.T.Tree in
+    let C = g.C.Children in
+    shown_finished T.tells C.tells c.args.options.now (T.files c.args.tree.now) (shown_project c.in_ok-project.project) (C.state c.args.children.now) (C.state c.make.new.children) c.in_ok-project.ensures.read
+    c.in_ok-taken.taken c.in_ok-finished.finished c.in_ok-finished.ensures.numbered c.in_ok-finished.ensures.made (closed c.conclude.result) c.conclude.ensures.answer
+
+-- ---- what is published
+
+pub returns-in_err-project-clause-published : goal.returns-in_err-project-clause-published
+returns-in_err-project-clause-published g c =
+    let T = g.T.Tree in
+    let C = g.C.Children in
+    let p = err_from_is_err_and c.from_residual.result c.from_residual.ensures.1 in
+    let same : closed c.from_residual.result ≡ verdict c.in_err-project.field-0.0 = ap closed p.1 ∙ ap verdict p.2 in
+    publishes_not T.tells C.tells c.args.options.now (C.state c.args.children.now).says (T.files c.args.tree.now) (T.files c.read_project.new.tree) (closed c.from_residual.result)
+    (λ done. not_done_early is_tree (verdict c.in_err-project.field-0.0) c.in_err-project.ensures.early (sym same ∙ done))
+
+pub returns-in_err-finished-clause-published : goal.returns-in_err-finished-clause-published
+returns-in_err-finished-clause-published g c =
+    let T = g.T.Tree in
+    let C = g.C.Children in
+    let p = err_from_is_err_and c.from_residual-in_err-finished.result c.from_residual-in_err-finished.ensures.1 in
+    let same : closed c.from_residual-in_err-finished.result ≡ verdict c.in_err-finished.field-0.0 = ap closed p.1 ∙ ap verdict p.2 in
+    publishes_not T.tells C.tells c.args.options.now (C.state c.args.children.now).says (T.files c.args.tree.now) (T.files c.taken_numbers.new.tree) (closed c.from_residual-in_err-finished.result)
+    (λ done. not_done_early is_children (verdict c.in_err-finished.field-0.0) c.in_err-finished.ensures.early (sym same ∙ done))
+
 pub conclude-requires-clause-distinct : goal.conclude-requires-clause-distinct
 conclude-requires-clause-distinct g c = distinct_made c.in_ok-taken.taken c.in_ok-finished.finished c.in_ok-finished.ensures.numbered
 
@@ -121,17 +277,16 @@ pub returns-clause-published : goal.returns-clause-published
 returns-clause-published g c =
     let T = g.T.Tree in
     let C = g.C.Children in
-    let processors = shown_processors c.args.processor in
-    publishes_finished T.tells C.tells processors (T.files c.args.tree.now) c.in_ok-table.table (C.state c.args.children.now) (C.state c.make.new.children) c.in_ok-table.ensures.units
+    publishes_finished T.tells C.tells c.args.options.now (T.files c.args.tree.now) (shown_project c.in_ok-project.project) (C.state c.args.children.now) (C.state c.make.new.children) c.in_ok-project.ensures.read
     c.in_ok-taken.taken c.in_ok-finished.finished c.in_ok-finished.ensures.numbered c.in_ok-finished.ensures.made (closed c.conclude.result) c.conclude.ensures.answer
     (T.files c.taken_numbers.new.tree) (T.files c.conclude.new.tree)
     (λ told. subst (λ tree. AreTaken tree c.in_ok-taken.taken) (sym (c.in_ok-taken.ensures.same told)) (c.in_ok-taken.ensures.taken told))
-    (λ told. c.in_ok-taken.ensures.same told ∙ c.in_ok-table.ensures.same told) c.conclude.ensures.placed
+    (λ told. c.in_ok-taken.ensures.same told ∙ c.in_ok-project.ensures.same told) c.conclude.ensures.placed
 
 pub returns-clause-leaves : goal.returns-clause-leaves
 returns-clause-leaves g c = λ told.
     let T = g.T.Tree in
-    let same : T.files c.taken_numbers.new.tree ≡ T.files c.args.tree.now = c.in_ok-taken.ensures.same told ∙ c.in_ok-table.ensures.same told in
+    let same : T.files c.taken_numbers.new.tree ≡ T.files c.args.tree.now = c.in_ok-taken.ensures.same told ∙ c.in_ok-project.ensures.same told in
     let taken = subst (λ tree. AreTaken tree c.in_ok-taken.taken) (sym (c.in_ok-taken.ensures.same told)) (c.in_ok-taken.ensures.taken told) in
     subst (λ old. Leaves (closed c.conclude.result) old (T.files c.conclude.new.tree)) same
     (leaves_all c.in_ok-taken.taken c.in_ok-finished.finished c.in_ok-finished.ensures.numbered (closed c.conclude.result) (T.files c.taken_numbers.new.tree) (T.files c.conclude.new.tree) taken (c.conclude.ensures.placed told) (c.conclude.ensures.leaves told))
@@ -139,23 +294,7 @@ returns-clause-leaves g c = λ told.
 pub returns-clause-stand : goal.returns-clause-stand
 returns-clause-stand g c = λ told stand.
     let T = g.T.Tree in
-    let same : T.files c.taken_numbers.new.tree ≡ T.files c.args.tree.now = c.in_ok-taken.ensures.same told ∙ c.in_ok-table.ensures.same told in
+    let same : T.files c.taken_numbers.new.tree ≡ T.files c.args.tree.now = c.in_ok-taken.ensures.same told ∙ c.in_ok-project.ensures.same told in
     let taken = subst (λ tree. AreTaken tree c.in_ok-taken.taken) (sym (c.in_ok-taken.ensures.same told)) (c.in_ok-taken.ensures.taken told) in
     stores_stand c.in_ok-taken.taken c.in_ok-finished.finished c.in_ok-finished.ensures.numbered (closed c.conclude.result) (T.files c.taken_numbers.new.tree) (T.files c.conclude.new.tree) taken (c.conclude.ensures.placed told) (c.conclude.ensures.leaves told)
     (subst StoresStand (sym same) stand)
-
-pub returns-clause-written : goal.returns-clause-written
-returns-clause-written g c = λ told.
-    let T = g.T.Tree in
-    let C = g.C.Children in
-    let W = g.W.Sink in
-    let processors = shown_processors c.args.processor in
-    let adds = subst (λ names. Adds (λ text. IsFront ⊥ (concluding_report names c.in_ok-finished.finished) (closed c.conclude.result) text
-    × Told T.tells (GainsFirst (closed c.conclude.result) text (map numbered_of c.in_ok-finished.finished.files) (T.files c.taken_numbers.new.tree) (T.files c.conclude.new.tree))) (W.written c.args.output.now) (W.written c.conclude.new.output))
-    c.in_ok-names.ensures (c.conclude.ensures.written told) in
-    reports_finished T.tells C.tells processors (T.files c.args.tree.now) c.in_ok-table.table (C.state c.args.children.now) (C.state c.make.new.children) c.in_ok-table.ensures.units
-    c.in_ok-taken.taken c.in_ok-finished.finished c.in_ok-finished.ensures.numbered c.in_ok-finished.ensures.made (closed c.conclude.result) c.conclude.ensures.answer
-    (T.files c.taken_numbers.new.tree) (T.files c.conclude.new.tree)
-    (λ t. subst (λ tree. AreTaken tree c.in_ok-taken.taken) (sym (c.in_ok-taken.ensures.same t)) (c.in_ok-taken.ensures.taken t))
-    (λ t. c.in_ok-taken.ensures.same t ∙ c.in_ok-table.ensures.same t)
-    (Rose (W.faults c.args.output.now) (W.faults c.conclude.new.output)) (W.written c.args.output.now) (W.written c.conclude.new.output) c.conclude.ensures.tree_fails adds

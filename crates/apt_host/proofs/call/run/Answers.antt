@@ -3,8 +3,11 @@ use Rattle.std.proofs.lemmas.Grind.{common_steps}
 use Rattle.apt_outside.specs.Count.{Rose}
 use Rattle.apt_host.specs.Shown.{asked}
 use Rattle.apt_host.specs.Verdicts.{verdict}
+use Rattle.apt_host.proofs.Counting.{nothing_added}
+use Rattle.apt_host.proofs.Using.{uses_after, counts_after}
 use Rattle.apt_host.proofs.Writing.{written_all}
-use Rattle.apt_host.proofs.Leaving.{starts_finish, shows_finish, names_finish, due_finish}
+use Rattle.apt_host.proofs.Leaving.{leaves_finish, shows_finish, due_finish}
+use Rattle.apt_host.proofs.UnreadWords.{answers_finish, publishes_finish}
 use Rattle.apt_host.proofs.call.run.Goals as goal
 
 -- a count that rose in a part of the call rose in the whole
@@ -14,19 +17,30 @@ rose_before old mid new later rose = grind (arith, common_steps)
 rose_behind : (old mid new : ℕ) → old ≤ mid → Rose mid new → Rose old new
 rose_behind old mid new later rose = grind (arith, common_steps)
 
-pub returns-clause-starts : goal.returns-clause-starts
-returns-clause-starts g c =
+pub returns-clause-answer : goal.returns-clause-answer
+returns-clause-answer g c =
+    let T = g.T.Tree in
     let C = g.C.Children in
-    starts_finish (asked c.args.words.now) (verdict c.work-status.result) (verdict c.finish.result) (C.state c.args.children.now) (C.state c.work-status.new.children) c.finish.ensures.status c.work-status.ensures.starts
+    answers_finish T.tells C.tells (asked c.args.words.now) (C.state c.args.children.now).says (T.files c.args.tree.now)
+    (verdict c.work-status.result) (verdict c.finish.result) c.finish.ensures.status c.work-status.ensures.answer
+
+pub returns-clause-published : goal.returns-clause-published
+returns-clause-published g c =
+    let T = g.T.Tree in
+    let C = g.C.Children in
+    publishes_finish T.tells C.tells (asked c.args.words.now) (C.state c.args.children.now).says (T.files c.args.tree.now) (T.files c.work-status.new.tree)
+    (verdict c.work-status.result) (verdict c.finish.result) c.finish.ensures.status c.work-status.ensures.published
+
+pub returns-clause-leaves : goal.returns-clause-leaves
+returns-clause-leaves g c = λ told.
+    let T = g.T.Tree in
+    leaves_finish (verdict c.work-status.result) (verdict c.finish.result) (T.files c.args.tree.now) (T.files c.work-status.new.tree) c.finish.ensures.status (c.work-status.ensures.leaves told)
 
 pub returns-clause-shown : goal.returns-clause-shown
 returns-clause-shown g c = λ told said.
     let T = g.T.Tree in
     let C = g.C.Children in
     shows_finish (asked c.args.words.now) (T.files c.args.tree.now) (verdict c.work-status.result) (verdict c.finish.result) (C.state c.args.children.now) (C.state c.work-status.new.children) c.finish.ensures.status (c.work-status.ensures.shown told said)
-
-pub returns-clause-named : goal.returns-clause-named
-returns-clause-named g c = names_finish (asked c.args.words.now) (verdict c.work-status.result) (verdict c.finish.result) c.finish.ensures.status c.work-status.ensures.named
 
 pub returns-clause-due : goal.returns-clause-due
 returns-clause-due g c = due_finish (verdict c.work-status.result) (verdict c.finish.result) c.finish.ensures.status c.work-status.ensures.due
@@ -45,3 +59,19 @@ returns-clause-written g c = λ told.
     c.finish.ensures.status (rose_before old mid new c.finish.ensures.later) (rose_behind old mid new c.work-status.ensures.sink_cause.later)
     (λ fails. rose_before old mid new c.finish.ensures.later (c.work-status.ensures.sink_cause.rose fails))
     (c.work-status.ensures.written told) (c.finish.ensures.line told)
+
+pub returns-clause-uses : goal.returns-clause-uses
+returns-clause-uses g c =
+    let T = g.T.Tree in
+    let C = g.C.Children in
+    uses_after T.tells C.tells (asked c.args.words.now) (T.files c.args.tree.now) (verdict c.work-status.result) (verdict c.finish.result)
+    (C.state c.args.children.now) (C.state c.work-status.new.children) c.finish.ensures.status c.work-status.ensures.uses
+
+pub returns-clause-counted : goal.returns-clause-counted
+returns-clause-counted g c = λ told.
+    let C = g.C.Children in
+    let W = g.W.Sink in
+    let mid = W.written c.work-status.new.output in
+    let new = W.written c.finish.new.output in
+    counts_after (verdict c.work-status.result) (verdict c.finish.result) (C.state c.args.children.now) (C.state c.work-status.new.children) (W.written c.args.output.now) mid new
+    c.finish.ensures.status (nothing_added (verdict c.finish.result) (Rose (W.faults c.work-status.new.output) (W.faults c.finish.new.output)) mid new (c.finish.ensures.line told)) (c.work-status.ensures.counted told)

@@ -1,6 +1,66 @@
-use Rattle.std.proofs.Common.{refl}
+use Rattle.std.proofs.Common.{◌≡◌, true, false, refl, sym, subst}
+use Rattle.apt_host.specs.Words.{Build}
+use Rattle.apt_host.specs.Shown.{asked}
+use Rattle.apt_host.specs.Endings.{closed}
+use Rattle.apt_host.specs.Promises.{Answers, PublishesClean}
+use Rattle.apt_host.proofs.Using.{uses_none}
 use Rattle.apt_host.proofs.Writing.{begins_with_nothing}
+use Rattle.apt_host.proofs.UnreadWords.{off_table_unread, answers_unread, publishes_unread, shows_unread_words}
 use Rattle.apt_host.proofs.call.work.Goals as goal
 
-pub returns-in-Bad-clause-written : goal.returns-in-Bad-clause-written
-returns-in-Bad-clause-written g c = λ told. begins_with_nothing _ _ _ _ _ _ _ _ _ refl refl
+-- ---- a build
+
+pub returns-in-Ok-Build-clause-answer : goal.returns-in-Ok-Build-clause-answer
+returns-in-Ok-Build-clause-answer g c =
+    let T = g.T.Tree in
+    let C = g.C.Children in
+    let says = (C.state c.args.children.now).says in
+    let files = T.files c.args.tree.now in
+    let words_are : Build c.in-Ok-Build.options ≡ asked c.args.words.now = rw c.in-Ok-Build.field-0-is at c.in-Ok-Build.ensures in
+    subst (λ v. Answers T.tells C.tells (asked c.args.words.now) says files v) (sym c.status_of.ensures)
+    (subst (λ request. Answers T.tells C.tells request says files (closed c.build.result)) words_are c.build.ensures.answer)
+
+pub returns-in-Ok-Build-clause-published : goal.returns-in-Ok-Build-clause-published
+returns-in-Ok-Build-clause-published g c =
+    let T = g.T.Tree in
+    let C = g.C.Children in
+    let says = (C.state c.args.children.now).says in
+    let old = T.files c.args.tree.now in
+    let new = T.files c.build.new.tree in
+    let words_are : Build c.in-Ok-Build.options ≡ asked c.args.words.now = rw c.in-Ok-Build.field-0-is at c.in-Ok-Build.ensures in
+    subst (λ v. PublishesClean T.tells C.tells (asked c.args.words.now) says old new v) (sym c.status_of.ensures)
+    (subst (λ request. PublishesClean T.tells C.tells request says old new (closed c.build.result)) words_are c.build.ensures.published)
+
+-- ---- words that no command has
+
+pub returns-in-Ok-Bad-clause-written : goal.returns-in-Ok-Bad-clause-written
+returns-in-Ok-Bad-clause-written g c = λ told. begins_with_nothing _ _ _ _ _ _ _ _ _ refl refl
+
+pub returns-in-Ok-Bad-clause-uses : goal.returns-in-Ok-Bad-clause-uses
+returns-in-Ok-Bad-clause-uses g c = uses_none _ _ _ _ _ _ refl refl
+
+pub returns-in-Ok-Bad-clause-counted : goal.returns-in-Ok-Bad-clause-counted
+returns-in-Ok-Bad-clause-counted g c = λ told done. absurd (let e : false ≡ true = done in cc)
+
+-- ---- words for which there was no memory
+
+pub returns-in-Err-clause-written : goal.returns-in-Err-clause-written
+returns-in-Err-clause-written g c = λ told. begins_with_nothing _ _ _ _ _ _ _ _ _ refl refl
+
+pub returns-in-Err-clause-uses : goal.returns-in-Err-clause-uses
+returns-in-Err-clause-uses g c = uses_none _ _ _ _ _ _ refl refl
+
+pub returns-in-Err-clause-counted : goal.returns-in-Err-clause-counted
+returns-in-Err-clause-counted g c = λ told done. absurd (let e : false ≡ true = done in cc)
+
+pub returns-in-Err-clause-off_table : goal.returns-in-Err-clause-off_table
+returns-in-Err-clause-off_table g c = off_table_unread (asked c.args.words.now) _ _
+
+pub returns-in-Err-clause-answer : goal.returns-in-Err-clause-answer
+returns-in-Err-clause-answer g c = answers_unread g.T.Tree.tells g.C.Children.tells (asked c.args.words.now) _ _
+
+pub returns-in-Err-clause-published : goal.returns-in-Err-clause-published
+returns-in-Err-clause-published g c = publishes_unread g.T.Tree.tells g.C.Children.tells (asked c.args.words.now) _ _ _
+
+pub returns-in-Err-clause-shown : goal.returns-in-Err-clause-shown
+returns-in-Err-clause-shown g c = λ told said. shows_unread_words (asked c.args.words.now) _ _

@@ -1,0 +1,104 @@
+-- From what reading and settling a configuration give to what a project's run is told.
+use Rattle.std.proofs.Common.{◌≡◌, ℕ, ◌≤◌, true, false, cond, List, [], ◌∷◌, map, length, None, Some, Ok, Err, refl, sym, ap, ◌∙◌, subst, arith}
+use Rattle.std.proofs.lemmas.List.{length-map}
+use Rattle.apt_base.specs.declared.kinds.What.TheVariants as what
+use Rattle.apt_outside.specs.Files.{Files}
+use Rattle.apt_outside.specs.Child.{Try}
+use Rattle.tree_store.specs.declared.config.RawLists.{RawLists}
+use Rattle.tree_store.specs.declared.fault.ConfigReadFault.{ConfigReadFault}
+use Rattle.tree_store.specs.declared.fault.ConfigReadFault.TheVariants as reads
+use Rattle.tree_store.specs.Cause.{HasConfigCause}
+use Rattle.tree_store.specs.Config as tree
+use Rattle.project_config.specs.declared.fault.ConfigFault.{ConfigFault}
+use Rattle.project_config.specs.declared.fault.ConfigFault.TheVariants as wrong
+use Rattle.project_config.specs.declared.settings.Settings.{Settings}
+use Rattle.project_config.specs.Answers as reading
+use Rattle.project_config.specs.Discovery.{settings_of}
+use Rattle.project_config.specs.Settled.{IsSettled}
+use Rattle.round_engine.specs.declared.project.Key.{Key}
+use Rattle.round_engine.specs.Refusals.{past}
+use Rattle.round_engine.specs.Run.{Plan}
+use Rattle.round_engine.specs.Clean.{plan_of, try_of, inits_fit}
+use Rattle.round_engine.specs.Units.{and_then}
+use Rattle.apt_host.specs.Words.{Options}
+use Rattle.apt_host.specs.Configuration.{Configuration, within, lists_in, with_lists, lists_behind, files_of, said, on_form, settings_in, try_in, plan_in, fitting}
+use Rattle.apt_host.specs.Verdicts.{is_tree, named_in, HasCause}
+use Rattle.apt_host.specs.Endings.{EndsEarly}
+use Rattle.apt_host.specs.Entering.{of_read, of_config, RefusesAs}
+
+-- ---- the files
+
+-- one that was not read
+pub read_as : {A : Type 0} (due : tree.Reading A) (fault : ConfigReadFault) → tree.Answers (Err fault) due → RefusesAs (within due) (of_read fault)
+read_as due reads.Failed answers = refl
+read_as due (reads.TooLarge file) answers = ap within answers
+read_as due reads.Memory answers = tt
+
+pub early_read : (fault : ConfigReadFault) → EndsEarly is_tree (of_read fault)
+early_read reads.Failed = refl
+early_read (reads.TooLarge file) = tt
+early_read reads.Memory = tt
+
+pub unnamed_read : (fault : ConfigReadFault) → named_in (of_read fault) ≡ None
+unnamed_read reads.Failed = refl
+unnamed_read (reads.TooLarge file) = refl
+unnamed_read reads.Memory = refl
+
+pub cause_read : {A : Type 0} (fault : ConfigReadFault) (before now : ℕ) → HasConfigCause {T = A} before now (Err fault) → HasCause is_tree (of_read fault) before now
+cause_read reads.Failed before now cause = record { later = cause.later; rose = λ fails. cause.failed refl }
+cause_read (reads.TooLarge file) before now cause = record { later = cause.later; rose = λ fails. absurd cc }
+cause_read reads.Memory before now cause = record { later = cause.later; rose = λ fails. absurd cc }
+
+module _ (project : Files) (config : tree.Bytes) (is : tree.config_of project ≡ Ok config) where
+  pub files_behind : files_of project ≡ lists_behind project config
+  files_behind = ap (λ r. and_then (within r) (lists_behind project)) is
+
+  pub files_are : (lists : RawLists) → lists_in project config ≡ Ok lists → files_of project ≡ with_lists config lists
+  files_are lists rest = files_behind ∙ ap (λ r. and_then (within r) (with_lists config)) rest
+
+-- a file of lines that is within the limit says no more
+pub said_short : (file : tree.Bytes) → tree.IsShort file → length (said file) ≤ 1048576
+said_short None short = omega arith
+said_short (Some bytes) short = short
+
+-- ---- what they say
+
+-- what is off its form
+pub form_as : {A : Type 0} (due : reading.Reading A) (fault : ConfigFault) → reading.OrMemory {A = A} (Err fault) due → RefusesAs (on_form due) (of_config fault)
+form_as due wrong.Json is = ap on_form is
+form_as due (wrong.Item place) is = ap on_form is
+form_as due (wrong.ServiceLine line) is = ap on_form is
+form_as due (wrong.KindLine line) is = ap on_form is
+form_as due wrong.TooManyProcessors is = ap on_form is
+form_as due (wrong.UnknownProcessor name) is = ap on_form is
+form_as due wrong.Memory is = tt
+
+pub settings_are : (options : Options) (c : Configuration) (settings : Settings) → settings_of c.config (said c.lists.services) (said c.lists.kinds) options ≡ Ok settings → settings_in options c ≡ Ok settings
+settings_are options c settings is = ap on_form is
+
+-- ---- the first frames
+
+pub fits : (plan : Plan) → inits_fit plan ≡ true → fitting plan ≡ Ok plan
+fits plan is = ap (λ b. cond b (Ok plan) (Err (past what.Frame))) is
+
+pub fits_not : (plan : Plan) → inits_fit plan ≡ false → fitting plan ≡ Err (past what.Frame)
+fits_not plan is = ap (λ b. cond b (Ok plan) (Err (past what.Frame))) is
+
+-- ---- the key
+
+abbrev plan_with : ℕ → Options → List Try → Plan
+plan_with level options tries = record { level = level; options = options; processors = tries }
+
+pub plans_same : (level : ℕ) (options : Options) (tries others : List Try) → tries ≡ others → plan_with level options tries ≡ plan_with level options others
+plans_same level options tries others same = ap (plan_with level options) same
+
+-- a key of settled settings has no more processors than these
+module _ (key : Key) (settings : Settings) (same : plan_of key ≡ plan_in settings) (settled : IsSettled settings) where
+  tries_are : map try_of key.processors ≡ map try_in settings.processors
+  tries_are = ap (λ (plan : Plan). plan.processors) same
+
+  count_is : length key.processors ≡ length settings.processors
+  count_is = sym (length-map key.processors try_of) ∙ ap length tries_are ∙ length-map settings.processors try_in
+
+  pub few_key : length key.processors ≤ 64
+  few_key = subst (λ n. n ≤ 64) (sym count_is) settled.few

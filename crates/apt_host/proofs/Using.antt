@@ -1,0 +1,98 @@
+-- What a build does with children, from what its run does, and that nothing is done before it.
+use Rattle.std.proofs.Common.{◌≡◌, ◌≢◌, ℕ, ◌+◌, ◌≤◌, Bool, true, false, List, [], length, map, None, IfSome, Contains, refl, sym, ap, ◌∙◌, subst, append-nil, arith}
+use Rattle.std.proofs.lemmas.Bool.{false≢true}
+use Rattle.apt_outside.specs.Count.{Told}
+use Rattle.apt_outside.specs.Files.{Files}
+use Rattle.apt_outside.specs.Child.{Try, State}
+use Rattle.round_engine.specs.declared.project.Key.{Key}
+use Rattle.round_engine.specs.Clean.{tries_in, names_in}
+use Rattle.apt_host.specs.Words.{Options, Request, Build, Bad}
+use Rattle.apt_host.specs.Verdicts.{Verdict, Done, is_finished, has_run, named_in}
+use Rattle.apt_host.specs.Promises.{AreRead, Uses, Counts, Finishes, processors_of}
+use Rattle.apt_host.specs.Builds.{UsesKey}
+use Rattle.apt_host.proofs.MakingLemmas.{names_are, count_tries}
+use Rattle.apt_host.proofs.Writing.{memory_or_not}
+
+-- ---- before a run
+
+are_read : (tells : Bool) (request : Request) (project : Files) → AreRead tells request project (processors_of request project)
+are_read tells (Build options) project = λ told. refl
+are_read tells (Bad at) project = refl
+
+-- nothing was started or tried
+pub uses_none : (tells talks : Bool) (request : Request) (project : Files) (v : Verdict) (state : State) → has_run v ≡ false → named_in v ≡ None
+    → Uses tells talks request project v state state
+uses_none tells talks request project v state stops none =
+    let read = processors_of request project in
+    record {
+      processors = read;
+      are = are_read tells request project;
+      finished = λ run. absurd (false≢true (sym stops ∙ run));
+      least = omega arith;
+      most = omega arith;
+      few = omega arith;
+      named = subst (λ name. IfSome name (Contains (map (λ (processor : Try). processor.0) read))) (sym none) tt;
+      tried = λ told. record { count = 0; few = omega arith; tried = sym (append-nil state.tried) };
+      more = λ told. record { group = []; few = omega arith; tells = record { different = tt; unknown = tt; others = λ child outside. refl } };
+    }
+
+-- and nothing is counted: such a build did not finish
+pub counts_none : {P : Type 0} (v : Verdict) → is_finished v ≡ false → is_finished v ≡ true → P
+counts_none v unfinished done = absurd (false≢true (sym unfinished ∙ done))
+
+-- ---- behind a run
+
+-- what a run did for the processors of its key was done for those of the project
+module _ (tells talks : Bool) (options : Options) (project : Files) (key : Key) (old new : State) (are : Told tells (tries_in key ≡ processors_of (Build options) project)) (few : length key.processors ≤ 64) where
+  most_here : length (tries_in key) ≤ 64
+  most_here = subst (λ n. n ≤ 64) (sym (count_tries key)) few
+
+  pub uses_key : (v w : Verdict) → UsesKey talks key v old new → (has_run w ≡ true → v ≡ Done) → IfSome (named_in w) (Contains (names_in key))
+      → Uses tells talks (Build options) project w old new
+  uses_key v w uses done named =
+      let most : new.starts ≤ old.starts + length (tries_in key) = uses.most in
+      record {
+        processors = tries_in key;
+        are = are;
+        finished = λ run. uses.finished (done run);
+        least = uses.least;
+        most = most;
+        few = omega (arith, most, most_here);
+        named = subst (λ names. IfSome (named_in w) (Contains names)) (names_are key.processors) named;
+        tried = uses.tried;
+        more = uses.more;
+      }
+
+-- ---- behind the line of a refusal
+
+-- it is none of a run that was finished, but where the output failed
+still_run : (v w : Verdict) → Finishes v w → has_run w ≡ true → has_run v ≡ true
+still_run v w finishes run = memory_or_not w (has_run v ≡ true)
+    (λ memory. absurd (let e : false ≡ true = sym (ap has_run memory) ∙ run in cc))
+    (λ ne. sym (ap has_run (finishes.same ne)) ∙ run)
+
+still_finished : (v w : Verdict) → Finishes v w → is_finished w ≡ true → is_finished v ≡ true
+still_finished v w finishes done = memory_or_not w (is_finished v ≡ true)
+    (λ memory. absurd (let e : false ≡ true = sym (ap is_finished memory) ∙ done in cc))
+    (λ ne. sym (ap is_finished (finishes.same ne)) ∙ done)
+
+pub uses_after : (tells talks : Bool) (request : Request) (project : Files) (v w : Verdict) (old new : State) → Finishes v w → Uses tells talks request project v old new → Uses tells talks request project w old new
+uses_after tells talks request project v w old new finishes uses = record {
+  processors = uses.processors;
+  are = uses.are;
+  finished = λ run. uses.finished (still_run v w finishes run);
+  least = uses.least;
+  most = uses.most;
+  few = uses.few;
+  named = memory_or_not w (IfSome (named_in w) (Contains (map (λ (processor : Try). processor.0) uses.processors)))
+      (λ memory. subst (λ u. IfSome (named_in u) (Contains (map (λ (processor : Try). processor.0) uses.processors))) (sym memory) tt)
+      (λ ne. subst (λ u. IfSome (named_in u) (Contains (map (λ (processor : Try). processor.0) uses.processors))) (sym (finishes.same ne)) uses.named);
+  tried = uses.tried;
+  more = uses.more;
+}
+
+-- a report stays where no line is added to it
+pub counts_after : (v w : Verdict) (old new : State) (before mid after : List ℕ) → Finishes v w → (is_finished w ≡ true → after ≡ mid) → Counts v old new before mid → Counts w old new before after
+counts_after v w old new before mid after finishes same counts = λ done.
+    let counted = counts (still_finished v w finishes done) in
+    (counted.0, counted.1, counted.2, same done ∙ counted.3)

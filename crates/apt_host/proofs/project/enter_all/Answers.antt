@@ -1,0 +1,5 @@
+use Rattle.apt_host.proofs.Units.{stops_least}
+use Rattle.apt_host.proofs.project.enter_all.Goals as goal
+
+pub returns-clause-least : goal.returns-clause-least
+returns-clause-least c = stops_least c.args.sources.now c.enter_each.result c.enter_each.ensures.units

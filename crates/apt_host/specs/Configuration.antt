@@ -1,0 +1,94 @@
+-- What the three files of a project's configuration and the options of the words come to, or the first refusal. All files are read before any is looked into:
+-- one that is too large is told before one that is off its form. The file of services is read only where `apt.json` has no order.
+use Rattle.std.specs.Prelude.{ℕ, not, List, [], None, Some, map, Result, Ok, Err, if◌then◌else◌}
+use Rattle.apt_base.specs.declared.kinds.What.TheVariants as what
+use Rattle.apt_outside.specs.Files.{Files}
+use Rattle.apt_outside.specs.Child.{Try}
+use Rattle.tree_store.specs.declared.config.ConfigFile.TheVariants as file
+use Rattle.tree_store.specs.declared.config.RawLists.{RawLists}
+use Rattle.tree_store.specs.Config as tree
+use Rattle.project_config.specs.declared.fault.ConfigFault.{ConfigFault}
+use Rattle.project_config.specs.declared.fault.ConfigFault.TheVariants as wrong
+use Rattle.project_config.specs.declared.processor.Processor.{Processor}
+use Rattle.project_config.specs.declared.settings.Settings.{Settings}
+use Rattle.project_config.specs.Answers as reading
+use Rattle.project_config.specs.Reading.{has_order}
+use Rattle.project_config.specs.Discovery.{settings_of}
+use Rattle.round_engine.specs.Refusals.{Refusal, BadConfig, UnknownProcessor, Json, Item, Line, past}
+use Rattle.round_engine.specs.Units.{and_then}
+use Rattle.round_engine.specs.Run.{Plan}
+use Rattle.round_engine.specs.Clean.{inits_fit}
+use Rattle.apt_host.specs.Words.{Options}
+
+-- ---- the bytes
+
+-- of each file its bytes, where it is there and is read
+pub record Configuration : Type 0 where
+  pub config : tree.Bytes
+  pub lists : RawLists
+
+-- the one fault of files that are told is that one is too large
+abbrev pub within : {A : Type 0} → tree.Reading A → Result A Refusal
+within (Ok value) = Ok value
+within (Err fault) = Err (past what.ConfigBytes)
+
+-- the file of services is asked for where `apt.json` has no order
+abbrev pub lists_in : Files → tree.Bytes → tree.Reading RawLists
+lists_in project config = tree.lists_of (not (has_order config)) project
+
+abbrev pub with_lists : tree.Bytes → RawLists → Result Configuration Refusal
+with_lists config lists = Ok (record { config = config; lists = lists })
+
+abbrev pub lists_behind : Files → tree.Bytes → Result Configuration Refusal
+lists_behind project config = and_then (within (lists_in project config)) (with_lists config)
+
+-- the files of a project, or the refusal of the first that is too large
+abbrev pub files_of : Files → Result Configuration Refusal
+files_of project = and_then (within (tree.config_of project)) (lists_behind project)
+
+-- ---- what they say
+
+-- an absent file of lines says nothing
+abbrev pub said : tree.Bytes → List ℕ
+said None = []
+said (Some bytes) = bytes
+
+-- Why a configuration is refused. No definition wants memory: that case does not come.
+abbrev pub refusal_by : ConfigFault → Refusal
+refusal_by wrong.Json = BadConfig (tree.path_of file.Config) Json
+refusal_by (wrong.Item place) = BadConfig (tree.path_of file.Config) (Item place)
+refusal_by (wrong.ServiceLine line) = BadConfig (tree.path_of file.Services) (Line line)
+refusal_by (wrong.KindLine line) = BadConfig (tree.path_of file.Kinds) (Line line)
+refusal_by wrong.TooManyProcessors = past what.Processors
+refusal_by (wrong.UnknownProcessor name) = UnknownProcessor name
+refusal_by wrong.Memory = BadConfig [] Json
+
+abbrev pub on_form : {A : Type 0} → reading.Reading A → Result A Refusal
+on_form (Ok value) = Ok value
+on_form (Err fault) = Err (refusal_by fault)
+
+-- the level, the options and the processors, or the first refusal
+abbrev pub settings_in : Options → Configuration → Result Settings Refusal
+settings_in options c = on_form (settings_of c.config (said c.lists.services) (said c.lists.kinds) options)
+
+-- ---- what a run is told
+
+abbrev pub try_in : Processor → Try
+try_in processor = (processor.name, processor.command)
+
+abbrev pub plan_in : Settings → Plan
+plan_in settings = record { level = settings.level; options = settings.options; processors = map try_in settings.processors }
+
+-- the first frame to each processor is within the limit of a frame
+abbrev pub fitting : Plan → Result Plan Refusal
+fitting plan = if inits_fit plan then Ok plan else Err (past what.Frame)
+
+abbrev pub settings_fit : Settings → Result Plan Refusal
+settings_fit settings = fitting (plan_in settings)
+
+abbrev pub plan_by : Options → Configuration → Result Plan Refusal
+plan_by options c = and_then (settings_in options c) settings_fit
+
+-- what the run of a project is told, with these options of the words, or the first refusal of its configuration
+abbrev pub plan_for : Options → Files → Result Plan Refusal
+plan_for options project = and_then (files_of project) (plan_by options)
