@@ -2,7 +2,7 @@
 use crate::Outside;
 use crate::answers::{bytes_or_none, done, number, ok};
 use apt_outside::{Children, Script, ScriptChildren};
-use case_lines::{CaseFault, escaped, joined, text, text_bytes, texts};
+use case_lines::{CaseFault, escaped, hex_digits, joined, text, text_bytes, texts};
 use std::alloc::Global;
 
 impl Outside {
@@ -15,6 +15,7 @@ impl Outside {
             ["tried"] => self.tried(alloc),
             ["faults"] => number(alloc, Ok(self.children.faults)),
             ["sent", child] => { bytes_or_none(alloc, self.children.sent(child.parse::<u32>()?)) }
+            ["frames", child] => self.frames(alloc, child.parse::<u32>()?),
             [call, child, sent @ ..] => self.call_child(alloc, call, child.parse::<u32>()?, sent),
             _ => Err(CaseFault::NotACase),
         }
@@ -75,6 +76,18 @@ impl Outside {
         let mut words = Vec::new(alloc);
         for child in &self.children.live {
             words.push(format!(in alloc; "{child}")?)?;
+        }
+        joined(alloc, &words)
+    }
+
+    // The frames that a child was sent, or `none` where there is no such child.
+    fn frames(&self, alloc: Global, child: u32) -> Result<String, CaseFault> {
+        let Some(started) = self.children.started.get(child as usize) else {
+            return bytes_or_none(alloc, None);
+        };
+        let mut words = Vec::new(alloc);
+        for frame in &started.sent {
+            words.push(hex_digits(alloc, frame)?)?;
         }
         joined(alloc, &words)
     }

@@ -1,10 +1,15 @@
-//! Prints a table of calls of what stands outside the host, of the filer, of the store and of the numbers of files, with what
-//! each gives.
+//! Prints a table of calls of what stands outside the host, of the filer, of the store, of the numbers of files and of the run
+//! over a list of processors, with what each gives.
 //!
 //! A line names an object in memory and a call of it. The lines act one after the other, until a line `new` begins with fresh
 //! objects, and `tree new` and the like with one fresh object: `tree new 2 4` makes an empty tree whose second and fourth call
 //! are to fail, `source new abc 2` a source of these bytes whose second call is to fail, `sink new 2` the like of a sink. The
 //! library `case_lines` says how texts and lists are written; the bytes of files, streams and children are written as texts.
+//!
+//! A run has the sources and the processors that lines before it named, `run source` with the file's text and `run processor` with a name
+//! and with what its child says, the k-th after k frames, as bytes. `run clean` runs it with fresh children, of which the calls of
+//! children tell then, `children frames` the frames that one was sent, as bytes. It gives counts, the files with their numbers, the
+//! messages, each as round, processor, number, kind and text, and the names of the sources that are not read; or the refusal.
 #![tactic(auto)]
 
 mod answers;
@@ -13,15 +18,16 @@ mod child_calls;
 mod config_calls;
 mod filer_calls;
 mod number_calls;
+mod run_calls;
 mod store_calls;
 mod stream_calls;
 mod tree_calls;
 
 use apt_filer::Filer;
-use apt_outside::{MemorySink, MemorySource, MemoryTree, ScriptChildren};
+use apt_outside::{MemorySink, MemorySource, MemoryTree, Script, ScriptChildren};
 use base::List;
 use case_lines::{Calls, CaseFault, run};
-use round_engine::Files;
+use round_engine::{Files, Project};
 use std::alloc::Global;
 use std::process::ExitCode;
 
@@ -37,11 +43,14 @@ struct Outside {
     filer: Filer,
     // the files that are to be numbered
     made: Files,
+    // what is to be run, and what the children of its processors say
+    project: Project,
+    scripts: Vec<Script>,
 }
 
 impl Outside {
     /// Fresh objects: an empty tree, a source of no bytes, a sink, children without a script, no room, a filer without initial
-    /// units, and no file to be numbered. No call of them is to fail.
+    /// units, no file to be numbered, and a run of no source and no processor. No call of them is to fail.
     fn new(alloc: Global) -> Result<Outside, CaseFault> {
         Ok(Outside {
             tree: MemoryTree::new(alloc, Vec::new(alloc)),
@@ -51,6 +60,8 @@ impl Outside {
             room: Vec::new(alloc),
             filer: Filer::new(alloc, &List::new(alloc))?,
             made: Files::new(alloc),
+            project: run_calls::empty_project(alloc),
+            scripts: Vec::new(alloc),
         })
     }
 
@@ -72,6 +83,7 @@ impl Calls for Outside {
             ["filer", call @ ..] => self.call_filer(alloc, call),
             ["store", call @ ..] => self.call_store(alloc, call),
             ["numbers", call @ ..] => self.call_numbers(alloc, call),
+            ["run", call @ ..] => self.call_run(alloc, call),
             [call, name] => filer_calls::name_test(alloc, call, name),
             _ => Err(CaseFault::NotACase),
         }

@@ -8,7 +8,8 @@ use std::alloc::Global;
 use std::mem;
 use tree_store::taken_numbers;
 
-fn made_word(alloc: Global, files: &List<Made>) -> Result<String, CaseFault> {
+/// Files that are to be stored, each with its path, number and bytes.
+pub fn made_word(alloc: Global, files: &List<Made>) -> Result<String, CaseFault> {
     let mut words = Vec::new(alloc);
     for file in files.as_slice() {
         let path = escaped(alloc, file.path.as_str().as_bytes())?;
