@@ -1,17 +1,19 @@
 // Units that are declared by pieces: they are read from their shapes, since what is read is legal.
+use crate::types::type_text;
 use case_lines::{CaseFault, items, name};
 use decl_syntax::{FieldWriter, NoMemory, ShapeFault, Unit, parse_shape};
 use std::alloc::Global;
 
-// A text of at most 65,535 bytes.
-fn text(writer: &mut FieldWriter, text: &str) -> Result<(), NoMemory> {
+/// A text of at most 65,535 bytes.
+pub fn text(writer: &mut FieldWriter, text: &str) -> Result<(), NoMemory> {
     if text.len() > 65_535 {
         return Err(NoMemory);
     }
     writer.text(text)
 }
 
-fn count(writer: &mut FieldWriter, names: &[&str]) -> Result<(), CaseFault> {
+/// The number of some names.
+pub fn count(writer: &mut FieldWriter, names: &[&str]) -> Result<(), CaseFault> {
     match u32::try_from(names.len()) {
         Ok(count) => Ok(writer.u32(count)?),
         Err(_) => Err(CaseFault::Memory),
@@ -39,22 +41,10 @@ fn int(writer: &mut FieldWriter) -> Result<(), CaseFault> {
     Ok(writer.u8(3)?)
 }
 
-// The type of a name, without arguments.
-fn named(alloc: Global, writer: &mut FieldWriter, word: &str) -> Result<(), CaseFault> {
-    let names: Vec<&str> = word.split('.').collect(alloc)?;
-    writer.u8(1)?;
-    count(writer, names.as_slice())?;
-    for each in &names {
-        text(writer, *each)?;
-        writer.u8(0)?;
-    }
-    Ok(())
-}
-
-fn all_named(alloc: Global, writer: &mut FieldWriter, names: &[&str]) -> Result<(), CaseFault> {
-    count(writer, names)?;
-    for each in names {
-        named(alloc, writer, *each)?;
+fn all_types(alloc: Global, writer: &mut FieldWriter, types: &[&str]) -> Result<(), CaseFault> {
+    count(writer, types)?;
+    for each in types {
+        type_text(alloc, writer, *each)?;
     }
     Ok(())
 }
@@ -102,10 +92,10 @@ fn supertypes(
         writer.u8(0)?;
     } else {
         writer.u8(1)?;
-        named(alloc, writer, superclass)?;
+        type_text(alloc, writer, superclass)?;
     }
     let interfaces = joined_names(alloc, interfaces)?;
-    all_named(alloc, writer, interfaces.as_slice())
+    all_types(alloc, writer, interfaces.as_slice())
 }
 
 // A type as far as its members: its kind, its name, the number of its members, its type parameters, its superclass and its interfaces.
@@ -140,11 +130,11 @@ fn type_words(alloc: Global, writer: &mut FieldWriter, words: &[&str]) -> Result
     }
 }
 
-fn field(writer: &mut FieldWriter, name: &str) -> Result<(), CaseFault> {
+fn field(alloc: Global, writer: &mut FieldWriter, name: &str, of: &str) -> Result<(), CaseFault> {
     writer.u8(0)?;
     text(writer, name)?;
     plain(writer)?;
-    int(writer)?;
+    type_text(alloc, writer, of)?;
     Ok(writer.u8(0)?)
 }
 
@@ -164,7 +154,7 @@ fn method(alloc: Global, writer: &mut FieldWriter, words: &[&str; 3]) -> Result<
 
 fn member(alloc: Global, writer: &mut FieldWriter, words: &[&str]) -> Result<(), CaseFault> {
     match words {
-        ["field", name] => field(writer, name),
+        ["field", name] => field(alloc, writer, name, "int"),
         ["method", name, types, values] => method(alloc, writer, &[*name, *types, *values]),
         _ => {
             writer.u8(4)?;
@@ -225,6 +215,29 @@ fn file(alloc: Global, writer: &mut FieldWriter, words: &[&str; 3]) -> Result<()
     let names = items(alloc, words[2])?;
     siblings(writer, names.as_slice())?;
     Ok(writer.u8(0)?)
+}
+
+/// The unit `package-info` of a package with imports, without annotations and a doc comment.
+pub fn package_file(alloc: Global, package: &str, imported: &str) -> Result<Unit, CaseFault> {
+    let mut writer = FieldWriter::new(alloc);
+    let package = name(alloc, package)?;
+    text(&mut writer, package.as_str())?;
+    let imported = items(alloc, imported)?;
+    imports(&mut writer, imported.as_slice())?;
+    writer.u32(0)?;
+    writer.u8(1)?;
+    writer.u32(0)?;
+    writer.u8(0)?;
+    read(alloc, writer)
+}
+
+/// The unit of a class with one field, which has that type.
+pub fn field_of(alloc: Global, of: &str) -> Result<Unit, CaseFault> {
+    let mut writer = FieldWriter::new(alloc);
+    file(alloc, &mut writer, &["-", "[]", "[]"])?;
+    type_words(alloc, &mut writer, &["class", "Of", "1"])?;
+    field(alloc, &mut writer, "of", of)?;
+    read(alloc, writer)
 }
 
 /// The unit of a package, of imports and of the types of a file, which the pieces declare.

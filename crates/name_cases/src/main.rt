@@ -7,17 +7,28 @@
 //! | `empty` | `done`: the table is empty from now on |
 //! | `source PACKAGE IMPORTS FILE PIECE..` | `done`: the unit that the pieces declare is in the sources from now on |
 //! | `stub PACKAGE IMPORTS FILE PIECE..` | the same in the stubs |
+//! | `file PACKAGE IMPORTS` | `done`: the file `package-info` of this package is in the sources from now on |
 //! | `chain NUMBER` | `done`: the sources have classes `m.C0`, `m.C1` and so on to this number, each of which extends the next one; the last has a member class `N` |
 //! | `within UNIT PATH NAME` | what the name means in that element |
 //! | `header UNIT PATH NAME` | what it means in the `extends` or `implements` clause of that element |
+//! | `annotation UNIT PATH NAME` | the annotation interface that it means on that element, or `none` |
+//! | `type UNIT PATH TYPE` | the mirror that the type means in that element |
+//! | `superclass UNIT PATH` | the superclass of that type |
+//! | `interfaces UNIT PATH` | its interfaces, or `[]` |
 //!
 //! What is found is a unit and the steps of a path, joined by colons; it is `none` where the name means nothing, and `several` where it is ambiguous.
 //!
-//! The unnamed package is `-`. Imports are a list: `r.N` or `r.*`, and `static:r.N` or `static:r.*`. A file is the list of the types that it declares. Pieces are a type as far as its members, then its members one by one, of which a type is again followed by its own. A type is `KIND:NAME:MEMBERS` with a kind `enum`, `class`, `annotation` or `interface` and the number of its members, or `KIND:NAME:MEMBERS:PARAMETERS:SUPERCLASS:INTERFACES`; other members are `field:NAME` and `method:NAME:PARAMETERS:ARGUMENTS`. Type parameters, interfaces and the parameters of a method are names that are joined by `+`, or `-` for none.
+//! The unnamed package is `-`. Imports are a list: `r.N` or `r.*`, and `static:r.N` or `static:r.*`. A file is the list of the types that it declares. Pieces are a type as far as its members, then its members one by one, of which a type is again followed by its own. A type is `KIND:NAME:MEMBERS` with a kind `enum`, `class`, `annotation` or `interface` and the number of its members, or `KIND:NAME:MEMBERS:PARAMETERS:SUPERCLASS:INTERFACES`; other members are `field:NAME` and `method:NAME:PARAMETERS:ARGUMENTS`. Type parameters, interfaces and the parameters of a method are joined by `+`, or `-` for none.
+//!
+//! A type is `int`, `void` or the names of a class type with dots between them; or its words from the outside in, joined by `/`: `[]`, `?extends`, `?super` and `?`, and for a class type with arguments `.N`, where N is the number of its names, and each name, as `NAME` or as `NAME<N` with the number of the types that follow as its arguments. So `.1/Box<1/?extends/.1/A` is `Box<? extends A>`.
+//!
+//! In mirrors an element is written as where it is found; `[]` stands behind the item of an array, `?extends/` and `?super/` in front of a bound, arguments in angles, and an enclosing type in brackets with a dot behind it. What means nothing is `error` with its text.
 #![tactic(auto)]
 
 mod declared;
 mod looks;
+mod shown;
+mod types;
 
 use case_lines::{Calls, CaseFault, run};
 use decl_syntax::Unit;
@@ -46,12 +57,28 @@ impl Calls for Names {
                 let unit = declared::unit(alloc, &[*package, *imports, *file], pieces)?;
                 enter(alloc, &mut self.table, Part::Stub, unit)
             }
+            ["file", package, imports] => {
+                let unit = declared::package_file(alloc, *package, *imports)?;
+                enter(alloc, &mut self.table, Part::Source, unit)
+            }
             ["chain", last] => chain(alloc, &mut self.table, last.parse::<u32>()?),
             ["within", unit, path, word] => {
                 looks::meaning(alloc, &self.table, false, &[*unit, *path, *word])
             }
             ["header", unit, path, word] => {
                 looks::meaning(alloc, &self.table, true, &[*unit, *path, *word])
+            }
+            ["annotation", unit, path, word] => {
+                looks::annotation(alloc, &self.table, &[*unit, *path, *word])
+            }
+            ["type", unit, path, word] => {
+                looks::type_word(alloc, &self.table, &[*unit, *path, *word])
+            }
+            ["superclass", unit, path] => {
+                looks::superclass_word(alloc, &self.table, &[*unit, *path])
+            }
+            ["interfaces", unit, path] => {
+                looks::interface_words(alloc, &self.table, &[*unit, *path])
             }
             _ => Err(CaseFault::NotACase),
         }

@@ -3,6 +3,7 @@ pub mod ChildrenLeft
 pub mod Enclosing
 pub mod FirstPlaces
 pub mod LookSteps
+pub mod MirrorsLemmas
 pub mod NameParts
 pub mod PlacedLemmas
 pub mod PlacesLemmas

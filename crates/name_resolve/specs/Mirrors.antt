@@ -9,8 +9,10 @@ use Rattle.decl_tree.specs.declared.type_text.PrimitiveKind.TheVariants as primi
 use Rattle.decl_tree.specs.declared.type_text.Around.{Around}
 use Rattle.decl_tree.specs.declared.type_text.Around.TheVariants as around
 use Rattle.decl_tree.specs.declared.type_text.TypeText.{TypeText}
+use Rattle.decl_tree.specs.declared.type_text.BaseType.{BaseType}
+use Rattle.decl_tree.specs.declared.type_text.NamedPart.{NamedPart}
 use Rattle.decl_tree.specs.declared.type_text.BaseType.TheOpen.{BaseType-F, NamedPart-F, TypeText-F}
-use Rattle.decl_tree.specs.declared.type_text.BaseType.TheFolds.{fold-TypeText}
+use Rattle.decl_tree.specs.declared.type_text.BaseType.TheFolds.{fold-BaseType, fold-NamedPart, fold-TypeText}
 use Rattle.decl_tree.specs.declared.declaration.TypeDecl.{TypeDecl}
 use Rattle.element_table.specs.UnitNames.{unit_name}
 use Rattle.element_table.specs.TypeTable.{TypeTable}
@@ -141,6 +143,13 @@ type_step text = record { mirror = wrapped (map wrapper_of text.around) text.bas
 
 unfoldable pub meant : Look → TypeText → Meant
 meant look = fold-TypeText Meant MeantPart Meant (base_step look) part_step type_step
+
+-- the same of what a text is made of
+unfoldable pub base_meant : Look → BaseType → Meant
+base_meant look = fold-BaseType Meant MeantPart Meant (base_step look) part_step type_step
+
+unfoldable pub part_meant : Look → NamedPart → MeantPart
+part_meant look = fold-NamedPart Meant MeantPart Meant (base_step look) part_step type_step
 
 -- the mirror that a type text means there
 unfoldable pub type_meaning : TypeTable → Scope → TypeText → Mirror

@@ -8,7 +8,7 @@ use Rattle.element_table.specs.declared.part.Part.{Part}
 use Rattle.element_table.specs.UnitNames.{in_package}
 use Rattle.name_resolve.specs.Ways.{around, node_at}
 use Rattle.name_resolve.specs.Finds.{Find, Finds, Nothing, together, first_of, parameters_at, declared_types}
-use Rattle.name_resolve.specs.Meaning.{Tops, Members, Scope, scope_of, tops_of, members_within, in_elements, in_header, in_scope, in_unit, simple, qualifier, found, by_prefix, imported, members_of, single_by, single_import, on_demand_import, supertype_found, inherited}
+use Rattle.name_resolve.specs.Meaning.{Tops, Members, Scope, scope_of, tops_of, members_within, in_elements, in_header, in_scope, in_unit, simple, qualifier, found, by_prefix, imported, members_of, single_by, single_import, on_demand_import, supertype_found, inherited, qualifier_meaning}
 use Rattle.name_resolve.specs.QualifiedNames.{Prefix, prefixes}
 use Rattle.name_resolve.specs.Supertypes.{Supertype}
 use Rattle.decl_tree.specs.declared.compilation.Import.{Import}
@@ -103,6 +103,10 @@ found_from table levels header f names = found_within table levels (scope_of hea
 
 abbrev pub qualifying : TypeTable → ℕ → Bool → Find → List (List ℕ) → Finds
 qualifying table levels header f names = qualifier_within table levels (scope_of header f) names
+
+-- what names in front of another one mean there, through all levels
+abbrev pub qualifier_at : TypeTable → Bool → Find → List (List ℕ) → Finds
+qualifier_at table header f names = qualifier_meaning table (scope_of header f) names
 
 -- the prefixes of a name by its first part and the others
 abbrev pub prefixes_of : List ℕ → List (Bor (List ℕ)) → List Prefix

@@ -47,6 +47,21 @@ supertypes_in of_object (Some d) = superclass_in of_object d.kind d ++ interface
 unfoldable pub supertypes : Find → List Supertype
 supertypes f = supertypes_in (is_object f) (type_at f.unit f.path)
 
+-- the superclass alone, and the interfaces alone
+abbrev pub superclass_if : Bool → Option TypeDecl → List Supertype
+superclass_if of_object None = []
+superclass_if of_object (Some d) = superclass_in of_object d.kind d
+
+unfoldable pub superclass_at : Find → List Supertype
+superclass_at f = superclass_if (is_object f) (type_at f.unit f.path)
+
+abbrev pub interfaces_if : Option TypeDecl → List Supertype
+interfaces_if None = []
+interfaces_if (Some d) = interfaces_in d.kind d
+
+unfoldable pub interfaces_at : Find → List Supertype
+interfaces_at f = interfaces_if (type_at f.unit f.path)
+
 -- ---- the names of a class type
 
 abbrev pub part_name : NamedPart → List ℕ

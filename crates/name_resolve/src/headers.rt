@@ -2,7 +2,7 @@
 ghost use Rattle.std.specs.Prelude.{◌≡◌, ◌++◌, map, Some, IfOk};
 ghost use Rattle.std.specs.Option.{option_copied};
 ghost use Rattle.name_resolve.specs.Ways.{type_at};
-ghost use Rattle.name_resolve.specs.Supertypes.{Written, is_object, superclass_in, supertypes_in, supertypes};
+ghost use Rattle.name_resolve.specs.Supertypes.{Written, is_object, superclass_in, interfaces_in, supertypes_in, supertypes, superclass_at, interfaces_at};
 ghost use Rattle.name_resolve.specs.Shown.{find_of, super_of, supers_of};
 
 use crate::children::declaration_of;
@@ -25,7 +25,8 @@ pub enum Supertype<'a> {
     Annotation,
 }
 
-fn type_at<'a>(of: &Found<'a>) -> Option<&'a TypeDecl>
+/// The declaration of what was found, or `None` where it is no type. It takes no memory.
+pub fn type_at<'a>(of: &Found<'a>) -> Option<&'a TypeDecl>
     ensures { option_copied result ≡ type_at of.now.unit.now of.now.path.items }
 {
     match place_at(of.unit, of.path.as_slice()) {
@@ -108,6 +109,49 @@ pub fn supertypes<'a>(alloc: Global, of: &Found<'a>) -> Result<Vec<Supertype<'a>
         None => Ok(Vec::new(alloc)),
         Some(declaration) => {
             let list = declared_supertypes(alloc, is_object(of), declaration)?;
+            Ok(list)
+        }
+    }
+}
+
+fn declared_interfaces<'a>(
+    alloc: Global,
+    header: &'a TypeDecl,
+) -> Result<Vec<Supertype<'a>>, NoMemory>
+    ensures { IfOk result (λ list. map super_of list.items ≡ interfaces_in header.now.kind header.now) }
+{
+    match header.kind {
+        TypeKind::AnnotationType => {
+            let list = vec![in alloc; Supertype::Annotation]?;
+            Ok(list)
+        }
+        _ => {
+            let list = with_interfaces(alloc, None, header.interfaces.as_slice())?;
+            Ok(list)
+        }
+    }
+}
+
+/// The superclass that a type names or implies: `None` for an interface, for `java.lang.Object` and for what is no type. It takes no memory.
+#[tactic(auto, unfolding(crate::specs::Supertypes::superclass_at))]
+pub fn superclass_at<'a>(of: &Found<'a>) -> Option<Supertype<'a>>
+    ensures { supers_of result ≡ superclass_at (find_of of.now) }
+{
+    match type_at(of) {
+        None => None,
+        Some(declaration) => superclass_of(is_object(of), declaration),
+    }
+}
+
+/// The interfaces that a type names or implies, in their order; none for what is no type.
+#[tactic(auto, unfolding(crate::specs::Supertypes::interfaces_at))]
+pub fn interfaces_at<'a>(alloc: Global, of: &Found<'a>) -> Result<Vec<Supertype<'a>>, NoMemory>
+    ensures { IfOk result (λ list. map super_of list.items ≡ interfaces_at (find_of of.now)) }
+{
+    match type_at(of) {
+        None => Ok(Vec::new(alloc)),
+        Some(declaration) => {
+            let list = declared_interfaces(alloc, declaration)?;
             Ok(list)
         }
     }

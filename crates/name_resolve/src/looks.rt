@@ -20,9 +20,9 @@ use std::marker::Model;
 ///
 /// A look-up asks its places in their order, and none behind the first that finds anything. It calls none with fewer levels: where it needs member types that are not known yet it stops and says which. They are then learned, with one level less each time, and the look-up is made anew. So calls nest as deep as there are levels, and no deeper.
 #[derive(Drop)]
-pub(crate) struct Looks<'a> {
-    pub alloc: Global,
-    pub table: &'a Table,
+pub struct Looks<'a> {
+    pub(crate) alloc: Global,
+    pub(crate) table: &'a Table,
     known: Vec<Known<'a>>,
 }
 
@@ -73,7 +73,7 @@ impl<'a> Looks<'a> {
     }
 
     /// Remembers member types that were found.
-    pub fn remember(
+    pub(crate) fn remember(
         &mut self,
         levels: u32,
         of: &Found<'a>,
@@ -96,7 +96,12 @@ impl<'a> Looks<'a> {
     }
 
     /// The member types of this name, with this many levels of supertypes left, as far as they are known: those that a type declares always are, and none is wanted where no level is left.
-    pub fn members(&self, levels: u32, of: &Found<'a>, name: &str) -> Result<Finds<'a>, Stop<'a>>
+    pub(crate) fn members(
+        &self,
+        levels: u32,
+        of: &Found<'a>,
+        name: &str,
+    ) -> Result<Finds<'a>, Stop<'a>>
         requires placed { IsPlaced self.now (find_of of.now) }
         ensures value { Gives result (left self.now levels (find_of of.now) name.now) }
         ensures wanted { IfErr result (IsWanted self.now levels) }
@@ -120,7 +125,12 @@ impl<'a> Looks<'a> {
     }
 
     /// The members of what was found; what is ambiguous has none.
-    pub fn member_of(&self, levels: u32, of: Finds<'a>, name: &str) -> Result<Finds<'a>, Stop<'a>>
+    pub(crate) fn member_of(
+        &self,
+        levels: u32,
+        of: Finds<'a>,
+        name: &str,
+    ) -> Result<Finds<'a>, Stop<'a>>
         requires placed { ArePlaced self.now (finds_of of) }
         ensures value { Gives result (members_of (left self.now levels) (finds_of of.entry) name.now) }
         ensures wanted { IfErr result (IsWanted self.now levels) }

@@ -62,7 +62,8 @@ pub(crate) fn longer(alloc: Global, before: &str, name: &str) -> Result<String, 
     Ok(text)
 }
 
-fn part_names<'t>(alloc: Global, parts: &'t [NamedPart]) -> Result<Vec<&'t str>, NoMemory>
+/// The names of some parts of a class type.
+pub fn part_names<'t>(alloc: Global, parts: &'t [NamedPart]) -> Result<Vec<&'t str>, NoMemory>
     ensures { IfOk result (λ names. lent names.items ≡ map part_name parts.now) }
 {
     let mut names = Vec::new(alloc);

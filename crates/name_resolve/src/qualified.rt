@@ -20,7 +20,7 @@ use element_table::Part;
 
 impl<'a> Looks<'a> {
     /// From what the first names mean along the other ones.
-    pub fn along(
+    pub(crate) fn along(
         &self,
         levels: u32,
         start: Finds<'a>,
@@ -68,7 +68,12 @@ impl<'a> Looks<'a> {
     }
 
     /// The shortest prefix that is a top-level type, and then member types; with no level left these are the declared ones.
-    pub fn by_prefix(&self, levels: u32, part: Part, names: &[&str]) -> Result<Finds<'a>, Stop<'a>>
+    pub(crate) fn by_prefix(
+        &self,
+        levels: u32,
+        part: Part,
+        names: &[&str],
+    ) -> Result<Finds<'a>, Stop<'a>>
         ensures value { Gives result (by_prefix_in self.now levels part (prefixes (lent names.now))) }
         ensures wanted { IfErr result (IsWanted self.now levels) }
         ensures placed { IfOk result (λ f. ArePlaced self.now (finds_of f)) }
@@ -217,7 +222,7 @@ impl<'a> Looks<'a> {
     }
 
     /// What all single imports of a unit give for a name.
-    pub fn single_imports(
+    pub(crate) fn single_imports(
         &self,
         levels: u32,
         at: &Found<'a>,
@@ -252,7 +257,7 @@ impl<'a> Looks<'a> {
     }
 
     /// What `java.lang` and all imports on demand of a unit give for a name, as one place (JLS 6.4.1, 7.5.2).
-    pub fn on_demand_imports(
+    pub(crate) fn on_demand_imports(
         &self,
         levels: u32,
         at: &Found<'a>,
@@ -268,7 +273,7 @@ impl<'a> Looks<'a> {
     }
 
     /// The type of this name of the file.
-    pub fn of_file(&self, at: &Found<'a>, name: &str) -> Result<Finds<'a>, NoMemory>
+    pub(crate) fn of_file(&self, at: &Found<'a>, name: &str) -> Result<Finds<'a>, NoMemory>
         ensures value { Gives result (file_finds_within self.now at.now.part at.now.unit.now name.now) }
     {
         if is_sibling(at.unit, name) {
@@ -278,7 +283,7 @@ impl<'a> Looks<'a> {
     }
 
     /// The type of this name of the unit's package.
-    pub fn beside(&self, at: &Found<'a>, name: &str) -> Result<Finds<'a>, NoMemory>
+    pub(crate) fn beside(&self, at: &Found<'a>, name: &str) -> Result<Finds<'a>, NoMemory>
         ensures value { Gives result (tops_beside self.now at.now.part at.now.unit.now name.now) }
     {
         top_of_package(

@@ -129,7 +129,7 @@ impl<'a> Looks<'a> {
     }
 
     /// What a simple name means.
-    pub fn simple(
+    pub(crate) fn simple(
         &self,
         levels: u32,
         header: bool,

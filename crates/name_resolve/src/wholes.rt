@@ -2,7 +2,7 @@
 ghost use Rattle.std.specs.Prelude.{◌≡◌, ◌<◌, IfErr};
 ghost use Rattle.name_resolve.specs.Finds.{Nothing, declared_types};
 ghost use Rattle.name_resolve.specs.Meaning.{scope_of, meaning};
-ghost use Rattle.name_resolve.specs.Parts.{lent, found_from, inherited_within, qualifying, supers_within};
+ghost use Rattle.name_resolve.specs.Parts.{lent, found_from, inherited_within, qualifying, supers_within, qualifier_at};
 ghost use Rattle.name_resolve.specs.Placed.{IsPlaced};
 ghost use Rattle.name_resolve.specs.Remembered.{IsWanted};
 ghost use Rattle.name_resolve.specs.Shown.{find_of, finds_of, super_of, Gives};
@@ -148,6 +148,29 @@ impl<'a> Looks<'a> {
     {
         for _ in 0..usize::MAX {
             match self.found(ALL_LEVELS, header, at, names) {
+                Ok(finds) => return Ok(finds),
+                Err(Stop::Memory) => return Err(NoMemory),
+                Err(Stop::Wanted(of, name)) => {
+                    self.learn(ALL_LEVELS, &of, name.as_str())?;
+                }
+            }
+        }
+        Err(NoMemory)
+    }
+
+    /// What names in front of another name mean there, through all levels: the first one as a type in scope, or else their shortest prefix that is a top-level type, and then member types (JLS 6.5.4).
+    pub fn qualifier_meaning(
+        &mut self,
+        header: bool,
+        at: &Found<'a>,
+        names: &[&str],
+    ) -> Result<Finds<'a>, NoMemory>
+        requires placed { IsPlaced self.old (find_of at.now) }
+        ensures value { Gives result (qualifier_at self.old header (find_of at.now) (lent names.now)) }
+        ensures kept { self.new ≡ self.old }
+    {
+        for _ in 0..usize::MAX {
+            match self.qualifier(ALL_LEVELS, header, at, names) {
                 Ok(finds) => return Ok(finds),
                 Err(Stop::Memory) => return Err(NoMemory),
                 Err(Stop::Wanted(of, name)) => {

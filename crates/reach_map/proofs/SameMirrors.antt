@@ -4,12 +4,13 @@ use Rattle.std.specs.List.{AllByRecursion, join_with_byte}
 use Rattle.decl_tree.specs.declared.type_text.TypeText.{TypeText, roll-TypeText}
 use Rattle.decl_tree.specs.declared.type_text.BaseType.{BaseType, roll-BaseType}
 use Rattle.decl_tree.specs.declared.type_text.BaseType.TheOpen.{BaseType-F, NamedPart-F, TypeText-F}
-use Rattle.decl_tree.specs.declared.type_text.BaseType.TheFolds.{map-BaseType, map-NamedPart, map-TypeText, fold-BaseType, fold-NamedPart, fold-roll-BaseType, fold-roll-NamedPart, fold-roll-TypeText, ind-TypeText}
+use Rattle.decl_tree.specs.declared.type_text.BaseType.TheFolds.{map-BaseType, map-NamedPart, map-TypeText, ind-TypeText}
 use Rattle.decl_tree.specs.declared.type_text.NamedPart.{NamedPart, out-NamedPart, roll-NamedPart, roll-out-NamedPart}
 use Rattle.type_mirror.specs.declared.mirror.Mirror.{Mirror}
 use Rattle.name_resolve.specs.Finds.{Finds}
 use Rattle.name_resolve.specs.Mirrors as means
-use Rattle.name_resolve.specs.Mirrors.{Meant, MeantPart, Look, or_none, found_mirror, named_mirror, parts_mirror, meant}
+use Rattle.name_resolve.specs.Mirrors.{Meant, MeantPart, Look, or_none, found_mirror, named_mirror, parts_mirror, meant, base_meant, part_meant}
+use Rattle.name_resolve.proofs.MirrorsLemmas.{base-rolls, part-rolls, text-rolls}
 use Rattle.reach_map.specs.Chains.{Chains, gathered, type_chains}
 use Rattle.reach_map.proofs.Everywhere.{each_of_map, each_of_flat_map}
 use Rattle.reach_map.proofs.WrittenChains.{base_chains, part_chains, part_name-is, base_chains-roll, part_chains-roll, type_chains-roll}
@@ -20,12 +21,6 @@ front_of [] name more = refl
 front_of (first ∷ names) name more =
     let longer : suc (length names) + 1 ≡ suc (length names + 1) = omega arith in
     rw longer (ap (λ ns. first ∷ ns) (front_of names name more))
-
-abbrev base_meant : Look → BaseType → Meant
-base_meant look = fold-BaseType Meant MeantPart Meant (means.base_step look) means.part_step means.type_step
-
-abbrev part_meant : Look → NamedPart → MeantPart
-part_meant look = fold-NamedPart Meant MeantPart Meant (means.base_step look) means.part_step means.type_step
 
 abbrev given : Mirror → List ℕ → Meant
 given mirror text = record { mirror = mirror; text = text }
@@ -95,21 +90,6 @@ module _ (look other : Look) where
   abbrev text_layer : TypeText-F KeptBase KeptPart Kept → TypeText-F BaseType NamedPart TypeText
   text_layer = map-TypeText KeptBase KeptPart Kept BaseType NamedPart TypeText (λ e. e.0) (λ e. e.0) (λ e. e.0)
 
-  base_rolls : (by : Look) (x : BaseType-F BaseType NamedPart TypeText) → base_meant by (roll-BaseType x)
-      ≡ means.base_step by (map-BaseType BaseType NamedPart TypeText Meant MeantPart Meant (base_meant by) (part_meant by) (meant by) x)
-  unfolding meant
-  base_rolls by x = fold-roll-BaseType Meant MeantPart Meant (means.base_step by) means.part_step means.type_step x
-
-  part_rolls : (by : Look) (x : NamedPart-F BaseType NamedPart TypeText) → part_meant by (roll-NamedPart x)
-      ≡ means.part_step (map-NamedPart BaseType NamedPart TypeText Meant MeantPart Meant (base_meant by) (part_meant by) (meant by) x)
-  unfolding meant
-  part_rolls by x = fold-roll-NamedPart Meant MeantPart Meant (means.base_step by) means.part_step means.type_step x
-
-  text_rolls : (by : Look) (x : TypeText-F BaseType NamedPart TypeText) → meant by (roll-TypeText x)
-      ≡ means.type_step (map-TypeText BaseType NamedPart TypeText Meant MeantPart Meant (base_meant by) (part_meant by) (meant by) x)
-  unfolding meant
-  text_rolls by x = fold-roll-TypeText Meant MeantPart Meant (means.base_step by) means.part_step means.type_step x
-
   abbrev parts_of : List KeptPart → List NamedPart
   parts_of kept = map (λ k. k.0) kept
 
@@ -126,7 +106,7 @@ module _ (look other : Look) where
 
   meant_name : (by : Look) (p : NamedPart) → (part_meant by p).name ≡ (part_chains p).0
   meant_name by p =
-      ap (λ (q : NamedPart). (part_meant by q).name) (sym (roll-out-NamedPart p)) ∙ ap (λ (m : MeantPart). m.name) (part_rolls by (out-NamedPart p)) ∙ sym (part_name-is p)
+      ap (λ (q : NamedPart). (part_meant by q).name) (sym (roll-out-NamedPart p)) ∙ ap (λ (m : MeantPart). m.name) (part-rolls by (out-NamedPart p)) ∙ sym (part_name-is p)
 
   meant_names : (by : Look) (ps : List NamedPart) → names_of (map (part_meant by) ps) ≡ map (λ (p : List ℕ × Chains). p.0) (map part_chains ps)
   unfolding names_of
@@ -134,26 +114,26 @@ module _ (look other : Look) where
   meant_names by (p ∷ ps) = rw (meant_name by p, meant_names by ps) refl
 
   base_same : (y : BaseType-F KeptBase KeptPart Kept) → BaseSame (roll-BaseType (base_layer y))
-  base_same (BaseType-F.Primitive kind) a = base_rolls look (BaseType-F.Primitive kind) ∙ sym (base_rolls other (BaseType-F.Primitive kind))
-  base_same BaseType-F.Wildcard a = base_rolls look BaseType-F.Wildcard ∙ sym (base_rolls other BaseType-F.Wildcard)
+  base_same (BaseType-F.Primitive kind) a = base-rolls look (BaseType-F.Primitive kind) ∙ sym (base-rolls other (BaseType-F.Primitive kind))
+  base_same BaseType-F.Wildcard a = base-rolls look BaseType-F.Wildcard ∙ sym (base-rolls other BaseType-F.Wildcard)
   base_same (BaseType-F.Named kept) a =
       let ps = parts_of kept in
       let all = subst AllSame (base_chains-roll (BaseType-F.Named ps)) a in
       let same = each_part kept (each_of_map (λ c. AllSame c.1) part_chains ps (each_of_flat_map SameAt (λ p. p.1) (map part_chains ps) all.1)) in
       let named : SameAt (names_of (map (part_meant other) ps)) = subst SameAt (sym (meant_names other ps)) all.0 in
-      base_rolls look (BaseType-F.Named ps)
+      base-rolls look (BaseType-F.Named ps)
       ∙ ap (λ (ms : List MeantPart). means.base_step look (BaseType-F.Named ms)) same
       ∙ ap (λ (m : Mirror). given m (join_with_byte 46 (map (λ (p : MeantPart). p.text) (map (part_meant other) ps)))) (same_parts (map (part_meant other) ps) named)
-      ∙ sym (base_rolls other (BaseType-F.Named ps))
+      ∙ sym (base-rolls other (BaseType-F.Named ps))
 
   part_same_with : (name : List ℕ) (arguments : Option (List Kept)) → PartSame (roll-NamedPart (part_layer (record { name = name; arguments = arguments })))
-  part_same_with name None a = part_rolls look (record { name = name; arguments = None }) ∙ sym (part_rolls other (record { name = name; arguments = None }))
+  part_same_with name None a = part-rolls look (record { name = name; arguments = None }) ∙ sym (part-rolls other (record { name = name; arguments = None }))
   part_same_with name (Some kept) a =
       let ts = texts_of kept in
       let x : NamedPart-F BaseType NamedPart TypeText = record { name = name; arguments = Some ts } in
       let all = subst (λ (c : List ℕ × Chains). AllSame c.1) (part_chains-roll x) a in
       let same = each_text kept (each_of_map AllSame type_chains ts (each_of_flat_map SameAt gathered (map type_chains ts) all)) in
-      part_rolls look x ∙ ap (λ (ms : List Meant). means.part_step (record { name = name; arguments = Some ms })) same ∙ sym (part_rolls other x)
+      part-rolls look x ∙ ap (λ (ms : List Meant). means.part_step (record { name = name; arguments = Some ms })) same ∙ sym (part-rolls other x)
 
   part_same : (y : NamedPart-F KeptBase KeptPart Kept) → PartSame (roll-NamedPart (part_layer y))
   part_same y = part_same_with y.name y.arguments
@@ -162,7 +142,7 @@ module _ (look other : Look) where
   text_same y a =
       let x = text_layer y in
       let all = subst AllSame (type_chains-roll x) a in
-      text_rolls look x ∙ ap (λ (m : Meant). means.type_step (record { around = y.around; base = m })) (y.base.1 all) ∙ sym (text_rolls other x)
+      text-rolls look x ∙ ap (λ (m : Meant). means.type_step (record { around = y.around; base = m })) (y.base.1 all) ∙ sym (text-rolls other x)
 
   -- each text whose chains mean the same
   pub same_mirror : (text : TypeText) → AllSame (type_chains text) → meant look text ≡ meant other text

@@ -1,0 +1,4 @@
+mod HeaderLemmas
+mod MirrorLemmas
+mod ScopesLemmas
+mod SpellingLemmas

@@ -1,0 +1,3 @@
+pub mod MirrorParts
+pub mod Scopes
+pub mod Spelling

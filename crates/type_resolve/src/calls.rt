@@ -1,0 +1,223 @@
+// The calls that give mirrors.
+ghost use Rattle.std.specs.Prelude.{◌≡◌, [], ◌∷◌, None, is_some, true, IfOk};
+ghost use Rattle.decl_elements.specs.Shown.{node_of};
+ghost use Rattle.name_resolve.specs.Meaning.{Within};
+ghost use Rattle.name_resolve.specs.Mirrors.{type_meaning, class_mirror, ref_of, superclass, interfaces};
+ghost use Rattle.name_resolve.specs.Placed.{IsPlaced};
+ghost use Rattle.name_resolve.specs.Shown.{find_of};
+ghost use Rattle.type_resolve.specs.MirrorParts.{IsScope, implied_in, supertype_in, supertypes_in};
+ghost use Rattle.name_resolve.specs.Ways.{declaration_of, type_at};
+ghost use Rattle.type_resolve.specs.Scopes.{find_in, scope_in, is_type, IsElement, IsType};
+
+use crate::annotations::reference;
+use crate::mirrors::{class_type, element_type, mirror};
+use crate::scopes::{Scope, bare_at, found_bare, found_in};
+use apt_base::{ElementRef, List, Name, NoMemory};
+use decl_elements::{Place, place_at};
+use decl_tree::{Member, TypeText, Unit};
+use element_table::Table;
+use name_resolve::{Finds, Found, Supertype, interfaces_at, superclass_at, top_level};
+use std::alloc::Global;
+use type_mirror::{BaseMirror, Mirror};
+
+#[tactic(auto, unfolding(name_resolve::specs::Mirrors::type_meaning))]
+fn mirror_at<'a>(
+    alloc: Global,
+    table: &'a Table,
+    at: Found<'a>,
+    text: &TypeText,
+) -> Result<Mirror, NoMemory>
+    requires { IsPlaced table.now (find_of at) }
+    ensures { IfOk result (λ m. m ≡ type_meaning table.now (Within (find_of at.entry)) text.now) }
+{
+    let scope = Scope {
+        table,
+        header: false,
+        at,
+    };
+    mirror(alloc, &scope, text)
+}
+
+/// The mirror that a type means where it is written in this element, which is one of the table, as a condition (JLS 6.4, 6.5.5). A name that means nothing, or different types, gives an error type with the text. Types behind `extends` and `implements` are not for this call: `superclass` and `interfaces` have them.
+pub fn resolve_type(
+    alloc: Global,
+    table: &Table,
+    scope: &ElementRef,
+    text: &TypeText,
+) -> Result<Mirror, NoMemory>
+    requires { IsElement table.now scope.now }
+    ensures { IfOk result (λ m. m ≡ type_meaning table.now (scope_in table.now scope.now) text.now) }
+{
+    match table.find(&scope.unit) {
+        Some(unit) => {
+            let at = found_in(alloc, table, unit, scope)?;
+            mirror_at(alloc, table, at, text)
+        }
+        None => {
+            let bare = bare_at(alloc, table, scope)?;
+            let at = found_bare(alloc, table, &bare, scope)?;
+            mirror_at(alloc, table, at, text)
+        }
+    }
+}
+
+// The type of an implied name; where the table has none an error type with that name.
+fn implied(
+    alloc: Global,
+    scope: &Scope<'_>,
+    name: &str,
+    arguments: List<Mirror>,
+) -> Result<Mirror, NoMemory>
+    ensures { IfOk result (λ m. m ≡ implied_in scope.now name.now arguments) }
+{
+    let name = Name::new(alloc, name)?;
+    match top_level(alloc, scope.table, scope.at.part, &name) {
+        Finds::One(find) => element_type(alloc, &find, None, arguments),
+        Finds::Nothing => Ok(Mirror::plain(alloc, BaseMirror::Error(name))),
+        Finds::Several => Ok(Mirror::plain(alloc, BaseMirror::Error(name))),
+    }
+}
+
+// The type of an element, without arguments.
+fn itself(alloc: Global, of: &Found<'_>) -> Result<List<Mirror>, NoMemory>
+    ensures { IfOk result (λ list. list ≡ class_mirror (ref_of (find_of of.now)) None [] ∷ []) }
+{
+    let element = reference(alloc, of)?;
+    let own = class_type(alloc, element, None, List::new(alloc))?;
+    let mut list = List::new(alloc);
+    list.push(own)?;
+    Ok(list)
+}
+
+// The mirror of a supertype in the header of its type.
+#[tactic(auto, unfolding(name_resolve::specs::Mirrors::type_meaning))]
+fn supertype(alloc: Global, scope: &Scope<'_>, each: Supertype<'_>) -> Result<Mirror, NoMemory>
+    requires scope { IsScope scope.now }
+    requires header { scope.now.header ≡ true }
+    ensures { IfOk result (λ m. m ≡ supertype_in scope.now each.entry) }
+{
+    match each {
+        Supertype::Written(text) => mirror(alloc, scope, text),
+        Supertype::Object => implied(alloc, scope, "java.lang.Object", List::new(alloc)),
+        Supertype::Enum => {
+            let arguments = itself(alloc, &scope.at)?;
+            implied(alloc, scope, "java.lang.Enum", arguments)
+        }
+        Supertype::Annotation => implied(
+            alloc,
+            scope,
+            "java.lang.annotation.Annotation",
+            List::new(alloc),
+        ),
+    }
+}
+
+#[tactic(auto, using(crate::proofs::HeaderLemmas::headers))]
+fn superclass_in(alloc: Global, scope: &Scope<'_>) -> Result<Mirror, NoMemory>
+    requires scope { IsScope scope.now }
+    requires header { scope.now.header ≡ true }
+    ensures { IfOk result (λ m. m ≡ superclass scope.now.table.now (find_of scope.now.at)) }
+{
+    match superclass_at(&scope.at) {
+        None => Ok(Mirror::plain(alloc, BaseMirror::Nothing)),
+        Some(each) => supertype(alloc, scope, each),
+    }
+}
+
+fn all_supertypes(
+    alloc: Global,
+    scope: &Scope<'_>,
+    list: &[Supertype<'_>],
+) -> Result<List<Mirror>, NoMemory>
+    requires scope { IsScope scope.now }
+    requires header { scope.now.header ≡ true }
+    ensures { IfOk result (λ all. all ≡ supertypes_in scope.now list.now) }
+{
+    let mut mirrors = List::new(alloc);
+    for each in list {
+        let one = supertype(alloc, scope, *each)?;
+        mirrors.push(one)?;
+    }
+    Ok(mirrors)
+}
+
+#[tactic(auto, using(crate::proofs::HeaderLemmas::headers))]
+fn interfaces_in(alloc: Global, scope: &Scope<'_>) -> Result<List<Mirror>, NoMemory>
+    requires scope { IsScope scope.now }
+    requires header { scope.now.header ≡ true }
+    ensures { IfOk result (λ list. list ≡ interfaces scope.now.table.now (find_of scope.now.at)) }
+{
+    let supertypes = interfaces_at(alloc, &scope.at)?;
+    let list = all_supertypes(alloc, scope, supertypes.as_slice())?;
+    Ok(list)
+}
+
+fn is_declaration(place: Place<'_>) -> bool
+    ensures { result ≡ is_some (declaration_of (node_of place.entry)) }
+{
+    match place {
+        Place::Top(_) => true,
+        Place::Inside(_, member) => match member {
+            Member::Nested(_) => true,
+            _ => false,
+        },
+        _ => false,
+    }
+}
+
+fn is_type_in(unit: &Unit, path: &[u16]) -> bool
+    ensures { result ≡ is_some (type_at unit.now path.now) }
+{
+    match place_at(unit, path) {
+        None => false,
+        Some(place) => is_declaration(place),
+    }
+}
+
+/// Whether a type stands there. It takes no memory.
+pub fn is_type(table: &Table, at: &ElementRef) -> bool
+    ensures { result ≡ is_type table.now at.now }
+{
+    match table.find(&at.unit) {
+        None => false,
+        Some(unit) => is_type_in(unit, at.path.as_slice()),
+    }
+}
+
+/// The superclass of a type of the table, which it is as a condition: as its header says, or implied (JLS 8.1.4, 8.9). `Nothing` for an interface and for `java.lang.Object`. Where the table has no implied one it is an error type with that name.
+pub fn superclass(alloc: Global, table: &Table, at: &ElementRef) -> Result<Mirror, NoMemory>
+    requires { IsType table.now at.now }
+    ensures { IfOk result (λ m. m ≡ superclass table.now (find_in table.now at.now)) }
+{
+    match table.find(&at.unit) {
+        Some(unit) => {
+            let of = found_in(alloc, table, unit, at)?;
+            let scope = Scope {
+                table,
+                header: true,
+                at: of,
+            };
+            superclass_in(alloc, &scope)
+        }
+        None => Ok(Mirror::plain(alloc, BaseMirror::Nothing)),
+    }
+}
+
+/// The interfaces of a type of the table, which it is as a condition, in their order: those of its header, and of an annotation interface `java.lang.annotation.Annotation` alone (JLS 8.1.5, 9.1.3, 9.6).
+pub fn interfaces(alloc: Global, table: &Table, at: &ElementRef) -> Result<List<Mirror>, NoMemory>
+    requires { IsType table.now at.now }
+    ensures { IfOk result (λ list. list ≡ interfaces table.now (find_in table.now at.now)) }
+{
+    match table.find(&at.unit) {
+        Some(unit) => {
+            let of = found_in(alloc, table, unit, at)?;
+            let scope = Scope {
+                table,
+                header: true,
+                at: of,
+            };
+            interfaces_in(alloc, &scope)
+        }
+        None => Ok(List::new(alloc)),
+    }
+}

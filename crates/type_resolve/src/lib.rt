@@ -1,0 +1,18 @@
+//! What types, annotations and the headers of types mean where they are written in elements of a table (JLS 4.3, 6.5, 8.1.4, 8.1.5, 9.7).
+//!
+//! `specs/Scopes` leads from an element to the place where a look-up begins; the crate `name_resolve` has the meanings there. `specs/Spelling` has the text of a type, which is what is left of a name that means nothing, and `specs/MirrorParts` words for parts of a mirror.
+//!
+//! A name is looked up anew each time it stands in a type, and names in front of others only where type arguments are written on them or before them.
+//!
+//! Not promised: that memory is there.
+#![tactic(auto)]
+
+mod annotations;
+mod calls;
+mod mirrors;
+mod packages;
+mod scopes;
+mod spelling;
+
+pub use annotations::resolve_annotation;
+pub use calls::{interfaces, is_type, resolve_type, superclass};

@@ -1,0 +1,271 @@
+// The mirrors that types mean.
+ghost use Rattle.std.specs.Prelude.{◌≡◌, [], map, string_bytes, IfOk};
+ghost use Rattle.type_mirror.specs.Parts.{plain};
+ghost use Rattle.type_mirror.specs.declared.mirror.BaseMirror.TheVariants.{Error};
+ghost use Rattle.name_resolve.specs.Finds.{One};
+ghost use Rattle.name_resolve.specs.Meaning.{meaning, qualifier_meaning};
+ghost use Rattle.name_resolve.specs.Mirrors.{found_mirror, class_mirror, primitive_base, wrapper_of, ref_of, or_none};
+ghost use Rattle.name_resolve.specs.Parts.{lent};
+ghost use Rattle.name_resolve.specs.Shown.{find_of, finds_of, Gives};
+ghost use Rattle.type_resolve.specs.MirrorParts.{IsScope, look_in, type_mirror_in, base_mirror_in, class_mirror_in, arguments_in, found_by, whole_in, enclosing_in};
+
+use crate::annotations::reference;
+use crate::scopes::Scope;
+use crate::spelling::spelled;
+use apt_base::{Boxed, ElementRef, List, Name, NoMemory};
+use decl_tree::{Around, BaseType, NamedPart, PrimitiveKind, TypeText};
+use name_resolve::{Finds, Found, Looks, type_at};
+use std::alloc::Global;
+use type_mirror::{Around as Wrapper, BaseMirror, DeclaredMirror, Mirror, PrimitiveKind as Kind};
+
+fn primitive_base(kind: PrimitiveKind) -> BaseMirror
+    ensures { result ≡ primitive_base kind }
+{
+    match kind {
+        PrimitiveKind::Boolean => BaseMirror::Primitive(Kind::Boolean),
+        PrimitiveKind::Byte => BaseMirror::Primitive(Kind::Byte),
+        PrimitiveKind::Short => BaseMirror::Primitive(Kind::Short),
+        PrimitiveKind::Int => BaseMirror::Primitive(Kind::Int),
+        PrimitiveKind::Long => BaseMirror::Primitive(Kind::Long),
+        PrimitiveKind::Char => BaseMirror::Primitive(Kind::Char),
+        PrimitiveKind::Float => BaseMirror::Primitive(Kind::Float),
+        PrimitiveKind::Double => BaseMirror::Primitive(Kind::Double),
+        PrimitiveKind::Void => BaseMirror::Void,
+    }
+}
+
+fn wrapper(of: Around) -> Wrapper
+    ensures { result ≡ wrapper_of of }
+{
+    match of {
+        Around::Array => Wrapper::Array,
+        Around::Extends => Wrapper::Extends,
+        Around::Super => Wrapper::Super,
+    }
+}
+
+fn wrappers(alloc: Global, around: &[Around]) -> Result<List<Wrapper>, NoMemory>
+    ensures { IfOk result (λ list. list ≡ map wrapper_of around.now) }
+{
+    let mut list = List::new(alloc);
+    for each in around {
+        list.push(wrapper(*each))?;
+    }
+    Ok(list)
+}
+
+/// A class type of this element.
+pub(crate) fn class_type(
+    alloc: Global,
+    element: ElementRef,
+    enclosing: Option<Mirror>,
+    arguments: List<Mirror>,
+) -> Result<Mirror, NoMemory>
+    ensures { IfOk result (λ m. m ≡ class_mirror element enclosing arguments) }
+{
+    match enclosing {
+        None => {
+            let declared = DeclaredMirror {
+                element,
+                enclosing: None,
+                arguments,
+            };
+            Ok(Mirror::plain(alloc, BaseMirror::Declared(declared)))
+        }
+        Some(mirror) => {
+            let around = Boxed::new(alloc, mirror)?;
+            let declared = DeclaredMirror {
+                element,
+                enclosing: Some(around),
+                arguments,
+            };
+            Ok(Mirror::plain(alloc, BaseMirror::Declared(declared)))
+        }
+    }
+}
+
+/// The class type or the type variable of what was found.
+pub(crate) fn element_type(
+    alloc: Global,
+    find: &Found<'_>,
+    enclosing: Option<Mirror>,
+    arguments: List<Mirror>,
+) -> Result<Mirror, NoMemory>
+    ensures { IfOk result (λ m. m ≡ found_mirror (One (find_of find.now)) [] enclosing arguments) }
+{
+    let element = reference(alloc, find)?;
+    match type_at(find) {
+        None => Ok(Mirror::plain(alloc, BaseMirror::Variable(element))),
+        Some(_) => class_type(alloc, element, enclosing, arguments),
+    }
+}
+
+// An error type with a text.
+fn error_type(alloc: Global, text: String) -> Mirror
+    ensures { result ≡ plain (Error (string_bytes text)) }
+{
+    Mirror::plain(alloc, BaseMirror::Error(Name::from_string(alloc, text)))
+}
+
+// What was found for the names of these parts.
+fn found_type(
+    alloc: Global,
+    finds: &Finds<'_>,
+    parts: &[NamedPart],
+    enclosing: Option<Mirror>,
+    arguments: List<Mirror>,
+) -> Result<Mirror, NoMemory>
+    ensures { IfOk result (λ m. m ≡ found_by (finds_of finds.now) parts.now enclosing arguments) }
+{
+    match finds {
+        Finds::One(find) => element_type(alloc, find, enclosing, arguments),
+        Finds::Nothing => {
+            let text = spelled(alloc, parts)?;
+            Ok(error_type(alloc, text))
+        }
+        Finds::Several => {
+            let text = spelled(alloc, parts)?;
+            Ok(error_type(alloc, text))
+        }
+    }
+}
+
+fn whole<'a>(alloc: Global, scope: &Scope<'a>, names: &[&str]) -> Result<Finds<'a>, NoMemory>
+    requires { IsScope scope.now }
+    ensures { Gives result ((look_in scope.now).whole (lent names.now)) }
+{
+    let mut looks = Looks::new(alloc, scope.table);
+    looks.meaning(scope.header, &scope.at, names)
+}
+
+fn front<'a>(alloc: Global, scope: &Scope<'a>, names: &[&str]) -> Result<Finds<'a>, NoMemory>
+    requires { IsScope scope.now }
+    ensures { Gives result ((look_in scope.now).front (lent names.now)) }
+{
+    let mut looks = Looks::new(alloc, scope.table);
+    looks.qualifier_meaning(scope.header, &scope.at, names)
+}
+
+// The arguments that a name has; none where none are written.
+fn or_none(alloc: Global, arguments: Option<List<Mirror>>) -> List<Mirror>
+    ensures { result ≡ or_none arguments }
+{
+    match arguments {
+        None => List::new(alloc),
+        Some(list) => list,
+    }
+}
+
+// What all names of a class type mean.
+fn whole_type(
+    alloc: Global,
+    scope: &Scope<'_>,
+    names: &[&str],
+    parts: &[NamedPart],
+    enclosing: Option<Mirror>,
+    arguments: Option<List<Mirror>>,
+) -> Result<Mirror, NoMemory>
+    requires { IsScope scope.now }
+    ensures { IfOk result (λ m. m ≡ whole_in scope.now (lent names.now) parts.now enclosing arguments) }
+{
+    let finds = whole(alloc, scope, names)?;
+    found_type(alloc, &finds, parts, enclosing, or_none(alloc, arguments))
+}
+
+// What encloses the next name: what the names so far mean, where arguments are written on one of them.
+fn next_enclosing(
+    alloc: Global,
+    scope: &Scope<'_>,
+    names: &[&str],
+    parts: &[NamedPart],
+    enclosing: Option<Mirror>,
+    arguments: Option<List<Mirror>>,
+) -> Result<Option<Mirror>, NoMemory>
+    requires { IsScope scope.now }
+    ensures { IfOk result (λ o. o ≡ enclosing_in scope.now (lent names.now) parts.now enclosing arguments) }
+{
+    if enclosing.is_some() || arguments.is_some() {
+        let finds = front(alloc, scope, names)?;
+        let here = found_type(alloc, &finds, parts, enclosing, or_none(alloc, arguments))?;
+        return Ok(Some(here));
+    }
+    Ok(None)
+}
+
+/// The mirror that a type means in a scope.
+#[cycle(mirror)]
+#[tactic(auto, using(crate::proofs::MirrorLemmas::by_parts))]
+pub(crate) fn mirror(alloc: Global, scope: &Scope<'_>, text: &TypeText) -> Result<Mirror, NoMemory>
+    requires { IsScope scope.now }
+    ensures { IfOk result (λ m. m ≡ type_mirror_in scope.now text.now) }
+{
+    let base = base_type(alloc, scope, &text.base)?;
+    let around = wrappers(alloc, text.around.as_slice())?;
+    base.wrapped(alloc, &around)
+}
+
+#[cycle(mirror)]
+#[tactic(auto, using(crate::proofs::MirrorLemmas::by_parts))]
+fn base_type(alloc: Global, scope: &Scope<'_>, of: &BaseType) -> Result<Mirror, NoMemory>
+    requires { IsScope scope.now }
+    ensures { IfOk result (λ m. m ≡ base_mirror_in scope.now of.now) }
+{
+    match of {
+        BaseType::Primitive(kind) => Ok(Mirror::plain(alloc, primitive_base(*kind))),
+        BaseType::Named(parts) => named_type(alloc, scope, parts.as_slice()),
+        BaseType::Wildcard => Ok(Mirror::plain(alloc, BaseMirror::Wildcard)),
+    }
+}
+
+// A class type or a type variable. What the first names mean is looked up only where it encloses the next one.
+#[cycle(mirror)]
+fn named_type(alloc: Global, scope: &Scope<'_>, parts: &[NamedPart]) -> Result<Mirror, NoMemory>
+    requires { IsScope scope.now }
+    ensures { IfOk result (λ m. m ≡ class_mirror_in scope.now parts.now) }
+{
+    let mut names: Vec<&str> = Vec::new(alloc);
+    let mut enclosing = None;
+    for part in parts {
+        names.push(part.name.as_str())?;
+        let arguments = arguments_of(alloc, scope, part)?;
+        let here = &parts[..names.len()];
+        if names.len() == parts.len() {
+            return whole_type(alloc, scope, names.as_slice(), here, enclosing, arguments);
+        }
+        enclosing = next_enclosing(alloc, scope, names.as_slice(), here, enclosing, arguments)?;
+    }
+    Ok(error_type(alloc, String::new(alloc)))
+}
+
+// The arguments of a name, or `None` where none are written.
+#[cycle(mirror)]
+#[tactic(auto, using(crate::proofs::MirrorLemmas::by_parts))]
+fn arguments_of(
+    alloc: Global,
+    scope: &Scope<'_>,
+    part: &NamedPart,
+) -> Result<Option<List<Mirror>>, NoMemory>
+    requires { IsScope scope.now }
+    ensures { IfOk result (λ list. list ≡ arguments_in scope.now part.now) }
+{
+    match &part.arguments {
+        None => Ok(None),
+        Some(list) => {
+            let mirrors = mirrors(alloc, scope, list.as_slice())?;
+            Ok(Some(mirrors))
+        }
+    }
+}
+
+#[cycle(mirror)]
+fn mirrors(alloc: Global, scope: &Scope<'_>, texts: &[TypeText]) -> Result<List<Mirror>, NoMemory>
+    requires { IsScope scope.now }
+    ensures { IfOk result (λ list. list ≡ map (type_mirror_in scope.now) texts.now) }
+{
+    let mut list = List::new(alloc);
+    for each in texts {
+        let one = mirror(alloc, scope, each)?;
+        list.push(one)?;
+    }
+    Ok(list)
+}
