@@ -30,12 +30,12 @@ use Rattle.apt_host.specs.Project.{Read, read_of}
 use Rattle.apt_host.specs.CleanBuild.{Summary, summary, Outcome, outcome_of, outcome_of_run, clean}
 use Rattle.apt_host.specs.CleanBuild as outcome
 use Rattle.apt_host.specs.Report.{report_of, errors_report, report_text}
-use Rattle.apt_host.specs.Verdicts.{Verdict, Done, Errors, Refused, Failed, Memory, is_free, is_tree, is_children, fails, OrFree, verdict, verdict_of}
+use Rattle.apt_host.specs.Verdicts.{Verdict, Done, Errors, Refused, Failed, Memory, is_free, is_finished, is_tree, is_children, fails, OrFree, verdict, verdict_of}
 use Rattle.apt_host.specs.Listed.{listed, entry_of, numbered_of, file_of, Gains, GainsFirst, Places, FitsEntry}
 use Rattle.apt_host.specs.Endings.{of_store, EndsEarly}
 use Rattle.apt_host.specs.Entering.{RefusesAs}
 use Rattle.apt_host.specs.Making.{finished_summary, concluded, concluding_report, outcome_with, Makes}
-use Rattle.apt_host.specs.Promises.{TalkedOf, ToldOf, Answers, Stores, Publishes, PublishesOutcome, PublishesClean, Leaves, LeavesUndone, StoresOutcome, StoresFirst, IsFront, Reports, Adds, ShowsBy, ShowsOver}
+use Rattle.apt_host.specs.Promises.{TalkedOf, ToldOf, Answers, Stores, Publishes, PublishesOutcome, PublishesClean, Leaves, LeavesUndone, StoresOutcome, StoresFirst, IsFront, CountsStarts, Reports, Adds, ShowsBy, ShowsOver}
 use Rattle.apt_host.proofs.MakingLemmas.{talked_then}
 use Rattle.apt_host.proofs.Writing.{talked, front_more}
 use Rattle.apt_host.proofs.Leaving.{stands_by}
@@ -152,6 +152,14 @@ module _ (taken : List ℕ) (finished : Finished) (numbered : AreNumbered taken 
 -- the report of a build in which no error was printed
 pub report_is : (processors : List (List ℕ)) (finished : Finished) → finished.errors ≡ 0 → report_of (finished_summary processors finished) (map listed (map entry_of finished.files)) ≡ concluding_report processors finished
 report_is processors finished none = sym (ap (λ n. cond (n == 0) (report_of (finished_summary processors finished) (map listed (map entry_of finished.files))) (errors_report (finished_summary processors finished))) none)
+
+-- one that ended with a report was neither at fault nor out of memory
+ended_unfree : (v : Verdict) → is_finished v ≡ true → is_free v ≡ false
+ended_unfree Done done = refl
+ended_unfree (Errors count) done = refl
+ended_unfree (Refused refusal) done = refl
+ended_unfree (Failed object) done = absurd cc
+ended_unfree Memory done = absurd cc
 
 -- ---- a build that ended before its run was finished
 
@@ -314,6 +322,10 @@ module _ (tells talks : Bool) (options : Options) (project : Files) (read : Read
         ∙ sym (ap (λ b. cond b (report_of summary_here (map listed (map entry_of finished.files))) (errors_report summary_here)) none))
         (λ some. ap report_text (some_errors some) ∙ sym (ap (λ b. cond b (report_of summary_here (map listed (map entry_of finished.files))) (errors_report summary_here)) some))
 
+    -- its report has the number of the starts
+    counts_here : after.starts ≡ before.starts + finished.started → CountsStarts outcome_here before after
+    counts_here starts = either (λ none. subst (λ o. CountsStarts o before after) (sym (no_errors none)) starts) (λ some. subst (λ o. CountsStarts o before after) (sym (some_errors some)) starts)
+
     module _ (v : Verdict) (answer : OrFree (concluded finished) v) where
       -- the verdict is that of the clean build
       pub answers_finished : Answers tells talks (Build options) before.says project v
@@ -341,15 +353,17 @@ module _ (tells talks : Bool) (options : Options) (project : Files) (read : Read
             (map entry_of finished.files, subst (λ t. Stores numbered.published (map entry_of finished.files) t new) (same told) (stores taken finished numbered numbered.published numbered.entries old (are told) new (gains is some)))
 
         -- what was written is the report of the outcome
-        pub reports_finished : (rose : Type 0) (written written' : List ℕ) → (fails is_tree v ≡ true → finished.errors ≡ 0)
+        pub reports_finished : (rose : Type 0) (written written' : List ℕ) → after.starts ≡ before.starts + finished.started → (fails is_tree v ≡ true → finished.errors ≡ 0)
             → Adds (λ text. IsFront ⊥ (concluding_report names_here finished) v text × Told tells (GainsFirst v text (map numbered_of finished.files) old new)) written written'
-            → Adds (Reports tells talks (Build options) before.says project new v rose) written written'
-        reports_finished rose written written' none (text, (front, gains), added) = (
+            → Adds (Reports tells talks (Build options) project new before after v rose) written written'
+        reports_finished rose written written' starts none (text, (front, gains), added) = (
           text,
           record {
             outcome = outcome_here;
             is_outcome = outcome_told;
             is_front = subst (λ r. IsFront rose r v text) (sym report_here) (front_more ⊥ rose _ v text (λ never. absurd never) front);
+            ended = λ done. answer (ended_unfree v done) ∙ verdict_here;
+            counted = λ some. counts_here starts;
             stores = λ told. stores_here text told none (gains told);
           },
           added,

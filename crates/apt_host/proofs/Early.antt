@@ -1,11 +1,12 @@
 -- What a part of a build that did not do its work is not.
-use Rattle.std.proofs.Common.{◌≡◌, ◌≢◌, ℕ, Bool, false, None, refl, sym, ◌∙◌, subst}
+use Rattle.std.proofs.Common.{◌≡◌, ◌≢◌, ℕ, Bool, true, false, None, refl, sym, ◌∙◌, subst}
 use Rattle.std.proofs.lemmas.Bool.{false≢true}
 use Rattle.tree_store.specs.declared.fault.StoreFault.{StoreFault}
 use Rattle.tree_store.specs.declared.fault.StoreFault.TheVariants as store
 use Rattle.round_engine.specs.Refusals.{BadWords, Object, Tree, Sink, Children}
-use Rattle.apt_host.specs.Verdicts.{Verdict, Done, Errors, Refused, Failed, Memory, verdict, is_finished, has_run, is_tree, is_sink, named_in, fails}
+use Rattle.apt_host.specs.Verdicts.{Verdict, Done, Errors, Refused, Failed, Memory, verdict, is_free, is_finished, has_run, is_tree, is_sink, named_in, fails}
 use Rattle.apt_host.specs.Endings.{of_store, EndsEarly, IsConcluded}
+use Rattle.apt_host.specs.Entering.{IsDueRead}
 
 module _ (is : Object → Bool) where
   pub not_done_early : (v : Verdict) → EndsEarly is v → v ≢ Done
@@ -43,6 +44,14 @@ module _ (is : Object → Bool) where
 pub store_early : (fault : StoreFault) → EndsEarly is_tree (verdict (of_store fault))
 store_early store.Failed = refl
 store_early store.Memory = tt
+
+pub store_free : (fault : StoreFault) → is_free (verdict (of_store fault)) ≡ true
+store_free store.Failed = refl
+store_free store.Memory = refl
+
+pub store_due : (fault : StoreFault) → IsDueRead (verdict (of_store fault))
+store_due store.Failed = tt
+store_due store.Memory = tt
 
 pub store_unnamed : (fault : StoreFault) → named_in (verdict (of_store fault)) ≡ None
 store_unnamed store.Failed = refl

@@ -1,15 +1,14 @@
--- What a build leaves in the tree, what its children were shown, and what is due, also where the line of a refusal wants memory.
-use Rattle.std.proofs.Common.{◌≡◌, ◌≢◌, None, Result, Ok, Err, inr, refl, sym, ap, ◌∙◌, subst}
+-- What a build leaves in the tree, and what its children were shown, also where the line of a refusal wants memory.
+use Rattle.std.proofs.Common.{◌≡◌, ◌≢◌, Result, Ok, Err, inr, refl, sym, ap, ◌∙◌, subst}
 use Rattle.apt_outside.specs.Files.{Files}
 use Rattle.apt_outside.specs.Child.{State}
 use Rattle.tree_store.specs.Output.{StoresStand}
 use Rattle.tree_store.specs.Storing.{AddsToStore}
-use Rattle.round_engine.specs.Refusals.{Refusal, BadWords, BadConfig, UnknownProcessor, UnbuiltForm, UnbuiltTalk, TooManyQuestions, ClaimBroken, GeneratedDuplicate, TooManyRounds, TooLarge, Tree, Sink, Children}
+use Rattle.round_engine.specs.Refusals.{Refusal, Tree, Sink, Children}
 use Rattle.apt_host.specs.Words.{Request, Build, Bad}
-use Rattle.apt_host.specs.Verdicts.{Verdict, Done, Errors, Refused, Failed, Memory, OrMemory, named_in}
-use Rattle.apt_host.specs.Endings.{IsConcluded}
+use Rattle.apt_host.specs.Verdicts.{Verdict, Done, Errors, Refused, Failed, Memory, OrMemory}
 use Rattle.apt_host.specs.Project.{Read, read_of}
-use Rattle.apt_host.specs.Promises.{Leaves, Finishes, ShowsOver, ShowsRun, IsDue}
+use Rattle.apt_host.specs.Promises.{Leaves, Finishes, ShowsOver, ShowsRun}
 use Rattle.apt_host.proofs.Writing.{memory_or_not}
 
 -- ---- the tree
@@ -68,33 +67,3 @@ pub shows_finish : (request : Request) (project : Files) (v w : Verdict) (old ne
 shows_finish request project v w old new finishes shown = memory_or_not w (ShowsRun request project old new w)
     (λ memory. subst (λ u. ShowsRun request project old new u) (sym memory) (shows_run_memory request project v old new shown))
     (λ ne. subst (λ u. ShowsRun request project old new u) (sym (finishes.same ne)) shown)
-
--- ---- what is due
-
-pub due_unnamed : (v : Verdict) → named_in v ≡ None → IsDue v
-due_unnamed Done none = tt
-due_unnamed (Errors count) none = tt
-due_unnamed (Refused (BadWords at)) none = tt
-due_unnamed (Refused (BadConfig path place)) none = tt
-due_unnamed (Refused (UnknownProcessor name)) none = tt
-due_unnamed (Refused (UnbuiltForm path)) none = tt
-due_unnamed (Refused (UnbuiltTalk processor)) none = tt
-due_unnamed (Refused (TooManyQuestions processor most)) none = absurd cc
-due_unnamed (Refused (ClaimBroken processor declared said)) none = absurd cc
-due_unnamed (Refused (GeneratedDuplicate name)) none = tt
-due_unnamed (Refused TooManyRounds) none = tt
-due_unnamed (Refused (TooLarge what limit)) none = tt
-due_unnamed (Failed object) none = tt
-due_unnamed Memory none = tt
-
-pub due_concluded : (v : Verdict) → IsConcluded v → IsDue v
-due_concluded Done concluded = tt
-due_concluded (Errors count) concluded = tt
-due_concluded (Refused refusal) concluded = absurd concluded
-due_concluded (Failed object) concluded = tt
-due_concluded Memory concluded = tt
-
-pub due_finish : (v w : Verdict) → Finishes v w → IsDue v → IsDue w
-due_finish v w finishes due = memory_or_not w (IsDue w)
-    (λ memory. subst IsDue (sym memory) tt)
-    (λ ne. subst IsDue (sym (finishes.same ne)) due)

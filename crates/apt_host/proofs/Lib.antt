@@ -4,9 +4,9 @@ pub mod ProjectLemmas
 pub mod Early
 pub mod Writing
 pub mod Leaving
+pub mod EarlyRefusals
 pub mod MakingLemmas
 pub mod Settling
-pub mod Counting
 pub mod Using
 pub mod Building
 pub mod UnreadWords

@@ -1,7 +1,7 @@
 -- From a clean run to what making the files of a build gives.
-use Rattle.std.proofs.Common.{◌≡◌, ℕ, ◌+◌, Bool, true, false, List, [], ◌∷◌, length, map, Result, Ok, Err, IfSome, Contains, refl, sym, ap, ◌∙◌, subst, arith}
+use Rattle.std.proofs.Common.{◌≡◌, ℕ, ◌+◌, ◌<◌, ◌≤◌, Bool, true, false, List, [], ◌∷◌, ◌++◌, length, map, take, Result, Ok, Err, IfSome, Contains, refl, sym, ap, ◌∙◌, subst, length-append, arith}
 use Rattle.std.proofs.lemmas.Bool.{false≢true}
-use Rattle.std.proofs.lemmas.List.{length-map}
+use Rattle.std.proofs.lemmas.List.{length-map, length-take-le, take_all}
 use Rattle.std.specs.Prelude.{not}
 use Rattle.apt_outside.specs.Count.{Told}
 use Rattle.apt_outside.specs.Child.{Try, State}
@@ -15,7 +15,7 @@ use Rattle.round_engine.specs.Refusals as stop
 use Rattle.round_engine.specs.Refusals.{Tree, Sink, Children, Stop, NamesAmong, is_failure, is_refusal}
 use Rattle.round_engine.specs.Faults.{stop_of, HasReason}
 use Rattle.round_engine.specs.Run.{Run, run_of, frames_of}
-use Rattle.round_engine.specs.Shown.{StopsAs, StartsUpTo, TriesInOrder, TellsMore, IsDueStop}
+use Rattle.round_engine.specs.Shown.{StopsAs, StartsUpTo, TriesInOrder, IsCounted, TellsMore, IsDueStop}
 use Rattle.round_engine.specs.Clean as clean
 use Rattle.round_engine.specs.Clean.{try_of, name_of, plan_of, tries_in, names_in, Talked}
 use Rattle.apt_host.specs.declared.status.Status.{Status}
@@ -23,7 +23,7 @@ use Rattle.apt_host.specs.Shown.{shown_project}
 use Rattle.apt_host.specs.CleanBuild.{outcome_of, outcome_of_run}
 use Rattle.apt_host.specs.Verdicts.{Done, verdict, stopped, is_free, is_finished, is_children, named_in, fails, OrFree, HasCause, verdict_of}
 use Rattle.apt_host.specs.Endings.{EndsEarly}
-use Rattle.apt_host.specs.Making.{Makes}
+use Rattle.apt_host.specs.Making.{Makes, RefusesRun}
 use Rattle.apt_host.specs.Promises.{IsDue}
 use Rattle.apt_host.specs.Builds.{UsesKey}
 
@@ -63,10 +63,29 @@ names_stop names (stop.Failed Sink) named = tt
 names_stop names (stop.Failed (Children name)) named = named
 names_stop names stop.Memory named = tt
 
-is_due_stop : (s : Stop) → IsDueStop s → IsDue (stopped s)
-is_due_stop (stop.Refused refusal) is = is
-is_due_stop (stop.Failed object) is = tt
-is_due_stop stop.Memory is = tt
+-- a refusal of a run comes behind a start
+module _ (old new : State) where
+  refuses_run : (refusal : engine.Refusal) → (is_refusal (stop_of refusal) ≡ true → old.starts < new.starts) → RefusesRun old new (stopped (stop_of refusal))
+  refuses_run (run.ChildFault processor) rose = tt
+  refuses_run (run.UnbuiltTalk processor) rose = (rose refl, refl)
+  refuses_run (run.TooManyQuestions processor most) rose = (rose refl, refl)
+  refuses_run (run.ClaimBroken processor declared said) rose = (rose refl, refl)
+  refuses_run (run.UnbuiltForm path) rose = (rose refl, refl)
+  refuses_run (run.GeneratedDuplicate name) rose = (rose refl, refl)
+  refuses_run run.TooManyRounds rose = (rose refl, refl)
+  refuses_run (run.TooLarge what limit) rose = (rose refl, refl)
+  refuses_run run.Memory rose = tt
+
+  is_due_run : (refusal : engine.Refusal) → (is_refusal (stop_of refusal) ≡ true → old.starts < new.starts) → IsDueStop (stop_of refusal) → IsDue old new (stopped (stop_of refusal))
+  is_due_run (run.ChildFault processor) rose is = tt
+  is_due_run (run.UnbuiltTalk processor) rose is = tt
+  is_due_run (run.TooManyQuestions processor most) rose is = is
+  is_due_run (run.ClaimBroken processor declared said) rose is = is
+  is_due_run (run.UnbuiltForm path) rose is = tt
+  is_due_run (run.GeneratedDuplicate name) rose is = tt
+  is_due_run run.TooManyRounds rose is = tt
+  is_due_run (run.TooLarge what limit) rose is = λ same. absurd (omega (arith, same, rose refl))
+  is_due_run run.Memory rose is = tt
 
 -- ---- the processors of a key
 
@@ -83,12 +102,29 @@ pub told_of : (talks : Bool) (processors : List Try) (P : Type 0) → Talked tal
 told_of talks [] P p = λ told. p
 told_of talks (processor ∷ others) P p = λ told. p told
 
+-- where each start gave a child, and there is one for each, all were tried
+all_tried : (processors : List Try) (old new : State) → new.starts ≡ old.starts + length processors → IsCounted old new → TriesInOrder processors old new → new.tried ≡ old.tried ++ processors
+all_tried processors old new starts counted tries =
+    let tried : length new.tried ≡ length old.tried + tries.count =
+    ap length tries.tried ∙ length-append old.tried (take tries.count processors) ∙ ap (λ n. length old.tried + n) (length-take-le tries.count processors tries.few) in
+    let whole : length processors ≤ tries.count = omega (arith, starts, counted, tried) in
+    tries.tried ∙ ap (λ ts. old.tried ++ ts) (take_all tries.count processors whole)
+
 -- what was done with the children
 module _ (talks : Bool) (key : Key) (old new : State) (tried : Told talks (TriesInOrder (tries_in key) old new)) where
-  pub uses_finished : (finished : Finished) → clean.Starts key (Ok finished) old new → Told talks (TellsMore (length (tries_in key)) old new) → UsesKey talks key Done old new
-  uses_finished finished starts more =
+  pub uses_finished : (finished : Finished) → clean.Starts key (Ok finished) old new → Told talks (IsCounted old new) → Told talks (TellsMore (length (tries_in key)) old new)
+      → UsesKey talks key Done old new
+  uses_finished finished starts counted more =
       let all : new.starts ≡ old.starts + length (tries_in key) = starts in
-      record { finished = λ done. all; least = omega (arith, all); most = omega (arith, all); named = tt; tried = tried; more = more }
+      record {
+        finished = λ done. all;
+        least = omega (arith, all);
+        most = omega (arith, all);
+        named = tt;
+        tried = tried;
+        all = λ done told. all_tried (tries_in key) old new all (counted told) (tried told);
+        more = more;
+      }
 
   pub uses_refused : (refusal : engine.Refusal) (status : Status) → verdict status ≡ stopped (stop_of refusal) → NamesAmong (names_in key) (stop_of refusal)
       → clean.Starts key (Err refusal) old new → Told talks (TellsMore (length (tries_in key)) old new) → UsesKey talks key (verdict status) old new
@@ -96,6 +132,7 @@ module _ (talks : Bool) (key : Key) (old new : State) (tried : Told talks (Tries
       let up_to : StartsUpTo (length (tries_in key)) (stop_of refusal) old new = starts in
       record {
         finished = λ done. absurd (false≢true (sym (ap is_finished due_as ∙ unfinished_stop (stop_of refusal)) ∙ ap is_finished done));
+        all = λ done. absurd (false≢true (sym (ap is_finished due_as ∙ unfinished_stop (stop_of refusal)) ∙ ap is_finished done));
         least = up_to.least;
         most = up_to.most;
         named = subst (λ v. IfSome (named_in v) (Contains (names_in key))) (sym due_as) (names_stop (names_in key) (stop_of refusal) named);
@@ -105,8 +142,12 @@ module _ (talks : Bool) (key : Key) (old new : State) (tried : Told talks (Tries
 
 -- a status that is what a run came to
 module _ (refusal : engine.Refusal) (status : Status) (due_as : verdict status ≡ stopped (stop_of refusal)) where
-  pub due_from : IsDueStop (stop_of refusal) → IsDue (verdict status)
-  due_from is = subst IsDue (sym due_as) (is_due_stop (stop_of refusal) is)
+  -- it comes behind a start
+  pub run_from : (key : Key) (old new : State) → clean.Starts key (Err refusal) old new → RefusesRun old new (verdict status)
+  run_from key old new starts = subst (RefusesRun old new) (sym due_as) (refuses_run old new refusal starts.due)
+
+  pub due_from : (key : Key) (old new : State) → clean.Starts key (Err refusal) old new → IsDueStop (stop_of refusal) → IsDue old new (verdict status)
+  due_from key old new starts is = subst (IsDue old new) (sym due_as) (is_due_run old new refusal starts.due is)
 
   pub cause_from : (before now : ℕ) → HasReason {T = Finished} before now (Err refusal) → HasCause is_children (verdict status) before now
   cause_from before now reason = record { later = reason.later; rose = λ e. reason.failed (fails_stop (stop_of refusal) (ap (fails is_children) (sym due_as) ∙ e)) }

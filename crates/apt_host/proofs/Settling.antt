@@ -1,6 +1,7 @@
 -- From what reading and settling a configuration give to what a project's run is told.
-use Rattle.std.proofs.Common.{◌≡◌, ℕ, ◌≤◌, true, false, cond, List, [], ◌∷◌, map, length, None, Some, Ok, Err, refl, sym, ap, ◌∙◌, subst, arith}
+use Rattle.std.proofs.Common.{◌≡◌, ℕ, ◌≤◌, true, false, cond, List, [], ◌∷◌, map, length, None, Some, Ok, Err, inl, inr, refl, sym, ap, ◌∙◌, subst, arith}
 use Rattle.std.proofs.lemmas.List.{length-map}
+use Rattle.apt_base.specs.declared.kinds.What.{What}
 use Rattle.apt_base.specs.declared.kinds.What.TheVariants as what
 use Rattle.apt_outside.specs.Files.{Files}
 use Rattle.apt_outside.specs.Child.{Try}
@@ -22,9 +23,9 @@ use Rattle.round_engine.specs.Clean.{plan_of, try_of, inits_fit}
 use Rattle.round_engine.specs.Units.{and_then}
 use Rattle.apt_host.specs.Words.{Options}
 use Rattle.apt_host.specs.Configuration.{Configuration, within, lists_in, with_lists, lists_behind, files_of, said, on_form, settings_in, try_in, plan_in, fitting}
-use Rattle.apt_host.specs.Verdicts.{is_tree, named_in, HasCause}
+use Rattle.apt_host.specs.Verdicts.{Verdict, Refused, OrMemory, is_tree, named_in, HasCause}
 use Rattle.apt_host.specs.Endings.{EndsEarly}
-use Rattle.apt_host.specs.Entering.{of_read, of_config, RefusesAs}
+use Rattle.apt_host.specs.Entering.{of_read, of_config, RefusesAs, IsDueRead}
 
 -- ---- the files
 
@@ -43,6 +44,11 @@ pub unnamed_read : (fault : ConfigReadFault) → named_in (of_read fault) ≡ No
 unnamed_read reads.Failed = refl
 unnamed_read (reads.TooLarge file) = refl
 unnamed_read reads.Memory = refl
+
+pub due_read : (fault : ConfigReadFault) → IsDueRead (of_read fault)
+due_read reads.Failed = tt
+due_read (reads.TooLarge file) = refl
+due_read reads.Memory = tt
 
 pub cause_read : {A : Type 0} (fault : ConfigReadFault) (before now : ℕ) → HasConfigCause {T = A} before now (Err fault) → HasCause is_tree (of_read fault) before now
 cause_read reads.Failed before now cause = record { later = cause.later; rose = λ fails. cause.failed refl }
@@ -73,6 +79,19 @@ form_as due wrong.TooManyProcessors is = ap on_form is
 form_as due (wrong.UnknownProcessor name) is = ap on_form is
 form_as due wrong.Memory is = tt
 
+due_config : (fault : ConfigFault) → IsDueRead (of_config fault)
+due_config wrong.Json = refl
+due_config (wrong.Item place) = refl
+due_config (wrong.ServiceLine line) = inl refl
+due_config (wrong.KindLine line) = inr refl
+due_config wrong.TooManyProcessors = refl
+due_config (wrong.UnknownProcessor name) = tt
+due_config wrong.Memory = tt
+
+pub due_form : (fault : ConfigFault) (v : Verdict) → OrMemory (of_config fault) v → IsDueRead v
+due_form fault v (inl same) = subst IsDueRead (sym same) (due_config fault)
+due_form fault v (inr memory) = subst IsDueRead (sym memory) tt
+
 pub settings_are : (options : Options) (c : Configuration) (settings : Settings) → settings_of c.config (said c.lists.services) (said c.lists.kinds) options ≡ Ok settings → settings_in options c ≡ Ok settings
 settings_are options c settings is = ap on_form is
 
@@ -83,6 +102,9 @@ fits plan is = ap (λ b. cond b (Ok plan) (Err (past what.Frame))) is
 
 pub fits_not : (plan : Plan) → inits_fit plan ≡ false → fitting plan ≡ Err (past what.Frame)
 fits_not plan is = ap (λ b. cond b (Ok plan) (Err (past what.Frame))) is
+
+pub due_past : (limited : What) (v : Verdict) → v ≡ Refused (past limited) → IsDueRead v
+due_past limited v is = subst IsDueRead (sym is) refl
 
 -- ---- the key
 

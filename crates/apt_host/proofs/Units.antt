@@ -1,6 +1,6 @@
 -- How sources are entered one by one.
 use Rattle.std.proofs.Common.{◌≡◌, ℕ, suc, ◌+◌, ◌<◌, ◌≤◌, Bool, true, false, cond, List, [], ◌∷◌, ◌++◌, length, Result, Ok, Err, refl, sym, ap, ◌∙◌, subst, arith}
-use Rattle.std.specs.Prelude.{nat_lt}
+use Rattle.std.specs.Prelude.{nat_lt, IfErr}
 use Rattle.std.proofs.lemmas.Bool.{lt-ltb, le-ltb}
 use Rattle.element_table.specs.TypeTable.{TypeTable, empty_table}
 use Rattle.tree_store.specs.declared.sources.RawSource.{RawSource}
@@ -10,9 +10,9 @@ use Rattle.round_engine.specs.Refusals.{Refusal, UnbuiltForm, past}
 use Rattle.round_engine.specs.Units.{Obstacle, Unbuilt, Duplicate, TooLarge, Entered, enter_source, and_then}
 use Rattle.round_engine.specs.Entering.{Obstructs}
 use Rattle.apt_host.specs.declared.status.Status.{Status}
-use Rattle.apt_host.specs.Verdicts.{Verdict, OrMemory}
+use Rattle.apt_host.specs.Verdicts.{Verdict, Done, Errors, Refused, Failed, Memory, OrMemory, verdict}
 use Rattle.apt_host.specs.Project.{table_after, enter_next, enter_all, StopsAt}
-use Rattle.apt_host.specs.Entering.{of_source, RefusesAs, EntersAll, StopsLeast}
+use Rattle.apt_host.specs.Entering.{of_source, RefusesAs, IsDueRead, EntersAll, StopsLeast}
 use Rattle.apt_host.proofs.Refusing.{refuses_or, refuses_then}
 
 -- ---- one source
@@ -129,3 +129,43 @@ module _ (refusal : Refusal) where
 pub stops_least : (sources : List RawSource) (result : Result TypeTable Status) → EntersAll (enter_all empty_table 0 sources) result → StopsLeast sources result
 stops_least sources (Ok table) enters = tt
 stops_least sources (Err status) enters = λ refusal is. stops_at refusal sources (subst (RefusesAs (enter_all empty_table 0 sources)) is enters)
+
+-- ---- what is due of a refusal
+
+abbrev IsDueOutcome : Result TypeTable Refusal → Type 0
+IsDueOutcome (Ok table) = Unit {0}
+IsDueOutcome (Err refusal) = IsDueRead (Refused refusal)
+
+due_if : (b : Bool) (one other : Result TypeTable Refusal) → IsDueOutcome one → IsDueOutcome other → IsDueOutcome (cond b one other)
+due_if true one other first second = first
+due_if false one other first second = second
+
+due_then : (outcome : Result TypeTable Refusal) (next : TypeTable → Result TypeTable Refusal) → IsDueOutcome outcome → ((table : TypeTable) → IsDueOutcome (next table)) → IsDueOutcome (and_then outcome next)
+due_then (Ok table) next first later = later table
+due_then (Err refusal) next first later = first
+
+due_entered : (path : List ℕ) (outcome : Result Entered Obstacle) → IsDueOutcome (table_after path outcome)
+due_entered path (Ok entered) = tt
+due_entered path (Err Unbuilt) = tt
+due_entered path (Err (Duplicate name)) = tt
+due_entered path (Err (TooLarge what)) = refl
+
+due_next : (table : TypeTable) (count : ℕ) (source : RawSource) → IsDueOutcome (enter_next table count source)
+due_next table count source = due_if (nat_lt count 1000) (table_after source.path (enter_source table source.bytes)) (Err (UnbuiltForm source.path)) (due_entered source.path (enter_source table source.bytes)) tt
+
+due_sources : (table : TypeTable) (count : ℕ) (sources : List RawSource) → IsDueOutcome (enter_all table count sources)
+due_sources table count [] = tt
+due_sources table count (source ∷ sources) =
+    due_then (enter_next table count source) (λ next. enter_all next (count + 1) sources) (due_next table count source) (λ next. due_sources next (count + 1) sources)
+
+due_refused : (outcome : Result TypeTable Refusal) (v : Verdict) → IsDueOutcome outcome → RefusesAs outcome v → IsDueRead v
+due_refused outcome Done due refuses = absurd refuses
+due_refused outcome (Errors count) due refuses = absurd refuses
+due_refused outcome (Refused refusal) due refuses = subst IsDueOutcome refuses due
+due_refused outcome (Failed object) due refuses = tt
+due_refused outcome Memory due refuses = tt
+
+-- sources that are refused by a limit are so by that of the quantity
+pub due_all : (sources : List RawSource) (result : Result TypeTable Status) → EntersAll (enter_all empty_table 0 sources) result → IfErr result (λ status. IsDueRead (verdict status))
+due_all sources (Ok table) enters = tt
+due_all sources (Err status) enters = due_refused (enter_all empty_table 0 sources) (verdict status) (due_sources empty_table 0 sources) enters

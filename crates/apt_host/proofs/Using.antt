@@ -7,8 +7,8 @@ use Rattle.apt_outside.specs.Child.{Try, State}
 use Rattle.round_engine.specs.declared.project.Key.{Key}
 use Rattle.round_engine.specs.Clean.{tries_in, names_in}
 use Rattle.apt_host.specs.Words.{Options, Request, Build, Bad}
-use Rattle.apt_host.specs.Verdicts.{Verdict, Done, is_finished, has_run, named_in}
-use Rattle.apt_host.specs.Promises.{AreRead, Uses, Counts, Finishes, processors_of}
+use Rattle.apt_host.specs.Verdicts.{Verdict, Done, has_run, named_in}
+use Rattle.apt_host.specs.Promises.{AreRead, Uses, Finishes, processors_of}
 use Rattle.apt_host.specs.Builds.{UsesKey}
 use Rattle.apt_host.proofs.MakingLemmas.{names_are, count_tries}
 use Rattle.apt_host.proofs.Writing.{memory_or_not}
@@ -33,12 +33,9 @@ uses_none tells talks request project v state stops none =
       few = omega arith;
       named = subst (λ name. IfSome name (Contains (map (λ (processor : Try). processor.0) read))) (sym none) tt;
       tried = λ told. record { count = 0; few = omega arith; tried = sym (append-nil state.tried) };
+      all = λ run. absurd (false≢true (sym stops ∙ run));
       more = λ told. record { group = []; few = omega arith; tells = record { different = tt; unknown = tt; others = λ child outside. refl } };
     }
-
--- and nothing is counted: such a build did not finish
-pub counts_none : {P : Type 0} (v : Verdict) → is_finished v ≡ false → is_finished v ≡ true → P
-counts_none v unfinished done = absurd (false≢true (sym unfinished ∙ done))
 
 -- ---- behind a run
 
@@ -60,6 +57,7 @@ module _ (tells talks : Bool) (options : Options) (project : Files) (key : Key) 
         few = omega (arith, most, most_here);
         named = subst (λ names. IfSome (named_in w) (Contains names)) (names_are key.processors) named;
         tried = uses.tried;
+        all = λ run. uses.all (done run);
         more = uses.more;
       }
 
@@ -70,11 +68,6 @@ still_run : (v w : Verdict) → Finishes v w → has_run w ≡ true → has_run 
 still_run v w finishes run = memory_or_not w (has_run v ≡ true)
     (λ memory. absurd (let e : false ≡ true = sym (ap has_run memory) ∙ run in cc))
     (λ ne. sym (ap has_run (finishes.same ne)) ∙ run)
-
-still_finished : (v w : Verdict) → Finishes v w → is_finished w ≡ true → is_finished v ≡ true
-still_finished v w finishes done = memory_or_not w (is_finished v ≡ true)
-    (λ memory. absurd (let e : false ≡ true = sym (ap is_finished memory) ∙ done in cc))
-    (λ ne. sym (ap is_finished (finishes.same ne)) ∙ done)
 
 pub uses_after : (tells talks : Bool) (request : Request) (project : Files) (v w : Verdict) (old new : State) → Finishes v w → Uses tells talks request project v old new → Uses tells talks request project w old new
 uses_after tells talks request project v w old new finishes uses = record {
@@ -88,11 +81,6 @@ uses_after tells talks request project v w old new finishes uses = record {
       (λ memory. subst (λ u. IfSome (named_in u) (Contains (map (λ (processor : Try). processor.0) uses.processors))) (sym memory) tt)
       (λ ne. subst (λ u. IfSome (named_in u) (Contains (map (λ (processor : Try). processor.0) uses.processors))) (sym (finishes.same ne)) uses.named);
   tried = uses.tried;
+  all = λ run. uses.all (still_run v w finishes run);
   more = uses.more;
 }
-
--- a report stays where no line is added to it
-pub counts_after : (v w : Verdict) (old new : State) (before mid after : List ℕ) → Finishes v w → (is_finished w ≡ true → after ≡ mid) → Counts v old new before mid → Counts w old new before after
-counts_after v w old new before mid after finishes same counts = λ done.
-    let counted = counts (still_finished v w finishes done) in
-    (counted.0, counted.1, counted.2, same done ∙ counted.3)

@@ -1,7 +1,8 @@
 -- What is written, by the verdict.
 use Rattle.std.proofs.Common.{◌≡◌, ◌≢◌, ℕ, Bool, true, false, List, [], ◌∷◌, ◌++◌, Result, Ok, Err, refl, sym, ap, ◌∙◌, subst, inl, inr, take, append-nil, append_assoc}
+use Rattle.std.proofs.lemmas.Bool.{false≢true}
 use Rattle.apt_outside.specs.Files.{Files}
-use Rattle.apt_outside.specs.Child.{Says, Try}
+use Rattle.apt_outside.specs.Child.{Try, State}
 use Rattle.apt_outside.specs.declared.fault.Fault.{Fault}
 use Rattle.apt_outside.specs.declared.fault.Fault.TheVariants as outside
 use Rattle.apt_outside.specs.Stream.{Appends}
@@ -12,7 +13,7 @@ use Rattle.apt_host.specs.Words.{Request, Build, Bad}
 use Rattle.apt_host.specs.Project.{Read, read_of}
 use Rattle.apt_host.specs.CleanBuild.{Summary, Outcome, clean}
 use Rattle.apt_host.specs.CleanBuild as outcome
-use Rattle.apt_host.specs.Verdicts.{Verdict, Done, Errors, Refused, Failed, Memory, is_finished, is_sink, fails}
+use Rattle.apt_host.specs.Verdicts.{Verdict, Done, Errors, Refused, Failed, Memory, is_finished, is_sink, fails, verdict_of}
 use Rattle.apt_host.specs.Promises.{TalkedOf, IsFront, IsLine, IsOutcome, Reports, Adds, Writes, Finishes}
 
 -- a status is want of memory, or it is not
@@ -84,18 +85,26 @@ line_more v r s line more (inl all) = inl all
 line_more v r s line more (inr (inl memory)) = inr (inl memory)
 line_more v r s line more (inr (inr cut)) = inr (inr (more cut.0, cut.1))
 
-module _ (tells talks : Bool) (request : Request) (says : Says) (project project' : Files) where
+module _ (tells talks : Bool) (request : Request) (project project' : Files) (before after : State) where
   abbrev Written : Verdict → Type 0 → List ℕ → Type 0
-  Written v rose text = Reports tells talks request says project project' v rose text
+  Written v rose text = Reports tells talks request project project' before after v rose text
 
   still_tree : (v w : Verdict) → (w ≢ Memory → w ≡ v) → w ≡ Failed Tree → v ≡ Failed Tree
   still_tree v w same is = sym (same (λ memory. let e : Memory ≡ Failed Tree = sym memory ∙ is in cc)) ∙ is
+
+  -- its answer is that of its outcome
+  ended_after : (v w : Verdict) (o : Outcome) → (w ≢ Memory → w ≡ v) → (is_finished v ≡ true → v ≡ verdict_of o) → is_finished w ≡ true → w ≡ verdict_of o
+  ended_after v w o same ended done =
+      let as_before : w ≡ v = same (λ memory. false≢true (sym (ap is_finished memory) ∙ done)) in
+      as_before ∙ ended (sym (ap is_finished as_before) ∙ done)
 
   reports_after : (v w : Verdict) (r s : Type 0) (text : List ℕ) → Finishes v w → (r → s) → (fails is_sink v ≡ true → s) → Written v r text → Written w s text
   reports_after v w r s text fin more why reports = record {
     outcome = reports.outcome;
     is_outcome = reports.is_outcome;
     is_front = front_after s _ v w text why fin.same (front_more r s _ v text more reports.is_front);
+    ended = ended_after v w reports.outcome fin.same reports.ended;
+    counted = reports.counted;
     stores = λ told is some. reports.stores told (still_tree v w fin.same is) some;
   }
 
@@ -110,12 +119,12 @@ module _ (tells talks : Bool) (request : Request) (says : Says) (project project
   }
 
   outcome_for : Request → Outcome
-  outcome_for (Build options) = clean says options project
+  outcome_for (Build options) = clean before.says options project
   outcome_for (Bad at) = outcome.Refused (BadWords at)
 
-  own_outcome : (r : Request) → IsOutcome tells talks r says project (outcome_for r)
+  own_outcome : (r : Request) → IsOutcome tells talks r before.says project (outcome_for r)
   unfolding outcome_for
-  own_outcome (Build options) = λ told. talked talks (read_of options project) (clean says options project ≡ clean says options project) refl
+  own_outcome (Build options) = λ told. talked talks (read_of options project) (clean before.says options project ≡ clean before.says options project) refl
   own_outcome (Bad at) = refl
 
   -- nothing was written yet
@@ -126,6 +135,8 @@ module _ (tells talks : Bool) (request : Request) (says : Says) (project project
       outcome = outcome_for request;
       is_outcome = own_outcome request;
       is_front = nothing_yet rose _ v unfinished other;
+      ended = λ done. absurd (false≢true (sym unfinished ∙ done));
+      counted = λ some. absurd (some refl);
       stores = λ told is some. absurd (some refl);
     },
     sym (append-nil old),

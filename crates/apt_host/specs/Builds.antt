@@ -1,5 +1,5 @@
 -- The promises of a build, and of its parts, over the objects that they are given: each where the objects tell what it speaks of.
-use Rattle.std.specs.Prelude.{◌≡◌, ℕ, ◌+◌, ◌≤◌, Bool, List, length, Contains, Result, OnOk, IfSome, map}
+use Rattle.std.specs.Prelude.{◌≡◌, ℕ, ◌+◌, ◌≤◌, Bool, List, ◌++◌, length, Contains, Result, OnOk, IfSome, map}
 use Rattle.apt_outside.specs.declared.tree.Tree as tree
 use Rattle.apt_outside.specs.declared.children.Children as children
 use Rattle.apt_outside.specs.declared.stream.Sink as sink
@@ -34,13 +34,15 @@ use Rattle.apt_host.specs.Promises as promise
 abbrev pub Uses : {T C : Type 0} → tree.Ghosts T → children.Ghosts C → Options → T → C → C → Result Ending Status → Type 0
 Uses t c options tree old new result = promise.Uses t.tells c.tells (Build options) (t.files tree) (closed result) (c.state old) (c.state new)
 
--- what a run does with the children is done for the processors of its key: one was started for each where it finished, their starts were tried in order, and no other
+-- what a run does with the children is done for the processors of its key: one was started for each where it finished, their starts were tried in order, all of them where it finished, and
+-- no other
 pub record UsesKey (talks : Bool) (key : Key) (v : Verdict) (old new : State) : Type 0 where
   pub finished : v ≡ Done → new.starts ≡ old.starts + length (tries_in key)
   pub least : old.starts ≤ new.starts
   pub most : new.starts ≤ old.starts + length (tries_in key)
   pub named : IfSome (named_in v) (Contains (names_in key))
   pub tried : Told talks (TriesInOrder (tries_in key) old new)
+  pub all : v ≡ Done → Told talks (new.tried ≡ old.tried ++ tries_in key)
   pub more : Told talks (TellsMore (length (tries_in key)) old new)
 
 abbrev pub UsesFor : {C : Type 0} → children.Ghosts C → Project → C → C → Result Finished Status → Type 0
@@ -64,6 +66,10 @@ OnTable options tree tree' children children' result = promise.OffTable (Build o
 -- the answer is the clean build's
 abbrev pub Answers : {T C : Type 0} → tree.Ghosts T → children.Ghosts C → Options → T → C → Result Ending Status → Type 0
 Answers t c options tree children result = promise.Answers t.tells c.tells (Build options) (c.state children).says (t.files tree) (closed result)
+
+-- a refusal before a run is that of the project
+abbrev pub Refuses : {T C : Type 0} → tree.Ghosts T → children.Ghosts C → Options → T → C → C → Result Ending Status → Type 0
+Refuses t c options tree old new result = promise.RefusesRead t.tells (Build options) (t.files tree) (c.state old) (c.state new) (closed result)
 
 -- so is what is published
 abbrev pub Publishes : {T C : Type 0} → tree.Ghosts T → children.Ghosts C → Options → T → T → C → Result Ending Status → Type 0
@@ -101,15 +107,11 @@ Tells t w names finished tree tree' old new result =
     Told w.tells (promise.Adds (promise.StandsFirst t.tells (concluding_report names finished) (map numbered_of finished.files) (closed result) (t.files tree) (t.files tree')) (w.written old) (w.written new))
 
 -- what stands of the report of a build
-abbrev pub IsReport : {T C W : Type 0} → tree.Ghosts T → children.Ghosts C → sink.Ghosts W → Options → T → T → C → W → W → Result Ending Status → List ℕ → Type 0
-IsReport t c w options tree tree' children old new result =
-    promise.Reports t.tells c.tells (Build options) (c.state children).says (t.files tree) (t.files tree') (closed result) (Rose (w.faults old) (w.faults new))
+abbrev pub IsReport : {T C W : Type 0} → tree.Ghosts T → children.Ghosts C → sink.Ghosts W → Options → T → T → C → C → W → W → Result Ending Status → List ℕ → Type 0
+IsReport t c w options tree tree' children children' old new result =
+    promise.Reports t.tells c.tells (Build options) (t.files tree) (t.files tree') (c.state children) (c.state children') (closed result) (Rose (w.faults old) (w.faults new))
 
 -- it was added
-abbrev pub Reports : {T C W : Type 0} → tree.Ghosts T → children.Ghosts C → sink.Ghosts W → Options → T → T → C → W → W → Result Ending Status → Type 0
-Reports t c w options tree tree' children old new result =
-    Told w.tells (promise.Adds (IsReport t c w options tree tree' children old new result) (w.written old) (w.written new))
-
--- the report begins with the number of the children that were started
-abbrev pub Counts : {C W : Type 0} → children.Ghosts C → sink.Ghosts W → C → C → W → W → Result Ending Status → Type 0
-Counts c w children children' old new result = Told w.tells (promise.Counts (closed result) (c.state children) (c.state children') (w.written old) (w.written new))
+abbrev pub Reports : {T C W : Type 0} → tree.Ghosts T → children.Ghosts C → sink.Ghosts W → Options → T → T → C → C → W → W → Result Ending Status → Type 0
+Reports t c w options tree tree' children children' old new result =
+    Told w.tells (promise.Adds (IsReport t c w options tree tree' children children' old new result) (w.written old) (w.written new))

@@ -30,6 +30,10 @@ OffTable words tree tree' children children' result = promise.OffTable (asked wo
 abbrev pub Answers : {T C : Type 0} → tree.Ghosts T → children.Ghosts C → List (String Global) → T → C → Status → Type 0
 Answers t c words tree children result = promise.Answers t.tells c.tells (asked words) (c.state children).says (t.files tree) (verdict result)
 
+-- a refusal before a run is that of the project
+abbrev pub Refuses : {T C : Type 0} → tree.Ghosts T → children.Ghosts C → List (String Global) → T → C → C → Status → Type 0
+Refuses t c words tree old new result = promise.RefusesRead t.tells (asked words) (t.files tree) (c.state old) (c.state new) (verdict result)
+
 -- so is what is published
 abbrev pub Publishes : {T C : Type 0} → tree.Ghosts T → children.Ghosts C → List (String Global) → T → T → C → Status → Type 0
 Publishes t c words old new children result = promise.PublishesClean t.tells c.tells (asked words) (c.state children).says (t.files old) (t.files new) (verdict result)
@@ -49,20 +53,16 @@ abbrev pub AddsLine : {W : Type 0} → sink.Ghosts W → W → W → Status → 
 AddsLine w old new result = Told w.tells (promise.Adds (IsLine w old new result) (w.written old) (w.written new))
 
 -- what stands of the report
-abbrev pub IsReport : {T C W : Type 0} → tree.Ghosts T → children.Ghosts C → sink.Ghosts W → List (String Global) → T → T → C → W → W → Status → List ℕ → Type 0
-IsReport t c w words tree tree' children old new result =
-    promise.Reports t.tells c.tells (asked words) (c.state children).says (t.files tree) (t.files tree') (verdict result) (RoseIn w old new)
+abbrev pub IsReport : {T C W : Type 0} → tree.Ghosts T → children.Ghosts C → sink.Ghosts W → List (String Global) → T → T → C → C → W → W → Status → List ℕ → Type 0
+IsReport t c w words tree tree' children children' old new result =
+    promise.Reports t.tells c.tells (asked words) (t.files tree) (t.files tree') (c.state children) (c.state children') (verdict result) (RoseIn w old new)
 
 -- it was added
-abbrev pub Reports : {T C W : Type 0} → tree.Ghosts T → children.Ghosts C → sink.Ghosts W → List (String Global) → T → T → C → W → W → Status → Type 0
-Reports t c w words tree tree' children old new result =
-    Told w.tells (promise.Adds (IsReport t c w words tree tree' children old new result) (w.written old) (w.written new))
+abbrev pub Reports : {T C W : Type 0} → tree.Ghosts T → children.Ghosts C → sink.Ghosts W → List (String Global) → T → T → C → C → W → W → Status → Type 0
+Reports t c w words tree tree' children children' old new result =
+    Told w.tells (promise.Adds (IsReport t c w words tree tree' children children' old new result) (w.written old) (w.written new))
 
 -- it was added, and then the line
-abbrev pub Writes : {T C W : Type 0} → tree.Ghosts T → children.Ghosts C → sink.Ghosts W → List (String Global) → T → T → C → W → W → Status → Type 0
-Writes t c w words tree tree' children old new result =
-    Told w.tells (promise.Writes (IsReport t c w words tree tree' children old new result) (IsLine w old new result) (w.written old) (w.written new))
-
--- the report begins with the number of the children that were started
-abbrev pub Counts : {C W : Type 0} → children.Ghosts C → sink.Ghosts W → C → C → W → W → Status → Type 0
-Counts c w children children' old new result = Told w.tells (promise.Counts (verdict result) (c.state children) (c.state children') (w.written old) (w.written new))
+abbrev pub Writes : {T C W : Type 0} → tree.Ghosts T → children.Ghosts C → sink.Ghosts W → List (String Global) → T → T → C → C → W → W → Status → Type 0
+Writes t c w words tree tree' children children' old new result =
+    Told w.tells (promise.Writes (IsReport t c w words tree tree' children children' old new result) (IsLine w old new result) (w.written old) (w.written new))

@@ -1,6 +1,6 @@
 -- What the three files of a project's configuration and the options of the words come to, or the first refusal. All files are read before any is looked into:
 -- one that is too large is told before one that is off its form. The file of services is read only where `apt.json` has no order.
-use Rattle.std.specs.Prelude.{ℕ, not, List, [], None, Some, map, Result, Ok, Err, if◌then◌else◌}
+use Rattle.std.specs.Prelude.{◌≡◌, ◌⊎◌, ℕ, Bool, true, false, not, List, [], None, Some, map, Result, Ok, Err, if◌then◌else◌}
 use Rattle.apt_base.specs.declared.kinds.What.TheVariants as what
 use Rattle.apt_outside.specs.Files.{Files}
 use Rattle.apt_outside.specs.Child.{Try}
@@ -14,7 +14,7 @@ use Rattle.project_config.specs.declared.settings.Settings.{Settings}
 use Rattle.project_config.specs.Answers as reading
 use Rattle.project_config.specs.Reading.{has_order}
 use Rattle.project_config.specs.Discovery.{settings_of}
-use Rattle.round_engine.specs.Refusals.{Refusal, BadConfig, UnknownProcessor, Json, Item, Line, past}
+use Rattle.round_engine.specs.Refusals.{Refusal, BadConfig, UnknownProcessor, Place, Json, Item, Line, past}
 use Rattle.round_engine.specs.Units.{and_then}
 use Rattle.round_engine.specs.Run.{Plan}
 use Rattle.round_engine.specs.Clean.{inits_fit}
@@ -66,6 +66,18 @@ refusal_by wrong.Memory = BadConfig [] Json
 abbrev pub on_form : {A : Type 0} → reading.Reading A → Result A Refusal
 on_form (Ok value) = Ok value
 on_form (Err fault) = Err (refusal_by fault)
+
+-- a place that a file with this path has: `apt.json` as a whole or an item of it, or a line of one of the two others
+abbrev pub IsPlaceOf : List ℕ → Place → Type 0
+IsPlaceOf path Json = path ≡ tree.path_of file.Config
+IsPlaceOf path (Item item) = path ≡ tree.path_of file.Config
+IsPlaceOf path (Line line) = (path ≡ tree.path_of file.Services) ⊎ (path ≡ tree.path_of file.Kinds)
+
+-- a refusal that nothing but the configuration of a project comes to
+abbrev pub is_of_config : Refusal → Bool
+is_of_config (BadConfig path place) = true
+is_of_config (UnknownProcessor name) = true
+is_of_config other = false
 
 -- the level, the options and the processors, or the first refusal
 abbrev pub settings_in : Options → Configuration → Result Settings Refusal

@@ -11,12 +11,13 @@ use Rattle.project_config.specs.declared.fault.ConfigFault.TheVariants as wrong
 use Rattle.project_config.specs.Reading.{has_order}
 use Rattle.round_engine.specs.declared.source_fault.SourceFault.{SourceFault}
 use Rattle.round_engine.specs.declared.source_fault.SourceFault.TheVariants as code
+use Rattle.round_engine.specs.Limits.{limit_of}
 use Rattle.round_engine.specs.Refusals as stop
 use Rattle.round_engine.specs.Refusals.{Tree, past}
 use Rattle.round_engine.specs.Units.{Unbuilt, Duplicate, TooLarge}
 use Rattle.apt_host.specs.declared.configuration.RawConfiguration.{RawConfiguration}
 use Rattle.apt_host.specs.declared.status.Status.{Status}
-use Rattle.apt_host.specs.Configuration.{Configuration, refusal_by}
+use Rattle.apt_host.specs.Configuration.{Configuration, refusal_by, IsPlaceOf}
 use Rattle.apt_host.specs.Project.{refusal_at, StopsAt}
 use Rattle.apt_host.specs.Verdicts.{Verdict, Done, Errors, Refused, Failed, Memory, verdict, is_tree}
 
@@ -54,6 +55,12 @@ RefusesAs due (Failed object) = is_tree object ≡ true
 RefusesAs due Memory = Unit {0}
 RefusesAs due Done = ⊥
 RefusesAs due (Errors count) = ⊥
+
+-- whatever the tree tells, a refusal of a file of the configuration has a place of that file, and one by a limit has that limit
+abbrev pub IsDueRead : Verdict → Type 0
+IsDueRead (Refused (stop.BadConfig path place)) = IsPlaceOf path place
+IsDueRead (Refused (stop.TooLarge what limit)) = limit ≡ limit_of what
+IsDueRead other = Unit {0}
 
 -- it came to what the definition has, where means says what a value of the code is there, or it is refused
 abbrev pub ComesAs : {A T : Type 0} → Result A stop.Refusal → (T → A) → Result T Status → Type 0

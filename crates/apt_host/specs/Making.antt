@@ -1,5 +1,5 @@
 -- What making the files of a build gives.
-use Rattle.std.specs.Prelude.{◌≡◌, ◌==◌, ℕ, Bool, true, not, List, length, map, if◌then◌else◌, Result, Ok, Err}
+use Rattle.std.specs.Prelude.{◌≡◌, ◌==◌, ℕ, ◌<◌, Bool, true, false, not, List, length, map, if◌then◌else◌, Result, Ok, Err}
 use Rattle.apt_outside.specs.Files.{Files}
 use Rattle.apt_outside.specs.Child.{Says, State}
 use Rattle.round_engine.specs.declared.running.Finished.{Finished}
@@ -7,12 +7,13 @@ use Rattle.round_engine.specs.Run.{run_of, frames_of}
 use Rattle.round_engine.specs.Shown.{TellsMore, ShowsNoMore}
 use Rattle.round_engine.specs.Clean.{FinishesAs, ShowsWhole}
 use Rattle.apt_host.specs.declared.status.Status.{Status}
+use Rattle.apt_host.specs.Configuration.{is_of_config}
 use Rattle.apt_host.specs.Project.{Read}
 use Rattle.apt_host.specs.CleanBuild as outcome
 use Rattle.apt_host.specs.CleanBuild.{Summary, Outcome, outcome_of}
 use Rattle.apt_host.specs.Report.{report_of, errors_report}
 use Rattle.apt_host.specs.Listed.{listed, entry_of}
-use Rattle.apt_host.specs.Verdicts.{Verdict, Done, Errors, OrFree, is_free, verdict, verdict_of}
+use Rattle.apt_host.specs.Verdicts.{Verdict, Done, Errors, Refused, OrFree, is_free, verdict, verdict_of}
 
 -- what was made is the run's, where it is due
 abbrev pub MakesOf : Says → Read → Result Finished Status → Type 0
@@ -30,6 +31,11 @@ pub record Makes (read : Read) (old new : State) (result : Result Finished Statu
   pub shown : is_made result ≡ true → ShowsWhole read.plan.processors (run_of old.says read.plan read.table) old new
   -- also after a fault of the children or want of memory
   pub fronts : ShowsNoMore read.plan.processors (frames_of (run_of old.says read.plan read.table)) old new
+
+-- whatever the children tell, a refusal comes behind a start, and is none of the configuration
+abbrev pub RefusesRun : State → State → Verdict → Type 0
+RefusesRun old new (Refused refusal) = (old.starts < new.starts) × (is_of_config refusal ≡ false)
+RefusesRun old new other = Unit {0}
 
 -- ---- what comes after the run
 

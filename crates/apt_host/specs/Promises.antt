@@ -8,6 +8,7 @@ use Rattle.tree_store.specs.declared.record.StoredFile.{StoredFile}
 use Rattle.tree_store.specs.RecordFormat.{record_form}
 use Rattle.tree_store.specs.Output.{store_path, output_of, record_path, StoresStand}
 use Rattle.tree_store.specs.Storing.{Numbered, AreTaken, AddsToStore, ChangesAmong, Holds}
+use Rattle.round_engine.specs.Limits.{limit_of}
 use Rattle.round_engine.specs.Numbering.{AreLeast}
 use Rattle.round_engine.specs.Refusals as stop
 use Rattle.round_engine.specs.Refusals.{Refusal, BadWords, Object, Tree, Sink, Children}
@@ -15,10 +16,11 @@ use Rattle.round_engine.specs.Run.{run_of, frames_of}
 use Rattle.round_engine.specs.Shown.{TriesInOrder, TellsMore, ShowsNoMore, IsDueStop}
 use Rattle.round_engine.specs.Clean.{Talked, ShowsWhole}
 use Rattle.apt_host.specs.Words.{Options, Request, Build, Bad}
+use Rattle.apt_host.specs.Configuration.{IsPlaceOf, is_of_config}
 use Rattle.apt_host.specs.Project.{Read, read_of}
 use Rattle.apt_host.specs.CleanBuild.{Outcome, clean}
 use Rattle.apt_host.specs.CleanBuild as outcome
-use Rattle.apt_host.specs.Report.{mode_line, report_text}
+use Rattle.apt_host.specs.Report.{report_text}
 use Rattle.apt_host.specs.Listed.{GainsFirst}
 use Rattle.apt_host.specs.Verdicts.{Verdict, Done, Errors, Refused, Failed, Memory, OrFree, OrMemory, is_finished, has_run, named_in, verdict_of, refusal_of}
 
@@ -39,6 +41,13 @@ ToldOf tells talks options project P = Told tells (TalkedOf talks (read_of optio
 abbrev pub Answers : Bool → Bool → Request → Says → Files → Verdict → Type 0
 Answers tells talks (Build options) says project v = ToldOf tells talks options project (OrFree (verdict_of (clean says options project)) v)
 Answers tells talks (Bad at) says project v = OrMemory (Refused (BadWords at)) v
+
+-- Where the tree tells what it holds, a build that is refused before any child was started is refused as its project is, whatever the children tell. So is one whose
+-- refusal nothing but the configuration comes to.
+abbrev pub RefusesRead : Bool → Request → Files → State → State → Verdict → Type 0
+RefusesRead tells (Build options) project old new v =
+    Told tells ((refusal : Refusal) → v ≡ Refused refusal → (new.starts ≡ old.starts) ⊎ (is_of_config refusal ≡ true) → read_of options project ≡ Err refusal)
+RefusesRead tells (Bad at) project old new v = Unit {0}
 
 -- Words that no command has leave the tree and the children as they were. No build answers that its words are such.
 abbrev pub OffTable : {T C : Type 0} → Request → Verdict → T → T → C → C → Type 0
@@ -143,11 +152,21 @@ StoresOutcome (outcome.Refused refusal) old new = ⊥
 abbrev pub StoresFirst : Outcome → Verdict → List ℕ → Files → Files → Type 0
 StoresFirst o v text old new = v ≡ Failed Tree → text ≢ [] → StoresOutcome o old new
 
+-- the number in the mode line of an outcome's report is that by which the starts rose
+abbrev pub CountsStarts : Outcome → State → State → Type 0
+CountsStarts (outcome.Built files summary) old new = new.starts ≡ old.starts + summary.started
+CountsStarts (outcome.Errors summary) old new = new.starts ≡ old.starts + summary.started
+CountsStarts (outcome.Refused refusal) old new = Unit {0}
+
 -- what a request writes of its report
-pub record Reports (tells talks : Bool) (request : Request) (says : Says) (project project' : Files) (v : Verdict) (rose : Type 0) (text : List ℕ) : Type 0 where
+pub record Reports (tells talks : Bool) (request : Request) (project project' : Files) (old new : State) (v : Verdict) (rose : Type 0) (text : List ℕ) : Type 0 where
   pub outcome : Outcome
-  pub is_outcome : IsOutcome tells talks request says project outcome
+  pub is_outcome : IsOutcome tells talks request old.says project outcome
   pub is_front : IsFront rose (report_text outcome) v text
+  -- a finished build writes the report of an outcome with its answer, whatever the tree and the children tell
+  pub ended : is_finished v ≡ true → v ≡ verdict_of outcome
+  -- wherever anything of the report stands, its mode line is of the children that were started
+  pub counted : text ≢ [] → CountsStarts outcome old new
   pub stores : Told tells (StoresFirst outcome v text project project')
 
 -- the text was added
@@ -161,11 +180,6 @@ pub record Writes (reports lines : List ℕ → Type 0) (old new : List ℕ) : T
   pub line : List ℕ
   pub is_line : lines line
   pub added : new ≡ old ++ (text ++ line)
-
--- the report of a finished build begins with the number of the children that were started, whatever the tree and the children tell
-abbrev pub Counts : Verdict → State → State → List ℕ → List ℕ → Type 0
-Counts v old new written written' =
-    is_finished v ≡ true → (started : ℕ) × (rest : List ℕ) × (new.starts ≡ old.starts + started) × (written' ≡ written ++ (mode_line started ++ rest))
 
 -- the refusal stays, but where its line wants memory
 pub record Finishes (before after : Verdict) : Type 0 where
@@ -190,8 +204,8 @@ AreRead tells (Build options) project processors = Told tells (processors ≡ pr
 AreRead tells (Bad at) project processors = processors ≡ []
 
 -- Children are started for the processors that were read, which are those of the project where the tree tells what it holds: one for each where the run was finished. Their
--- starts were tried in order, up to one of them, and no other. A refusal or a fault that names a processor names one of them, and nothing is told anew but of one new child for
--- each at most. So nothing is started or tried for a project that is refused, and where the words name no command.
+-- starts were tried in order, all of them where the run was finished, or up to one of them, and no other. A refusal or a fault that names a processor names one of them, and nothing is
+-- told anew but of at most as many children, which are new. So nothing is started or tried for a project that is refused, and where the words name no command.
 pub record Uses (tells talks : Bool) (request : Request) (project : Files) (v : Verdict) (old new : State) : Type 0 where
   pub processors : List Try
   pub are : AreRead tells request project processors
@@ -201,12 +215,16 @@ pub record Uses (tells talks : Bool) (request : Request) (project : Files) (v : 
   pub few : new.starts ≤ old.starts + 64
   pub named : IfSome (named_in v) (Contains (map (λ (processor : Try). processor.0) processors))
   pub tried : Told talks (TriesInOrder processors old new)
+  pub all : has_run v ≡ true → Told talks (new.tried ≡ old.tried ++ processors)
   pub more : Told talks (TellsMore (length processors) old new)
 
--- whatever the children tell, a refusal by a limit has that of some roots, and one by a claim that was broken broke it
-abbrev pub IsDue : Verdict → Type 0
-IsDue (Refused refusal) = IsDueStop (stop.Refused refusal)
-IsDue other = Unit {0}
+-- Whatever the tree and the children tell, a refusal of a file of the configuration names one of the three with a place that it has. One by a limit has that limit where no child
+-- was started, one for too many questions has that of some roots, and one by a claim that was broken broke it.
+abbrev pub IsDue : State → State → Verdict → Type 0
+IsDue old new (Refused (stop.BadConfig path place)) = IsPlaceOf path place
+IsDue old new (Refused (stop.TooLarge what limit)) = new.starts ≡ old.starts → limit ≡ limit_of what
+IsDue old new (Refused refusal) = IsDueStop (stop.Refused refusal)
+IsDue old new other = Unit {0}
 
 -- By how a build ended, its children were shown the whole run, or none was started: a fault of the tree comes before the run or behind it, and one of the sink
 -- behind it. After a fault of the children, or want of memory, `ShowsRead.fronts` says what there was of it.

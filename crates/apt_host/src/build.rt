@@ -8,10 +8,10 @@ ghost use Rattle.apt_base.specs.Fields.{is_text};
 ghost use Rattle.tree_store.specs.Storing.{AreDistinct, AreAbsent};
 ghost use Rattle.apt_host.specs.Verdicts.{verdict, OrFree, is_tree, is_sink, is_children, fails, HasCause};
 ghost use Rattle.apt_host.specs.Endings.{ended, closed, EndsEarly, IsConcluded};
-ghost use Rattle.apt_host.specs.Making.{concluded};
+ghost use Rattle.apt_host.specs.Making.{concluded, RefusesRun};
 ghost use Rattle.apt_host.specs.Listed.{numbered_of, FitsEntry};
 ghost use Rattle.apt_host.specs.Promises.{Leaves, LeavesUndone, KeepsOutput, IsDue};
-ghost use Rattle.apt_host.specs.Builds.{Uses, UsesFor, Shows, Makes, OnTable, Answers, Publishes, PlacesMade, Tells, Counts, Reports};
+ghost use Rattle.apt_host.specs.Builds.{Uses, UsesFor, Shows, Makes, OnTable, Answers, Refuses, Publishes, PlacesMade, Tells, Reports};
 
 use crate::Status;
 use crate::project::read_project;
@@ -61,7 +61,8 @@ fn make<C: Children>(
     ensures says { Told C.tells ((C.state children.new).says ≡ (C.state children.old).says) }
     ensures uses { UsesFor C.Children project.now children.old children.new result }
     ensures started { IfOk result (λ finished. finished.started ≡ length project.now.key.processors) }
-    ensures due { IsDue (ended result) }
+    ensures due { IsDue (C.state children.old) (C.state children.new) (ended result) }
+    ensures refused { RefusesRun (C.state children.old) (C.state children.new) (ended result) }
     ensures numbered { IfOk result (λ finished. AreNumbered taken.now finished.files) }
     ensures made { Makes C.Children project.now children.old children.new result }
 {
@@ -135,18 +136,18 @@ pub fn build<T: Tree, C: Children, W: Sink>(
     ensures live { (C.state children.new).live ≡ (C.state children.old).live }
     ensures says { Told C.tells ((C.state children.new).says ≡ (C.state children.old).says) }
     ensures uses { Uses T.Tree C.Children options.now tree.old children.old children.new result }
-    ensures due { IsDue (closed result) }
+    ensures due { IsDue (C.state children.old) (C.state children.new) (closed result) }
     ensures on_table { OnTable options.now tree.old tree.new children.old children.new result }
     ensures answer { Answers T.Tree C.Children options.now tree.old children.old result }
+    ensures refused { Refuses T.Tree C.Children options.now tree.old children.old children.new result }
     ensures published { Publishes T.Tree C.Children options.now tree.old tree.new children.old result }
     ensures leaves { Told T.tells (Leaves (closed result) (T.files tree.old) (T.files tree.new)) }
     ensures kept { Told T.tells (KeepsOutput (T.files tree.old) (T.files tree.new) (closed result)) }
     ensures stand { Told T.tells (StoresStand (T.files tree.old) → StoresStand (T.files tree.new)) }
     ensures outside { Told T.tells (SameOutside (T.files tree.old) (T.files tree.new)) }
     ensures shown { Shows T.Tree C.Children options.now tree.old children.old children.new result }
-    ensures counted { Counts C.Children W.Sink children.old children.new output.old output.new result }
     ensures written { Reports T.Tree C.Children W.Sink options.now
-        tree.old tree.new children.old output.old output.new result }
+        tree.old tree.new children.old children.new output.old output.new result }
 {
     let project = read_project(alloc, options, tree)?;
     let names = names_of(alloc, &project.key)?;

@@ -7,7 +7,7 @@ ghost use Rattle.apt_host.specs.Words.{cut_at};
 ghost use Rattle.apt_host.specs.Verdicts.{verdict, Refused, OrMemory, is_tree, is_sink, is_children, HasCause, is_finished};
 ghost use Rattle.apt_host.specs.Endings.{closed};
 ghost use Rattle.apt_host.specs.Promises.{Leaves, KeepsOutput, Finishes, IsDue};
-ghost use Rattle.apt_host.specs.Calls.{Uses, Shows, OffTable, Answers, Publishes, AddsLine, Counts, Reports, Writes};
+ghost use Rattle.apt_host.specs.Calls.{Uses, Shows, OffTable, Answers, Refuses, Publishes, AddsLine, Reports, Writes};
 
 use crate::Status;
 use crate::build::{Ending, build};
@@ -40,18 +40,18 @@ fn work<T: Tree, C: Children, W: Sink>(
     ensures live { (C.state children.new).live ≡ (C.state children.old).live }
     ensures says { Told C.tells ((C.state children.new).says ≡ (C.state children.old).says) }
     ensures uses { Uses T.Tree C.Children words.now tree.old children.old children.new result }
-    ensures due { IsDue (verdict result) }
+    ensures due { IsDue (C.state children.old) (C.state children.new) (verdict result) }
     ensures off_table { OffTable words.now tree.old tree.new children.old children.new result }
     ensures answer { Answers T.Tree C.Children words.now tree.old children.old result }
+    ensures refused { Refuses T.Tree C.Children words.now tree.old children.old children.new result }
     ensures published { Publishes T.Tree C.Children words.now tree.old tree.new children.old result }
     ensures leaves { Told T.tells (Leaves (verdict result) (T.files tree.old) (T.files tree.new)) }
     ensures kept { Told T.tells (KeepsOutput (T.files tree.old) (T.files tree.new) (verdict result)) }
     ensures stand { Told T.tells (StoresStand (T.files tree.old) → StoresStand (T.files tree.new)) }
     ensures outside { Told T.tells (SameOutside (T.files tree.old) (T.files tree.new)) }
     ensures shown { Shows T.Tree C.Children words.now tree.old children.old children.new result }
-    ensures counted { Counts C.Children W.Sink children.old children.new output.old output.new result }
     ensures written { Reports T.Tree C.Children W.Sink words.now
-        tree.old tree.new children.old output.old output.new result }
+        tree.old tree.new children.old children.new output.old output.new result }
 {
     match read_words(alloc, words) {
         Ok(Request::Build { options }) => {
@@ -119,11 +119,13 @@ pub fn run<T: Tree, C: Children, R: Source, W: Sink>(
     ensures live { (C.state children.new).live ≡ (C.state children.old).live }
     ensures says { Told C.tells ((C.state children.new).says ≡ (C.state children.old).says) }
     ensures uses { Uses T.Tree C.Children words.now tree.old children.old children.new result }
-    ensures due { IsDue (verdict result) }
+    ensures due { IsDue (C.state children.old) (C.state children.new) (verdict result) }
 
-    // The answer is the clean build's, unless it is a fault or want of memory; words that no command has change nothing.
+    // The answer is the clean build's, unless it is a fault or want of memory; words that no command has change nothing. A refusal
+    // before any start, or of the configuration, is that of the project, whatever the children tell.
     ensures off_table { OffTable words.now tree.old tree.new children.old children.new result }
     ensures answer { Answers T.Tree C.Children words.now tree.old children.old result }
+    ensures refused { Refuses T.Tree C.Children words.now tree.old children.old children.new result }
 
     // What is published is the clean build's; after any other answer the former output stands. Of the tree nothing else changes.
     ensures published { Publishes T.Tree C.Children words.now tree.old tree.new children.old result }
@@ -136,9 +138,8 @@ pub fn run<T: Tree, C: Children, R: Source, W: Sink>(
     ensures shown { Shows T.Tree C.Children words.now tree.old children.old children.new result }
 
     // What is written is the clean build's report, or ends in the refusal's line. A report begins with the number of starts.
-    ensures counted { Counts C.Children W.Sink children.old children.new output.old output.new result }
     ensures written { Writes T.Tree C.Children W.Sink words.now
-        tree.old tree.new children.old output.old output.new result }
+        tree.old tree.new children.old children.new output.old output.new result }
 {
     let status = work(alloc, words, tree, children, output);
     finish(alloc, status, output)

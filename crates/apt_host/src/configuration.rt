@@ -8,7 +8,7 @@ ghost use Rattle.round_engine.specs.Clean.{try_of, plan_of};
 ghost use Rattle.apt_host.specs.Configuration.{files_of, said, settings_in, try_in, plan_in, fitting, plan_by};
 ghost use Rattle.apt_host.specs.Verdicts.{verdict, shown_place, named_in, Refused, OrMemory, is_tree, HasCause};
 ghost use Rattle.apt_host.specs.Endings.{ended, EndsEarly};
-ghost use Rattle.apt_host.specs.Entering.{of_read, of_config, ComesAs, ComesTo, shown_configuration, IsWithin};
+ghost use Rattle.apt_host.specs.Entering.{of_read, of_config, IsDueRead, ComesAs, ComesTo, shown_configuration, IsWithin};
 
 use crate::Status;
 use crate::status::Place;
@@ -92,6 +92,7 @@ pub fn read_files<T: Tree>(alloc: Global, tree: &mut T) -> Result<RawConfigurati
     ensures cause { HasCause is_tree (ended result) (T.faults tree.old) (T.faults tree.new) }
     ensures early { IfErr result (λ status. EndsEarly is_tree (verdict status)) }
     ensures unnamed { IfErr result (λ status. named_in (verdict status) ≡ None) }
+    ensures due { IfErr result (λ status. IsDueRead (verdict status)) }
     ensures same { Told T.tells (T.files tree.new ≡ T.files tree.old) }
     ensures within { IfOk result IsWithin }
     ensures files { Told T.tells (ComesAs (files_of (T.files tree.old)) shown_configuration result) }
@@ -121,6 +122,7 @@ fn settings_in(
     requires { IsWithin raw.now }
     ensures early { IfErr result (λ status. EndsEarly (λ _. false) (verdict status)) }
     ensures unnamed { IfErr result (λ status. named_in (verdict status) ≡ None) }
+    ensures due { IfErr result (λ status. IsDueRead (verdict status)) }
     ensures settled { IfOk result IsSettled }
     ensures settings { ComesTo (settings_in options.now (shown_configuration raw.now)) result }
 {
@@ -186,6 +188,7 @@ fn fitting(alloc: Global, settings: Settings) -> Result<Key, Status>
     requires { IsSettled settings }
     ensures early { IfErr result (λ status. EndsEarly (λ _. false) (verdict status)) }
     ensures unnamed { IfErr result (λ status. named_in (verdict status) ≡ None) }
+    ensures due { IfErr result (λ status. IsDueRead (verdict status)) }
     ensures few { IfOk result (λ key. length key.processors ≤ 64) }
     ensures plan { ComesAs (fitting (plan_in settings)) plan_of result }
 {
@@ -206,6 +209,7 @@ pub fn key_of(
     requires { IsWithin raw.now }
     ensures early { IfErr result (λ status. EndsEarly (λ _. false) (verdict status)) }
     ensures unnamed { IfErr result (λ status. named_in (verdict status) ≡ None) }
+    ensures due { IfErr result (λ status. IsDueRead (verdict status)) }
     ensures few { IfOk result (λ key. length key.processors ≤ 64) }
     ensures plan { ComesAs (plan_by options.now (shown_configuration raw.now)) plan_of result }
 {

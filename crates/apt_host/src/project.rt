@@ -7,7 +7,7 @@ ghost use Rattle.apt_host.specs.Verdicts.{verdict, named_in, OrMemory, is_tree, 
 ghost use Rattle.apt_host.specs.Endings.{ended, EndsEarly};
 ghost use Rattle.apt_host.specs.Shown.{shown_project};
 ghost use Rattle.apt_host.specs.Project.{enter_next, enter_all, read_of};
-ghost use Rattle.apt_host.specs.Entering.{of_source, ComesAs, Enters, EntersAll, StopsLeast};
+ghost use Rattle.apt_host.specs.Entering.{of_source, IsDueRead, ComesAs, Enters, EntersAll, StopsLeast};
 
 use crate::Status;
 use crate::configuration::{key_of, read_files};
@@ -86,6 +86,7 @@ fn enter_all(alloc: Global, sources: &[RawSource]) -> Result<Table, Status>
     ensures units { EntersAll (enter_all empty_table 0 sources.now) result }
     ensures early { IfErr result (λ status. EndsEarly (λ _. false) (verdict status)) }
     ensures unnamed { IfErr result (λ status. named_in (verdict status) ≡ None) }
+    ensures due { IfErr result (λ status. IsDueRead (verdict status)) }
     ensures least { StopsLeast sources.now result }
 {
     enter_each(alloc, sources)
@@ -101,6 +102,7 @@ pub fn read_project<T: Tree>(
     ensures cause { HasCause is_tree (ended result) (T.faults tree.old) (T.faults tree.new) }
     ensures early { IfErr result (λ status. EndsEarly is_tree (verdict status)) }
     ensures unnamed { IfErr result (λ status. named_in (verdict status) ≡ None) }
+    ensures due { IfErr result (λ status. IsDueRead (verdict status)) }
     ensures same { Told T.tells (T.files tree.new ≡ T.files tree.old) }
     ensures few { IfOk result (λ project. length project.key.processors ≤ 64) }
     ensures read { Told T.tells (ComesAs (read_of options.now (T.files tree.old)) shown_project result) }

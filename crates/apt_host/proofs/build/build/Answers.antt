@@ -7,18 +7,18 @@ use Rattle.tree_store.specs.Output.{StoresStand}
 use Rattle.round_engine.specs.Clean.{names_in}
 use Rattle.apt_host.specs.Words.{Build}
 use Rattle.apt_host.specs.Shown.{shown_project}
-use Rattle.apt_host.specs.Verdicts.{Done, Memory, verdict, named_in, is_finished, has_run, is_tree, is_sink, is_children, fails}
+use Rattle.apt_host.specs.Verdicts.{Done, Memory, verdict, named_in, is_free, is_finished, has_run, is_tree, is_sink, is_children, fails}
 use Rattle.apt_host.specs.Endings.{closed, of_store}
 use Rattle.apt_host.specs.Making.{concluding_report}
 use Rattle.apt_host.specs.Listed.{numbered_of, GainsFirst}
 use Rattle.apt_host.specs.Project.{read_of}
-use Rattle.apt_host.specs.Promises.{Answers, Leaves, IsFront, Adds, ShowsOver, processors_in}
-use Rattle.apt_host.proofs.Early.{not_done_early, unfinished_early, not_run_early, no_sink_early, store_early, store_unnamed, unnamed_concluded}
-use Rattle.apt_host.proofs.Leaving.{due_unnamed, due_concluded}
+use Rattle.apt_host.specs.Entering.{IsDueRead}
+use Rattle.apt_host.specs.Promises.{Answers, RefusesRead, IsDue, Leaves, IsFront, Adds, ShowsOver, processors_in}
+use Rattle.apt_host.proofs.Early.{not_done_early, unfinished_early, not_run_early, no_sink_early, store_early, store_free, store_unnamed, unnamed_concluded}
+use Rattle.apt_host.proofs.EarlyRefusals.{refuses_read, refuses_free, refuses_concluded, refuses_after, due_project, due_store, due_concluded}
 use Rattle.apt_host.proofs.Writing.{begins_with_nothing}
 use Rattle.apt_host.proofs.MakingLemmas.{names_are, count_tries}
-use Rattle.apt_host.proofs.Counting.{counts_finished}
-use Rattle.apt_host.proofs.Using.{uses_none, uses_key, counts_none}
+use Rattle.apt_host.proofs.Using.{uses_none, uses_key}
 use Rattle.apt_host.proofs.Building.{distinct_made, absent_made, leaves_all, stores_stand, publishes_finished, reports_finished, publishes_not, answers_read, answers_refused, answers_finished, shows_unread, shows_store, shows_memory, shown_refused, shown_finished}
 use Rattle.apt_host.proofs.build.build.Goals as goal
 
@@ -62,25 +62,25 @@ pub returns-in_err-project-clause-written : goal.returns-in_err-project-clause-w
 returns-in_err-project-clause-written g c = λ told.
     let p = err_from_is_err_and c.from_residual.result c.from_residual.ensures.1 in
     let same : closed c.from_residual.result ≡ verdict c.in_err-project.field-0.0 = ap closed p.1 ∙ ap verdict p.2 in
-    begins_with_nothing _ _ _ _ _ _ _ _ _ (ap is_finished same ∙ unfinished_early is_tree _ c.in_err-project.ensures.early) (ap (fails is_sink) same ∙ no_sink_early is_tree _ refl c.in_err-project.ensures.early)
+    begins_with_nothing _ _ _ _ _ _ _ _ _ _ (ap is_finished same ∙ unfinished_early is_tree _ c.in_err-project.ensures.early) (ap (fails is_sink) same ∙ no_sink_early is_tree _ refl c.in_err-project.ensures.early)
 
 pub returns-in_err-names-clause-written : goal.returns-in_err-names-clause-written
 returns-in_err-names-clause-written g c = λ told.
     let p = err_from_is_err_and c.from_residual-in_err-names.result c.from_residual-in_err-names.ensures.1 in
     let same : closed c.from_residual-in_err-names.result ≡ Memory = ap closed p.1 ∙ ap verdict p.2 in
-    begins_with_nothing _ _ _ _ _ _ _ _ _ (ap is_finished same) (ap (fails is_sink) same)
+    begins_with_nothing _ _ _ _ _ _ _ _ _ _ (ap is_finished same) (ap (fails is_sink) same)
 
 pub returns-in_err-taken-clause-written : goal.returns-in_err-taken-clause-written
 returns-in_err-taken-clause-written g c = λ told.
     let p = err_from_is_err_and c.from_residual-in_err-taken.result c.from_residual-in_err-taken.ensures.1 in
     let same : closed c.from_residual-in_err-taken.result ≡ verdict (of_store c.in_err-taken.field-0.0) = ap closed p.1 ∙ ap verdict p.2 in
-    begins_with_nothing _ _ _ _ _ _ _ _ _ (ap is_finished same ∙ unfinished_early is_tree _ (store_early c.in_err-taken.field-0.0)) (ap (fails is_sink) same ∙ no_sink_early is_tree _ refl (store_early c.in_err-taken.field-0.0))
+    begins_with_nothing _ _ _ _ _ _ _ _ _ _ (ap is_finished same ∙ unfinished_early is_tree _ (store_early c.in_err-taken.field-0.0)) (ap (fails is_sink) same ∙ no_sink_early is_tree _ refl (store_early c.in_err-taken.field-0.0))
 
 pub returns-in_err-finished-clause-written : goal.returns-in_err-finished-clause-written
 returns-in_err-finished-clause-written g c = λ told.
     let p = err_from_is_err_and c.from_residual-in_err-finished.result c.from_residual-in_err-finished.ensures.1 in
     let same : closed c.from_residual-in_err-finished.result ≡ verdict c.in_err-finished.field-0.0 = ap closed p.1 ∙ ap verdict p.2 in
-    begins_with_nothing _ _ _ _ _ _ _ _ _ (ap is_finished same ∙ unfinished_early is_children _ c.in_err-finished.ensures.early) (ap (fails is_sink) same ∙ no_sink_early is_children _ refl c.in_err-finished.ensures.early)
+    begins_with_nothing _ _ _ _ _ _ _ _ _ _ (ap is_finished same ∙ unfinished_early is_children _ c.in_err-finished.ensures.early) (ap (fails is_sink) same ∙ no_sink_early is_children _ refl c.in_err-finished.ensures.early)
 
 pub returns-clause-written : goal.returns-clause-written
 returns-clause-written g c = λ told.
@@ -90,48 +90,14 @@ returns-clause-written g c = λ told.
     let adds = subst (λ names. Adds (λ text. IsFront ⊥ (concluding_report names c.in_ok-finished.finished) (closed c.conclude.result) text
     × Told T.tells (GainsFirst (closed c.conclude.result) text (map numbered_of c.in_ok-finished.finished.files) (T.files c.taken_numbers.new.tree) (T.files c.conclude.new.tree))) (W.written c.args.output.now) (W.written c.conclude.new.output))
     (c.in_ok-names.ensures ∙ names_are c.in_ok-project.project.key.processors) (c.conclude.ensures.written told) in
+    let before = C.state c.args.children.now in
+    let starts = c.in_ok-finished.ensures.uses.finished refl ∙ ap (λ n. before.starts + n) (count_tries c.in_ok-project.project.key ∙ sym c.in_ok-finished.ensures.started) in
     reports_finished T.tells C.tells c.args.options.now (T.files c.args.tree.now) (shown_project c.in_ok-project.project) (C.state c.args.children.now) (C.state c.make.new.children) c.in_ok-project.ensures.read
     c.in_ok-taken.taken c.in_ok-finished.finished c.in_ok-finished.ensures.numbered c.in_ok-finished.ensures.made (closed c.conclude.result) c.conclude.ensures.answer
     (T.files c.taken_numbers.new.tree) (T.files c.conclude.new.tree)
     (λ t. subst (λ tree. AreTaken tree c.in_ok-taken.taken) (sym (c.in_ok-taken.ensures.same t)) (c.in_ok-taken.ensures.taken t))
     (λ t. c.in_ok-taken.ensures.same t ∙ c.in_ok-project.ensures.same t)
-    (Rose (W.faults c.args.output.now) (W.faults c.conclude.new.output)) (W.written c.args.output.now) (W.written c.conclude.new.output) c.conclude.ensures.tree_fails adds
-
--- ---- how many children are counted there
-
-pub returns-in_err-project-clause-counted : goal.returns-in_err-project-clause-counted
-returns-in_err-project-clause-counted g c = λ told.
-    let p = err_from_is_err_and c.from_residual.result c.from_residual.ensures.1 in
-    let same : closed c.from_residual.result ≡ verdict c.in_err-project.field-0.0 = ap closed p.1 ∙ ap verdict p.2 in
-    counts_none (closed c.from_residual.result) (ap is_finished same ∙ unfinished_early is_tree _ c.in_err-project.ensures.early)
-
-pub returns-in_err-names-clause-counted : goal.returns-in_err-names-clause-counted
-returns-in_err-names-clause-counted g c = λ told.
-    let p = err_from_is_err_and c.from_residual-in_err-names.result c.from_residual-in_err-names.ensures.1 in
-    let same : closed c.from_residual-in_err-names.result ≡ Memory = ap closed p.1 ∙ ap verdict p.2 in
-    counts_none (closed c.from_residual-in_err-names.result) (ap is_finished same)
-
-pub returns-in_err-taken-clause-counted : goal.returns-in_err-taken-clause-counted
-returns-in_err-taken-clause-counted g c = λ told.
-    let p = err_from_is_err_and c.from_residual-in_err-taken.result c.from_residual-in_err-taken.ensures.1 in
-    let same : closed c.from_residual-in_err-taken.result ≡ verdict (of_store c.in_err-taken.field-0.0) = ap closed p.1 ∙ ap verdict p.2 in
-    counts_none (closed c.from_residual-in_err-taken.result) (ap is_finished same ∙ unfinished_early is_tree _ (store_early c.in_err-taken.field-0.0))
-
-pub returns-in_err-finished-clause-counted : goal.returns-in_err-finished-clause-counted
-returns-in_err-finished-clause-counted g c = λ told.
-    let p = err_from_is_err_and c.from_residual-in_err-finished.result c.from_residual-in_err-finished.ensures.1 in
-    let same : closed c.from_residual-in_err-finished.result ≡ verdict c.in_err-finished.field-0.0 = ap closed p.1 ∙ ap verdict p.2 in
-    counts_none (closed c.from_residual-in_err-finished.result) (ap is_finished same ∙ unfinished_early is_children _ c.in_err-finished.ensures.early)
-
-pub returns-clause-counted : goal.returns-clause-counted
-returns-clause-counted g c = λ told.
-    let T = g.T.Tree in
-    let C = g.C.Children in
-    let W = g.W.Sink in
-    let before = C.state c.args.children.now in
-    let starts = c.in_ok-finished.ensures.uses.finished refl ∙ ap (λ n. before.starts + n) (count_tries c.in_ok-project.project.key ∙ sym c.in_ok-finished.ensures.started) in
-    counts_finished T.tells c.in_ok-names.names c.in_ok-finished.finished (closed c.conclude.result) before (C.state c.make.new.children)
-    (T.files c.taken_numbers.new.tree) (T.files c.conclude.new.tree) (W.written c.args.output.now) (W.written c.conclude.new.output) starts (c.conclude.ensures.written told)
+    (Rose (W.faults c.args.output.now) (W.faults c.conclude.new.output)) (W.written c.args.output.now) (W.written c.conclude.new.output) starts c.conclude.ensures.tree_fails adds
 
 -- ---- what is done with children
 
@@ -180,18 +146,90 @@ returns-clause-uses g c =
 
 pub returns-in_err-project-clause-due : goal.returns-in_err-project-clause-due
 returns-in_err-project-clause-due g c =
+    let C = g.C.Children in
     let p = err_from_is_err_and c.from_residual.result c.from_residual.ensures.1 in
     let same : closed c.from_residual.result ≡ verdict c.in_err-project.field-0.0 = ap closed p.1 ∙ ap verdict p.2 in
-    due_unnamed (closed c.from_residual.result) (ap named_in same ∙ c.in_err-project.ensures.unnamed)
+    let state = C.state c.args.children.now in
+    due_project state state (closed c.from_residual.result) (ap named_in same ∙ c.in_err-project.ensures.unnamed) (subst IsDueRead (sym same) c.in_err-project.ensures.due)
+
+pub returns-in_err-names-clause-due : goal.returns-in_err-names-clause-due
+returns-in_err-names-clause-due g c =
+    let C = g.C.Children in
+    let p = err_from_is_err_and c.from_residual-in_err-names.result c.from_residual-in_err-names.ensures.1 in
+    let same : closed c.from_residual-in_err-names.result ≡ Memory = ap closed p.1 ∙ ap verdict p.2 in
+    let state = C.state c.args.children.now in
+    subst (IsDue state state) (sym same) tt
 
 pub returns-in_err-taken-clause-due : goal.returns-in_err-taken-clause-due
 returns-in_err-taken-clause-due g c =
+    let C = g.C.Children in
     let p = err_from_is_err_and c.from_residual-in_err-taken.result c.from_residual-in_err-taken.ensures.1 in
     let same : closed c.from_residual-in_err-taken.result ≡ verdict (of_store c.in_err-taken.field-0.0) = ap closed p.1 ∙ ap verdict p.2 in
-    due_unnamed (closed c.from_residual-in_err-taken.result) (ap named_in same ∙ store_unnamed c.in_err-taken.field-0.0)
+    let state = C.state c.args.children.now in
+    subst (IsDue state state) (sym same) (due_store state state c.in_err-taken.field-0.0)
+
+pub returns-in_err-finished-clause-due : goal.returns-in_err-finished-clause-due
+returns-in_err-finished-clause-due g c =
+    let C = g.C.Children in
+    let p = err_from_is_err_and c.from_residual-in_err-finished.result c.from_residual-in_err-finished.ensures.1 in
+    let same : closed c.from_residual-in_err-finished.result ≡ verdict c.in_err-finished.field-0.0 = ap closed p.1 ∙ ap verdict p.2 in
+    let before = C.state c.args.children.now in
+    let after = C.state c.make.new.children in
+    subst (IsDue before after) (sym same) c.in_err-finished.ensures.due
 
 pub returns-clause-due : goal.returns-clause-due
-returns-clause-due g c = due_concluded (closed c.conclude.result) c.conclude.ensures.concluded
+returns-clause-due g c =
+    let C = g.C.Children in
+    due_concluded (C.state c.args.children.now) (C.state c.make.new.children) (closed c.conclude.result) c.conclude.ensures.concluded
+
+-- ---- what is refused before a run
+
+pub returns-in_err-project-clause-refused : goal.returns-in_err-project-clause-refused
+returns-in_err-project-clause-refused g c =
+    let T = g.T.Tree in
+    let C = g.C.Children in
+    let p = err_from_is_err_and c.from_residual.result c.from_residual.ensures.1 in
+    let same : closed c.from_residual.result ≡ verdict c.in_err-project.field-0.0 = ap closed p.1 ∙ ap verdict p.2 in
+    let state = C.state c.args.children.now in
+    let files = T.files c.args.tree.now in
+    subst (λ v. RefusesRead T.tells (Build c.args.options.now) files state state v) (sym same)
+    (refuses_read T.tells c.args.options.now files state state (verdict c.in_err-project.field-0.0) c.in_err-project.ensures.read)
+
+pub returns-in_err-names-clause-refused : goal.returns-in_err-names-clause-refused
+returns-in_err-names-clause-refused g c =
+    let T = g.T.Tree in
+    let C = g.C.Children in
+    let p = err_from_is_err_and c.from_residual-in_err-names.result c.from_residual-in_err-names.ensures.1 in
+    let same : closed c.from_residual-in_err-names.result ≡ Memory = ap closed p.1 ∙ ap verdict p.2 in
+    let state = C.state c.args.children.now in
+    refuses_free T.tells c.args.options.now (T.files c.args.tree.now) state state (closed c.from_residual-in_err-names.result) (ap is_free same)
+
+pub returns-in_err-taken-clause-refused : goal.returns-in_err-taken-clause-refused
+returns-in_err-taken-clause-refused g c =
+    let T = g.T.Tree in
+    let C = g.C.Children in
+    let p = err_from_is_err_and c.from_residual-in_err-taken.result c.from_residual-in_err-taken.ensures.1 in
+    let same : closed c.from_residual-in_err-taken.result ≡ verdict (of_store c.in_err-taken.field-0.0) = ap closed p.1 ∙ ap verdict p.2 in
+    let state = C.state c.args.children.now in
+    refuses_free T.tells c.args.options.now (T.files c.args.tree.now) state state (closed c.from_residual-in_err-taken.result) (ap is_free same ∙ store_free c.in_err-taken.field-0.0)
+
+pub returns-in_err-finished-clause-refused : goal.returns-in_err-finished-clause-refused
+returns-in_err-finished-clause-refused g c =
+    let T = g.T.Tree in
+    let C = g.C.Children in
+    let p = err_from_is_err_and c.from_residual-in_err-finished.result c.from_residual-in_err-finished.ensures.1 in
+    let same : closed c.from_residual-in_err-finished.result ≡ verdict c.in_err-finished.field-0.0 = ap closed p.1 ∙ ap verdict p.2 in
+    let before = C.state c.args.children.now in
+    let after = C.state c.make.new.children in
+    let files = T.files c.args.tree.now in
+    subst (λ v. RefusesRead T.tells (Build c.args.options.now) files before after v) (sym same)
+    (refuses_after T.tells c.args.options.now files before after (verdict c.in_err-finished.field-0.0) c.in_err-finished.ensures.refused)
+
+pub returns-clause-refused : goal.returns-clause-refused
+returns-clause-refused g c =
+    let T = g.T.Tree in
+    let C = g.C.Children in
+    refuses_concluded T.tells c.args.options.now (T.files c.args.tree.now) (C.state c.args.children.now) (C.state c.make.new.children) (closed c.conclude.result) c.conclude.ensures.concluded
 
 -- ---- what children are shown
 

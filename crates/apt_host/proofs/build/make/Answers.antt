@@ -1,5 +1,5 @@
 use Rattle.std.proofs.Common.{Ok, Err}
-use Rattle.apt_host.proofs.MakingLemmas.{made_from, refused_from, more_from, uses_finished, uses_refused, due_from}
+use Rattle.apt_host.proofs.MakingLemmas.{made_from, refused_from, more_from, uses_finished, uses_refused, run_from, due_from}
 use Rattle.apt_host.proofs.build.make.Goals as goal
 
 -- ---- a run that was finished
@@ -14,7 +14,7 @@ returns-in-Ok-clause-uses g c =
     let C = g.C.Children in
     let old = C.state c.args.children.now in
     let new = C.state c.clean.new.children in
-    uses_finished C.tells c.args.project.now.key old new c.in-Ok.ensures.tried c.in-Ok.finished c.in-Ok.ensures.starts
+    uses_finished C.tells c.args.project.now.key old new c.in-Ok.ensures.tried c.in-Ok.finished c.in-Ok.ensures.starts c.in-Ok.ensures.counted
     (more_from c.args.project.now old new C.tells (Ok c.in-Ok.finished) c.in-Ok.ensures.cleans)
 
 -- ---- one that was refused
@@ -33,4 +33,11 @@ returns-in-Err-clause-uses g c =
     (more_from c.args.project.now old new C.tells (Err c.in-Err.refusal) c.in-Err.ensures.cleans)
 
 pub returns-in-Err-clause-due : goal.returns-in-Err-clause-due
-returns-in-Err-clause-due g c = due_from c.in-Err.refusal c.from.result c.from.ensures c.in-Err.ensures.due
+returns-in-Err-clause-due g c =
+    let C = g.C.Children in
+    due_from c.in-Err.refusal c.from.result c.from.ensures c.args.project.now.key (C.state c.args.children.now) (C.state c.clean.new.children) c.in-Err.ensures.starts c.in-Err.ensures.due
+
+pub returns-in-Err-clause-refused : goal.returns-in-Err-clause-refused
+returns-in-Err-clause-refused g c =
+    let C = g.C.Children in
+    run_from c.in-Err.refusal c.from.result c.from.ensures c.args.project.now.key (C.state c.args.children.now) (C.state c.clean.new.children) c.in-Err.ensures.starts

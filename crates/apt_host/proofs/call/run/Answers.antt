@@ -3,10 +3,10 @@ use Rattle.std.proofs.lemmas.Grind.{common_steps}
 use Rattle.apt_outside.specs.Count.{Rose}
 use Rattle.apt_host.specs.Shown.{asked}
 use Rattle.apt_host.specs.Verdicts.{verdict}
-use Rattle.apt_host.proofs.Counting.{nothing_added}
-use Rattle.apt_host.proofs.Using.{uses_after, counts_after}
+use Rattle.apt_host.proofs.Using.{uses_after}
 use Rattle.apt_host.proofs.Writing.{written_all}
-use Rattle.apt_host.proofs.Leaving.{leaves_finish, shows_finish, due_finish}
+use Rattle.apt_host.proofs.Leaving.{leaves_finish, shows_finish}
+use Rattle.apt_host.proofs.EarlyRefusals.{refuses_finish, due_finish}
 use Rattle.apt_host.proofs.UnreadWords.{answers_finish, publishes_finish}
 use Rattle.apt_host.proofs.call.run.Goals as goal
 
@@ -43,7 +43,16 @@ returns-clause-shown g c = λ told said.
     shows_finish (asked c.args.words.now) (T.files c.args.tree.now) (verdict c.work-status.result) (verdict c.finish.result) (C.state c.args.children.now) (C.state c.work-status.new.children) c.finish.ensures.status (c.work-status.ensures.shown told said)
 
 pub returns-clause-due : goal.returns-clause-due
-returns-clause-due g c = due_finish (verdict c.work-status.result) (verdict c.finish.result) c.finish.ensures.status c.work-status.ensures.due
+returns-clause-due g c =
+    let C = g.C.Children in
+    due_finish (C.state c.args.children.now) (C.state c.work-status.new.children) (verdict c.work-status.result) (verdict c.finish.result) c.finish.ensures.status c.work-status.ensures.due
+
+pub returns-clause-refused : goal.returns-clause-refused
+returns-clause-refused g c =
+    let T = g.T.Tree in
+    let C = g.C.Children in
+    refuses_finish T.tells (asked c.args.words.now) (T.files c.args.tree.now) (C.state c.args.children.now) (C.state c.work-status.new.children)
+    (verdict c.work-status.result) (verdict c.finish.result) c.finish.ensures.status c.work-status.ensures.refused
 
 pub returns-clause-written : goal.returns-clause-written
 returns-clause-written g c = λ told.
@@ -53,7 +62,7 @@ returns-clause-written g c = λ told.
     let old = W.faults c.args.output.now in
     let mid = W.faults c.work-status.new.output in
     let new = W.faults c.finish.new.output in
-    written_all T.tells C.tells (asked c.args.words.now) (C.state c.args.children.now).says (T.files c.args.tree.now) (T.files c.work-status.new.tree)
+    written_all T.tells C.tells (asked c.args.words.now) (T.files c.args.tree.now) (T.files c.work-status.new.tree) (C.state c.args.children.now) (C.state c.work-status.new.children)
     (verdict c.work-status.result) (verdict c.finish.result) (Rose old mid) (Rose mid new) (Rose old new)
     (W.written c.args.output.now) (W.written c.work-status.new.output) (W.written c.finish.new.output)
     c.finish.ensures.status (rose_before old mid new c.finish.ensures.later) (rose_behind old mid new c.work-status.ensures.sink_cause.later)
@@ -66,12 +75,3 @@ returns-clause-uses g c =
     let C = g.C.Children in
     uses_after T.tells C.tells (asked c.args.words.now) (T.files c.args.tree.now) (verdict c.work-status.result) (verdict c.finish.result)
     (C.state c.args.children.now) (C.state c.work-status.new.children) c.finish.ensures.status c.work-status.ensures.uses
-
-pub returns-clause-counted : goal.returns-clause-counted
-returns-clause-counted g c = λ told.
-    let C = g.C.Children in
-    let W = g.W.Sink in
-    let mid = W.written c.work-status.new.output in
-    let new = W.written c.finish.new.output in
-    counts_after (verdict c.work-status.result) (verdict c.finish.result) (C.state c.args.children.now) (C.state c.work-status.new.children) (W.written c.args.output.now) mid new
-    c.finish.ensures.status (nothing_added (verdict c.finish.result) (Rose (W.faults c.work-status.new.output) (W.faults c.finish.new.output)) mid new (c.finish.ensures.line told)) (c.work-status.ensures.counted told)

@@ -1,8 +1,10 @@
 use Rattle.std.proofs.Common.{◌≡◌, true, false, Ok, sym, ap, ◌∙◌, subst}
+use Rattle.apt_base.specs.declared.kinds.What.TheVariants as what
 use Rattle.round_engine.specs.Clean.{inits_fit}
 use Rattle.apt_host.specs.Configuration.{plan_in, fitting}
+use Rattle.apt_host.specs.Verdicts.{verdict}
 use Rattle.apt_host.specs.Entering.{RefusesAs}
-use Rattle.apt_host.proofs.Settling.{fits, fits_not, few_key}
+use Rattle.apt_host.proofs.Settling.{fits, fits_not, due_past, few_key}
 use Rattle.apt_host.proofs.configuration.fitting.Goals as goal
 
 pub returns-then-fit-clause-plan : goal.returns-then-fit-clause-plan
@@ -19,3 +21,6 @@ returns-clause-plan c =
     let plan = plan_in c.args.settings in
     let fit : inits_fit plan ≡ false = ap inits_fit (sym c.in_ok-key.ensures) ∙ sym c.in_ok-fit.ensures ∙ c.if-fit.false in
     subst (RefusesAs (fitting plan)) (sym c.past_limit.ensures.is) (fits_not plan fit)
+
+pub returns-clause-due : goal.returns-clause-due
+returns-clause-due c = due_past what.Frame (verdict c.past_limit.result) c.past_limit.ensures.is

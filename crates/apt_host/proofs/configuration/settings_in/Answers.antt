@@ -4,7 +4,7 @@ use Rattle.apt_host.specs.Configuration.{said, settings_in}
 use Rattle.apt_host.specs.Verdicts.{verdict}
 use Rattle.apt_host.specs.Entering.{of_config, shown_configuration}
 use Rattle.apt_host.proofs.Refusing.{refuses_or}
-use Rattle.apt_host.proofs.Settling.{said_short, form_as, settings_are}
+use Rattle.apt_host.proofs.Settling.{said_short, form_as, due_form, settings_are}
 use Rattle.apt_host.proofs.configuration.settings_in.Goals as goal
 
 pub read_settings-requires-clause-services : goal.read_settings-requires-clause-services
@@ -25,3 +25,6 @@ returns-in-Err-clause-settings c =
     refuses_or (settings_in c.args.options.now (shown_configuration raw)) (of_config c.in-Err.fault) (verdict c.refused.result)
     (form_as (settings_of raw.config (said raw.lists.services) (said raw.lists.kinds) c.args.options.now) c.in-Err.fault (rw (c.said-services.ensures, c.said-kinds.ensures, options) at c.in-Err.ensures.answer))
     c.refused.ensures.is
+
+pub returns-in-Err-clause-due : goal.returns-in-Err-clause-due
+returns-in-Err-clause-due c = due_form c.in-Err.fault (verdict c.refused.result) c.refused.ensures.is

@@ -1,0 +1,93 @@
+-- A refusal before a run is that of the project; and what is due of each refusal, whatever the tree and the children tell.
+use Rattle.std.proofs.Common.{◌≡◌, ◌<◌, ◌⊎◌, Bool, true, false, None, inl, inr, refl, sym, ap, ◌∙◌, subst, arith}
+use Rattle.std.proofs.lemmas.Bool.{false≢true}
+use Rattle.apt_outside.specs.Count.{Told}
+use Rattle.apt_outside.specs.Files.{Files}
+use Rattle.apt_outside.specs.Child.{State}
+use Rattle.tree_store.specs.declared.fault.StoreFault.{StoreFault}
+use Rattle.tree_store.specs.declared.fault.StoreFault.TheVariants as store
+use Rattle.round_engine.specs.Refusals.{Refusal, BadWords, BadConfig, UnknownProcessor, UnbuiltForm, UnbuiltTalk, TooManyQuestions, ClaimBroken, GeneratedDuplicate, TooManyRounds, TooLarge}
+use Rattle.apt_host.specs.Words.{Options, Request, Build, Bad}
+use Rattle.apt_host.specs.Configuration.{is_of_config}
+use Rattle.apt_host.specs.Project.{read_of}
+use Rattle.apt_host.specs.Verdicts.{Verdict, Done, Errors, Refused, Failed, Memory, is_free, named_in, verdict}
+use Rattle.apt_host.specs.Endings.{of_store, IsConcluded}
+use Rattle.apt_host.specs.Entering.{RefusesAs, IsDueRead}
+use Rattle.apt_host.specs.Making.{RefusesRun}
+use Rattle.apt_host.specs.Promises.{RefusesRead, IsDue, Finishes}
+use Rattle.apt_host.proofs.Writing.{memory_or_not}
+
+-- ---- whose refusal it is
+
+module _ (old new : State) where
+  -- one of a run comes behind a start, and is none of the configuration
+  not_before : (refusal : Refusal) → (old.starts < new.starts) × (is_of_config refusal ≡ false) → (new.starts ≡ old.starts) ⊎ (is_of_config refusal ≡ true) → ⊥
+  not_before refusal run (inl same) = omega (arith, same, run.0)
+  not_before refusal run (inr config) = false≢true (sym run.1 ∙ config)
+
+module _ (tells : Bool) (options : Options) (project : Files) (old new : State) where
+  -- the project was not read
+  pub refuses_read : (v : Verdict) → Told tells (RefusesAs (read_of options project) v) → RefusesRead tells (Build options) project old new v
+  refuses_read v refuses = λ told refusal is early. subst (RefusesAs (read_of options project)) is (refuses told)
+
+  -- nothing was refused
+  pub refuses_free : (v : Verdict) → is_free v ≡ true → RefusesRead tells (Build options) project old new v
+  refuses_free v free = λ told refusal is early. absurd (false≢true (sym (ap is_free is) ∙ free))
+
+  pub refuses_concluded : (v : Verdict) → IsConcluded v → RefusesRead tells (Build options) project old new v
+  refuses_concluded v concluded = λ told refusal is early. absurd (subst IsConcluded is concluded)
+
+  -- the run was refused
+  pub refuses_after : (v : Verdict) → RefusesRun old new v → RefusesRead tells (Build options) project old new v
+  refuses_after v run = λ told refusal is early. absurd (not_before old new refusal (subst (RefusesRun old new) is run) early)
+
+module _ (tells : Bool) (request : Request) (project : Files) (old new : State) where
+  refuses_memory : (r : Request) → RefusesRead tells r project old new Memory
+  refuses_memory (Build options) = refuses_free tells options project old new Memory refl
+  refuses_memory (Bad at) = tt
+
+  -- there was no memory for the words
+  pub refuses_unread : RefusesRead tells request project old new Memory
+  refuses_unread = refuses_memory request
+
+  -- behind the line of a refusal
+  pub refuses_finish : (v w : Verdict) → Finishes v w → RefusesRead tells request project old new v → RefusesRead tells request project old new w
+  refuses_finish v w finishes refuses = memory_or_not w (RefusesRead tells request project old new w)
+      (λ memory. subst (λ u. RefusesRead tells request project old new u) (sym memory) refuses_unread)
+      (λ ne. subst (λ u. RefusesRead tells request project old new u) (sym (finishes.same ne)) refuses)
+
+-- ---- what is due
+
+module _ (old new : State) where
+  -- a project was refused, which names no processor
+  pub due_project : (v : Verdict) → named_in v ≡ None → IsDueRead v → IsDue old new v
+  due_project Done none due = tt
+  due_project (Errors count) none due = tt
+  due_project (Refused (BadWords at)) none due = tt
+  due_project (Refused (BadConfig path place)) none due = due
+  due_project (Refused (UnknownProcessor name)) none due = tt
+  due_project (Refused (UnbuiltForm path)) none due = tt
+  due_project (Refused (UnbuiltTalk processor)) none due = tt
+  due_project (Refused (TooManyQuestions processor most)) none due = absurd cc
+  due_project (Refused (ClaimBroken processor declared said)) none due = absurd cc
+  due_project (Refused (GeneratedDuplicate name)) none due = tt
+  due_project (Refused TooManyRounds) none due = tt
+  due_project (Refused (TooLarge what limit)) none due = λ same. due
+  due_project (Failed object) none due = tt
+  due_project Memory none due = tt
+
+  pub due_store : (fault : StoreFault) → IsDue old new (verdict (of_store fault))
+  due_store store.Failed = tt
+  due_store store.Memory = tt
+
+  pub due_concluded : (v : Verdict) → IsConcluded v → IsDue old new v
+  due_concluded Done concluded = tt
+  due_concluded (Errors count) concluded = tt
+  due_concluded (Refused refusal) concluded = absurd concluded
+  due_concluded (Failed object) concluded = tt
+  due_concluded Memory concluded = tt
+
+  pub due_finish : (v w : Verdict) → Finishes v w → IsDue old new v → IsDue old new w
+  due_finish v w finishes due = memory_or_not w (IsDue old new w)
+      (λ memory. subst (IsDue old new) (sym memory) tt)
+      (λ ne. subst (IsDue old new) (sym (finishes.same ne)) due)
