@@ -1,5 +1,5 @@
 -- What comes of two readings.
-use Rattle.std.proofs.Common.{◌≡◌, ℕ, ◌<◌, ◌≤◌, Bool, true, false, cond, List, [], ◌∷◌, ◌++◌, ◌⊎◌, length, refl, sym, ap, subst, ◌∙◌, append_assoc, length-append, arith, inl, inr, ⊎_elim}
+use Rattle.std.proofs.Common.{◌≡◌, ℕ, ◌<◌, ◌≤◌, Bool, true, false, cond, List, [], ◌∷◌, ◌++◌, ◌⊎◌, Option, length, refl, sym, ap, subst, ◌∙◌, append_assoc, length-append, arith, inl, inr, ⊎_elim}
 use Rattle.std.specs.Prelude.{nat_le}
 use Rattle.std.proofs.lemmas.List.{append-nil, nil_from_length}
 use Rattle.decl_grammar.specs.declared.symbol.Symbol.{Symbol}
@@ -8,7 +8,7 @@ use Rattle.decl_grammar.specs.Form.{Nest, Form, nest, Wholes, Begun, Readers, Is
 use Rattle.decl_grammar.proofs.Heads.{Full, WholeBegins, Is-begins}
 use Rattle.decl_grammar.proofs.Told.{Told}
 use Rattle.decl_grammar.proofs.Fronts.{cuts, NestFronts, Begins-front}
-use Rattle.decl_grammar.proofs.Rivals.{Rivals}
+use Rattle.decl_grammar.proofs.Rivals.{Rivals, Upto, Sole, sole-up, Is-up, Begins-up}
 
 -- of two places the further one is before neither
 pub further-less : (at to : List Symbol) → (length (further_of at to) ≤ length at) × (length (further_of at to) ≤ length to)
@@ -67,35 +67,39 @@ not_empty : (d : List Symbol) (t : Symbol) → d ++ t ∷ [] ≡ [] → ⊥
 not_empty [] t e = cc
 not_empty (u ∷ d) t e = cc
 
-pub beside : {A : Type 0} (room : ℕ) (w : Wholes) (b : Begun) (r : Readers) → Known room w b r → (f g : Form A) → Rivals w b f g → (ts rest : List Symbol) (x : A) → Is w g ts x → (o : Outcome A) → Told room w b f (ts ++ rest) o → Beside x rest o
-beside {A} room w b r known f g rivals ts rest x is (done y at) told =
+pub beside : {A : Type 0} (room : ℕ) (w : Wholes) (b : Begun) (r : Readers) → Known room w b r → (f g : Form A) → Rivals w b f g → (l : Option ℕ) (ts rest : List Symbol) (x : A) → Is w g ts x → Is (Upto l) g ts x → (o : Outcome A) → Told room (Sole w (Upto l)) b f (ts ++ rest) o → Beside x rest o
+beside {A} room w b r known f g rivals l ts rest x is low (done y at) told =
+    let whole = Is-up (Sole w (Upto l)) w (sole-up w (Upto l)) f told.0 y told.2 in
     ⊎_elim
     (λ (p : (d : List Symbol) × (told.0 ≡ ts ++ d) × (rest ≡ d ++ at)).
-    let begun = Is-begins w b known.full known.begins f told.0 y told.2 in
+    let begun = Is-begins w b known.full known.begins f told.0 y whole in
     let z = rivals.other_ends ts p.0 x begun.0 is (subst (λ (u : List Symbol). Begins w b f u begun.0) p.1 begun.1) in
     finish (same_end ts told.0 rest at p.0 told.1 p.1 z))
     (λ (p : (d : List Symbol) × (ts ≡ told.0 ++ d) × (at ≡ d ++ rest)).
     let begun = Is-begins w b known.full known.begins g ts x is in
-    let z = rivals.first_ends told.0 p.0 y begun.0 told.2 (subst (λ (u : List Symbol). Begins w b g u begun.0) p.1 begun.1) in
+    let z = rivals.first_ends told.0 p.0 y begun.0 whole (subst (λ (u : List Symbol). Begins w b g u begun.0) p.1 begun.1) in
     let q = same_end told.0 ts at rest p.0 (sym told.1) p.1 z in
     finish (sym q.0, sym q.1))
     (cuts ts rest told.0 at told.1)
   where
     finish : (told.0 ≡ ts) × (at ≡ rest) → (y ≡ x) × (at ≡ rest)
-    finish q = (rivals.agree ts y x (subst (λ (u : List Symbol). Is w f u y) q.0 told.2) is, q.1)
-beside room w b r known f g rivals ts rest x is (fault at) told = tt
-beside room w b r known f g rivals ts rest x is (deep at) told =
+    finish q = (rivals.agree l ts y x (subst (λ (u : List Symbol). Is (Sole w (Upto l)) f u y) q.0 told.2) low, q.1)
+beside room w b r known f g rivals l ts rest x is low (fault at) told = tt
+beside room w b r known f g rivals l ts rest x is low (deep at) told =
     ⊎_elim
     (λ (p : (d : List Symbol) × (told.0 ≡ ts ++ d) × (rest ≡ d ++ told.1 ∷ told.2)).
     let whole : told.0 ++ told.1 ∷ [] ≡ ts ++ (p.0 ++ told.1 ∷ []) = ap (λ (u : List Symbol). u ++ told.1 ∷ []) p.1 ∙ append_assoc ts p.0 (told.1 ∷ []) in
-    absurd (not_empty p.0 told.1 (rivals.other_ends ts (p.0 ++ told.1 ∷ []) x told.5 is (subst (λ (u : List Symbol). Begins w b f u told.5) whole told.7))))
+    absurd (not_empty p.0 told.1 (rivals.other_ends ts (p.0 ++ told.1 ∷ []) x told.5 is (subst (λ (u : List Symbol). Begins w b f u told.5) whole begun))))
     (λ (p : (d : List Symbol) × (ts ≡ told.0 ++ d) × (told.1 ∷ told.2 ≡ d ++ rest)). longer p.0 p.1 p.2)
     (cuts ts rest told.0 (told.1 ∷ told.2) told.4)
   where
+    begun : Begins w b f (told.0 ++ told.1 ∷ []) told.5
+    begun = Begins-up (Sole w (Upto l)) w b b (sole-up w (Upto l)) (λ m us n p. p) f (told.0 ++ told.1 ∷ []) told.5 told.7
+
     longer : (d : List Symbol) → ts ≡ told.0 ++ d → told.1 ∷ told.2 ≡ d ++ rest → length rest < length at
     longer [] e s =
         let whole : told.0 ++ told.1 ∷ [] ≡ ts ++ told.1 ∷ [] = ap (λ (u : List Symbol). u ++ told.1 ∷ []) (sym (append-nil told.0) ∙ sym e) in
-        absurd (not_empty [] told.1 (rivals.other_ends ts (told.1 ∷ []) x told.5 is (subst (λ (u : List Symbol). Begins w b f u told.5) whole told.7)))
+        absurd (not_empty [] told.1 (rivals.other_ends ts (told.1 ∷ []) x told.5 is (subst (λ (u : List Symbol). Begins w b f u told.5) whole begun)))
     longer (u ∷ d) e s = omega (arith, ap length told.3, ap length s, length-append d rest)
 
 -- ---- what one of the readings begins is passed

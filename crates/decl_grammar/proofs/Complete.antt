@@ -6,8 +6,8 @@ use Rattle.decl_grammar.specs.declared.symbol.Symbol.{Symbol}
 use Rattle.decl_grammar.specs.Reading.{has, starts, Outcome, done, fault, deep, ◌>>=◌, one_at, after, pass, skip, read_of}
 use Rattle.decl_grammar.specs.Form.{Nest, Of, Form, terminal, pair, turn, maybe, many, either, nest, over, seen, attempt, nullable, first, Each, Wholes, Begun, Readers, Is, repeat, attempted, read}
 use Rattle.decl_grammar.proofs.OneToken.{no, no_true, both, neither, not_both, starts-append, disjoint, disjoint-has, more_of, more, ok}
-use Rattle.decl_grammar.proofs.Told.{read_of-front, told}
-use Rattle.decl_grammar.proofs.Rivals.{Fair, WholeUp, Is-up}
+use Rattle.decl_grammar.proofs.Told.{Told, read_of-front, told}
+use Rattle.decl_grammar.proofs.Rivals.{Fair, Upto, Sole, WholeUp, Is-up}
 use Rattle.decl_grammar.proofs.Attempts.{Known, Beside, beside}
 use Rattle.decl_grammar.proofs.Heads.{Full, WholeHeads, nil_parts, Is-nil, Is-head, Each-head}
 use Rattle.std.proofs.lemmas.List.{nil_from_length}
@@ -150,7 +150,30 @@ pub record Inside (v w : Wholes) (b : Begun) (room : ℕ) (r : Readers) : Type 0
   pub heads : WholeHeads v
   pub comes : NestComes v r
   pub up : WholeUp v w
+  pub height : (l : Option ℕ) × WholeUp v (Upto l) × WholeUp (Upto l) v
   pub known : Known room w b r
+
+-- what is read is the one meaning that the symbols have
+one-meaning : {A : Type 0} (x y : A) (rest : List Symbol) (o : Outcome A) → o ≡ done x rest → Comes y rest o → x ≡ y
+one-meaning x y rest o e (inl d) = cc
+one-meaning x y rest o e (inr d) = absurd (let p = d.1 in cc)
+
+starts-none : (ks : List ℕ) (ts : List Symbol) → ks ≡ [] → starts ks ts ≡ false
+starts-none ks [] e = refl
+starts-none ks (t ∷ ts) e = ap (λ (l : List ℕ). has l t.sort) e
+
+told-alone : (v w : Wholes) (b : Begun) (room : ℕ) (r : Readers) (inside : Inside v w b room r) (m : Nest) (ts : List Symbol) (o : Outcome (Of m)) → r m ts ≡ o → Told room w b (nest m) ts o → Told room (Sole w (Upto inside.height.0)) b (nest m) ts o
+told-alone v w b room r inside m ts (done x rest) e p = (
+  p.0,
+  p.1,
+  (
+    p.2,
+    λ z y whole. one-meaning x y rest (r m ts) e
+        (subst (λ (u : List Symbol). Comes y rest (r m u)) (sym p.1) (inside.comes m p.0 y rest (starts-none (more_of m) rest z) (inside.height.2 m p.0 y whole))),
+  ),
+)
+told-alone v w b room r inside m ts (fault at) e p = p
+told-alone v w b room r inside m ts (deep at) e p = p
 
 pub complete : (v w : Wholes) (b : Begun) (room : ℕ) (r : Readers) → Inside v w b room r → {A : Type 0} (f : Form A) → ok f ≡ true → Fair w b f → (ts : List Symbol) (x : A) (rest : List Symbol) → starts (more f) rest ≡ false → Is v f ts x → Comes x rest (read r f (ts ++ rest))
 complete v w b room r inside (terminal k) good fair ts x rest c is = inl (ap (λ (u : List Symbol). one_at k (u ++ rest)) is.0 ∙ word-again k x rest is.1)
@@ -207,4 +230,5 @@ complete v w b room r inside (attempt f g) good fair ts x rest c (inr is) =
     let p = both (ok f) (ok g) good in
     let n = neither (starts (more f) rest) (starts (more g) rest) (sym (starts-append (more f) (more g) rest) ∙ c) in
     comes-second x rest (read r f (ts ++ rest)) (read r g (ts ++ rest)) (complete v w b room r inside g p.1 fair.1 ts x rest n.1 is)
-    (beside room w b r inside.known f g fair.2 ts rest x (Is-up v w inside.up g ts x is) (read r f (ts ++ rest)) (told room w b r inside.known.told f (ts ++ rest)))
+    (beside room w b r inside.known f g fair.2 inside.height.0 ts rest x (Is-up v w inside.up g ts x is) (Is-up v (Upto inside.height.0) inside.height.1 g ts x is) (read r f (ts ++ rest))
+    (told room (Sole w (Upto inside.height.0)) b r (λ m us. told-alone v w b room r inside m us (r m us) refl (inside.known.told m us)) f (ts ++ rest)))

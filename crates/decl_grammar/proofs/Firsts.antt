@@ -1,14 +1,8 @@
 -- The sorts of symbol that begin the forms between which reading chooses.
-use Rattle.std.proofs.Common.{◌≡◌, true, false, [], ◌∷◌, ◌++◌, refl}
-use Rattle.decl_grammar.specs.Form.{first, nullable, first_of, nested_type, names, modifier_words, plain_words, ats, value_firsts}
-use Rattle.decl_grammar.specs.Types.{annotation, pairs, pairs_or_value, first_pair, next_pair, annotation_arguments, name, annotations, primitive_sorts, primitive_type, named_part, next_part, class_type, dim, wildcard_bound, wildcard, next_argument, class_array, modifier_annotation, modifier, plain_modifier, bounds, next_bound, type_params, next_type_param, next_class, type_modifiers}
-use Rattle.decl_grammar.specs.Expressions.{array, some_values, array_values}
-use Rattle.decl_grammar.specs.Members.{param_modifier}
-use Rattle.decl_grammar.specs.Grammar.{package_form, import_named, import_form, top_type, modified_type, type_rest, class_form, interface_form, annotation_form, enum_form, package_part, annotated_package, constant_part, constant, some_constants, constant_list}
-
-pub array_first : first array ≡ 63 ∷ []
-unfolding array
-array_first = refl
+use Rattle.std.proofs.Common.{◌≡◌, false, [], ◌∷◌, ◌++◌, refl}
+use Rattle.decl_grammar.specs.Form.{ats, first, first_of, modifier_words, names, nested_type, nullable, plain_words, primitive_sorts}
+use Rattle.decl_grammar.specs.Types.{annotation, annotation_arguments, annotations, bounds, class_array, class_type, dim, modifier, modifier_annotation, name, named_part, next_argument, next_bound, next_class, next_pair, next_part, next_type_param, plain_modifier, primitive_type, type_modifiers, type_params, wildcard, wildcard_bound}
+use Rattle.decl_grammar.specs.Grammar.{annotated_package, annotation_form, class_form, constant, constant_list, constant_part, enum_form, import_form, import_named, interface_form, modified_type, package_form, package_part, param_modifier, some_constants, top_type, type_rest}
 
 pub annotation_first : first annotation ≡ ats
 unfolding annotation
@@ -18,32 +12,16 @@ pub annotation_full : nullable annotation ≡ false
 unfolding annotation
 annotation_full = refl
 
-pub some_values_first : first some_values ≡ value_firsts true
-unfolding some_values
-some_values_first = refl
-
-pub array_values_first : first array_values ≡ value_firsts true ++ 68 ∷ []
-unfolding array_values some_values
-array_values_first = refl
-
-pub pairs_first : first pairs ≡ 1 ∷ []
-unfolding pairs first_pair
-pairs_first = refl
-
-pub pairs_or_value_first : first pairs_or_value ≡ (1 ∷ []) ++ value_firsts false
-unfolding pairs_or_value pairs first_pair
-pairs_or_value_first = refl
-
 pub arguments_first : first annotation_arguments ≡ 61 ∷ []
 unfolding annotation_arguments
 arguments_first = refl
 
-pub next_pair_first : first next_pair ≡ 68 ∷ []
-unfolding next_pair
+pub next_pair_first : first next_pair ≡ names
+unfolding next_pair name
 next_pair_first = refl
 
 pub next_pair_full : nullable next_pair ≡ false
-unfolding next_pair
+unfolding next_pair name
 next_pair_full = refl
 
 pub primitive_type_first : first primitive_type ≡ primitive_sorts

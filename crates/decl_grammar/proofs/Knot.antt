@@ -1,99 +1,25 @@
--- What is known of the forms that hold themselves, at each height and with each room.
-use Rattle.std.proofs.Common.{◌≡◌, ℕ, zero, suc, ◌+◌, ◌*◌, ◌≤◌, Bool, true, false, cond, List, [], ◌∷◌, ◌++◌, length, refl, sym, ap, subst, length-append, arith, inl, inr}
+-- How the forms that hold themselves are read, with each room.
+use Rattle.std.proofs.Common.{◌≡◌, ℕ, zero, suc, ◌+◌, ◌*◌, ◌≤◌, Bool, true, false, cond, List, [], ◌∷◌, ◌++◌, Some, None, length, refl, sym, subst, length-append, arith, inl, inr}
 use Rattle.decl_grammar.specs.declared.symbol.Symbol.{Symbol}
 use Rattle.decl_grammar.specs.Reading.{has, starts, Outcome, done, fault, deep, left}
-use Rattle.decl_grammar.specs.Form.{Nest, Of, Form, counts, opened, first_of, nest, nullable, Wholes, Begun, Readers, Begins, read}
+use Rattle.decl_grammar.specs.Form.{Nest, Of, Form, counts, opened, first_of, nest, Readers, Begins, read}
 use Rattle.decl_grammar.specs.Rule.{rule, enter_if, read_at, read_nest, reads, WholeAt, BegunAt}
-use Rattle.decl_grammar.proofs.OneToken.{not_both, within-starts, more_of, more, ok, rank, rank-bound, any-guarded}
-use Rattle.decl_grammar.proofs.Rules.{rule-first, rule-more, rule-ok, rule-full, rule-guarded, rule-plain}
-use Rattle.decl_grammar.proofs.Opens.{opens-form}
+use Rattle.decl_grammar.proofs.OneToken.{within-starts, more_of, more, ok, rank, rank-bound, any-guarded}
+use Rattle.decl_grammar.proofs.Rules.{rule-more, rule-ok, rule-guarded}
 use Rattle.decl_grammar.proofs.Fuel.{nest-is}
-use Rattle.decl_grammar.proofs.Heads.{Full, WholeHeads, BegunHeads, WholeBegins, Is-nil, Is-head, Begins-head, Is-begins}
 use Rattle.decl_grammar.proofs.Told.{Told, told}
-use Rattle.decl_grammar.proofs.Fronts.{NestFronts, Begins-front}
-use Rattle.decl_grammar.proofs.Rivals.{WholeUp, BegunUp, Begins-up, Fair, plain, fair-plain}
+use Rattle.decl_grammar.proofs.Rivals.{Begins-up, Fair, plain, fair-plain}
 use Rattle.decl_grammar.proofs.Attempts.{Known, Passes}
-use Rattle.decl_grammar.proofs.Open.{Most, open-most}
 use Rattle.decl_grammar.proofs.Complete.{Comes, NestComes, Inside, complete}
 use Rattle.decl_grammar.proofs.Passes.{NestPasses, Bounded, bounded, Inner, passes}
-
--- a symbol that may begin such a form does
-opens-at : (h : ℕ) (m : Nest) → rank m ≤ h → (t : Symbol) → has (first_of m) t.sort ≡ true → (n : ℕ) × Begins (WholeAt h) (BegunAt h) (rule m) (t ∷ []) n
-opens-at zero m le t e =
-    opens-form (WholeAt zero) (BegunAt zero) (rank m) (λ n lt t e. absurd (omega (arith, lt, le))) (rule m) (rule-guarded m) t (subst (λ (ks : List ℕ). has ks t.sort ≡ true) (sym (rule-first m)) e)
-opens-at (suc h) m le t e =
-    opens-form (WholeAt (suc h)) (BegunAt (suc h)) (rank m) (λ n lt t e. opens-at h n (omega (arith, lt, le)) t e) (rule m) (rule-guarded m) t (subst (λ (ks : List ℕ). has ks t.sort ≡ true) (sym (rule-first m)) e)
-
-opened-counted : (m : Nest) (k : ℕ) → counts m ≡ true → opened m k ≡ suc k
-opened-counted m k e = ap (λ (c : Bool). cond c (suc k) k) e
-
-opened-free : (m : Nest) (k : ℕ) → counts m ≡ false → opened m k ≡ k
-opened-free m k e = ap (λ (c : Bool). cond c (suc k) k) e
-
--- ---- the laws
-
-pub full-at : (h : ℕ) → Full (WholeAt h)
-full-at zero m x is = is
-full-at (suc h) m x is = not_both (nullable (rule m)) (Is-nil (WholeAt h) (full-at h) (rule m) [] x refl is) (rule-full m)
-
-pub heads-at : (h : ℕ) → WholeHeads (WholeAt h)
-heads-at zero m t ts x is = absurd is
-heads-at (suc h) m t ts x is = subst (λ (ks : List ℕ). has ks t.sort ≡ true) (rule-first m) (Is-head (WholeAt h) (full-at h) (heads-at h) (rule m) t ts x (t ∷ ts) refl is)
-
-pub bheads-at : (h : ℕ) → BegunHeads (BegunAt h)
-bheads-at zero m t ts n b = absurd b
-bheads-at (suc h) m t ts n b = subst (λ (ks : List ℕ). has ks t.sort ≡ true) (rule-first m) (Begins-head (WholeAt h) (BegunAt h) (full-at h) (heads-at h) (bheads-at h) (rule m) t ts n (t ∷ ts) refl b)
-
-pub begins-at : (h : ℕ) → WholeBegins (WholeAt h) (BegunAt h)
-begins-at zero m ts x is = absurd is
-begins-at (suc h) m ts x is = Is-begins (WholeAt h) (BegunAt h) (full-at h) (begins-at h) (rule m) ts x is
-
-pub fronts-at : (h : ℕ) → NestFronts (BegunAt h)
-fronts-at zero m us vs k b = absurd b
-fronts-at (suc h) m us vs k b = Begins-front (WholeAt h) (BegunAt h) (full-at h) (begins-at h) (fronts-at h) (rule m) (us ++ vs) us vs k refl b
-
-pub most-at : (h : ℕ) → Most (BegunAt h)
-most-at zero m t us k b = absurd b
-most-at (suc h) m t us k b = open-most (WholeAt h) (BegunAt h) (full-at h) (most-at h) (rank m) (rule m) (rule-guarded m) t us (t ∷ us) k refl b
-
--- ---- what is so at any height
-
-abbrev pub Whole : Wholes
-Whole m ts x = (h : ℕ) × WholeAt h m ts x
-
-abbrev pub Started : Begun
-Started m ts n = (h : ℕ) × BegunAt h m ts n
-
-pub whole-up : (h : ℕ) → WholeUp (WholeAt h) Whole
-whole-up h m ts x is = (h, is)
-
-pub started-up : (h : ℕ) → BegunUp (BegunAt h) Started
-started-up h m ts n b = (h, b)
+use Rattle.decl_grammar.proofs.Heights.{opens-at, opened-counted, opened-free, full-at, heads-at, bheads-at, Whole, Started, whole-up, started-up, full-any, heads-any, bheads-any, begins-any, fronts-any, AllFair}
 
 -- a form of the grammar: the next symbol tells how to go on, but between two readings that keep to what they must
 abbrev pub IsSound : {A : Type 0} → Form A → Type 0
-IsSound f = (ok f ≡ true) × Fair Whole Started f
+IsSound f = (ok f ≡ true) × Fair Whole Started f × AllFair
 
-pub sound-plain : {A : Type 0} (f : Form A) → ok f ≡ true → plain f ≡ true → IsSound f
-sound-plain f good e = (good, fair-plain Whole Started f e)
-
-rule-sound : (m : Nest) → IsSound (rule m)
-rule-sound m = sound-plain (rule m) (rule-ok m) (rule-plain m)
-
-full-any : Full Whole
-full-any m x is = full-at is.0 m x is.1
-
-heads-any : WholeHeads Whole
-heads-any m t ts x is = heads-at is.0 m t ts x is.1
-
-bheads-any : BegunHeads Started
-bheads-any m t ts n b = bheads-at b.0 m t ts n b.1
-
-begins-any : WholeBegins Whole Started
-begins-any m ts x is = let p = begins-at is.0 m ts x is.1 in (p.0, (is.0, p.1))
-
-fronts-any : NestFronts Started
-fronts-any m us vs k b = let p = fronts-at b.0 m us vs k b.1 in (p.0, (b.0, p.1))
+pub sound-plain : AllFair → {A : Type 0} (f : Form A) → ok f ≡ true → plain f ≡ true → IsSound f
+sound-plain fair f good e = (good, fair-plain Whole Started f e, fair)
 
 -- ---- no reading leaves more symbols than there were
 
@@ -184,25 +110,24 @@ comes-shut h m (t ∷ ts) x rest is =
     inr (t ∷ ts ++ rest, rw e refl, omega (arith, length-append ts rest))
 
 pub inside-at : (room h : ℕ) → NestComes (WholeAt h) (read_nest room) → Inside (WholeAt h) Whole Started room (read_nest room)
-inside-at room h comes = record { full = full-at h; heads = heads-at h; comes = comes; up = whole-up h; known = known-any room }
+inside-at room h comes = record { full = full-at h; heads = heads-at h; comes = comes; up = whole-up h; height = (Some h, (λ m ts x is. is), (λ m ts x is. is)); known = known-any room }
 
-comes-rule : (room h : ℕ) → RoomComes h → (m : Nest) (ts : List Symbol) (x : Of m) (rest : List Symbol) → starts (more_of m) rest ≡ false → WholeAt (suc h) m ts x → Comes x rest (reads room (rule m) (ts ++ rest))
-comes-rule room h comes m ts x rest c is =
-    let sound = rule-sound m in
-    complete (WholeAt h) Whole Started room (read_nest room) (inside-at room h (comes room)) (rule m) sound.0 sound.1 ts x rest (within-starts (more (rule m)) (more_of m) rest (rule-more m) c) is
+comes-rule : AllFair → (room h : ℕ) → RoomComes h → (m : Nest) (ts : List Symbol) (x : Of m) (rest : List Symbol) → starts (more_of m) rest ≡ false → WholeAt (suc h) m ts x → Comes x rest (reads room (rule m) (ts ++ rest))
+comes-rule fair room h comes m ts x rest c is =
+    complete (WholeAt h) Whole Started room (read_nest room) (inside-at room h (comes room)) (rule m) (rule-ok m) (fair m) ts x rest (within-starts (more (rule m)) (more_of m) rest (rule-more m) c) is
 
-comes-enter : (h : ℕ) → RoomComes h → (m : Nest) (c : Bool) (room : ℕ) (ts : List Symbol) (x : Of m) (rest : List Symbol) → starts (more_of m) rest ≡ false → WholeAt (suc h) m ts x → Comes x rest (enter_if m c read_nest room (ts ++ rest))
-comes-enter h comes m true zero ts x rest c is = comes-shut h m ts x rest is
-comes-enter h comes m true (suc room) ts x rest c is = comes-rule room h comes m ts x rest c is
-comes-enter h comes m false room ts x rest c is = comes-rule room h comes m ts x rest c is
+comes-enter : AllFair → (h : ℕ) → RoomComes h → (m : Nest) (c : Bool) (room : ℕ) (ts : List Symbol) (x : Of m) (rest : List Symbol) → starts (more_of m) rest ≡ false → WholeAt (suc h) m ts x → Comes x rest (enter_if m c read_nest room (ts ++ rest))
+comes-enter fair h comes m true zero ts x rest c is = comes-shut h m ts x rest is
+comes-enter fair h comes m true (suc room) ts x rest c is = comes-rule fair room h comes m ts x rest c is
+comes-enter fair h comes m false room ts x rest c is = comes-rule fair room h comes m ts x rest c is
 
-pub comes-at : (h room : ℕ) → NestComes (WholeAt h) (read_nest room)
-comes-at zero room m ts x rest c is = absurd is
-comes-at (suc h) room m ts x rest c is =
-    subst (λ (o : Outcome (Of m)). Comes x rest o) (sym (nest-is room m (ts ++ rest))) (comes-enter h (comes-at h) m (counts m) room ts x rest c is)
+pub comes-at : AllFair → (h room : ℕ) → NestComes (WholeAt h) (read_nest room)
+comes-at fair zero room m ts x rest c is = absurd is
+comes-at fair (suc h) room m ts x rest c is =
+    subst (λ (o : Outcome (Of m)). Comes x rest o) (sym (nest-is room m (ts ++ rest))) (comes-enter fair h (comes-at fair h) m (counts m) room ts x rest c is)
 
-pub inside-any : (room : ℕ) → Inside Whole Whole Started room (read_nest room)
-inside-any room = record { full = full-any; heads = heads-any; comes = λ m ts x rest c is. comes-at is.0 room m ts x rest c is.1; up = λ m ts x is. is; known = known-any room }
+pub inside-any : AllFair → (room : ℕ) → Inside Whole Whole Started room (read_nest room)
+inside-any fair room = record { full = full-any; heads = heads-any; comes = λ m ts x rest c is. comes-at fair is.0 room m ts x rest c is.1; up = λ m ts x is. is; height = (None, (λ m ts x is. is), (λ m ts x is. is)); known = known-any room }
 
 -- ---- what begins is passed
 
@@ -219,34 +144,33 @@ passes-free : (room n k : ℕ) (rest : List Symbol) {A : Type 0} (o : Outcome A)
 passes-free room n k rest o e (inl p) = inl (p.0, omega (arith, p.1, e))
 passes-free room n k rest o e (inr p) = inr p
 
-inner-with : (limit room : ℕ) → NestPasses limit room Started (read_nest room) → Inner limit room Whole Started (read_nest room)
-inner-with limit room p = record { inside = inside-any room; bheads = bheads-any; bounds = bounded-at room; passes = p }
+inner-with : AllFair → (limit room : ℕ) → NestPasses limit room Started (read_nest room) → Inner limit room Whole Started (read_nest room)
+inner-with fair limit room p = record { inside = inside-any fair room; bheads = bheads-any; bounds = bounded-at room; passes = p }
 
 abbrev RoomPasses : ℕ → Type 0
 RoomPasses limit = (room : ℕ) → NestPasses limit room Started (read_nest room)
 
-passes-rule : (limit : ℕ) → RoomPasses limit → (room : ℕ) (m : Nest) (ts : List Symbol) → 3 * length ts + rank m ≤ limit → (k : ℕ) (rest : List Symbol) → Begins Whole Started (rule m) ts k → Passes room k rest (reads room (rule m) (ts ++ rest))
-passes-rule limit p room m ts le k rest b =
-    let sound = rule-sound m in
-    passes limit (rank m) room Whole Started (read_nest room) (inner-with limit room (p room)) (rule m) (rule-guarded m) sound.0 sound.1 ts le k rest b
+passes-rule : AllFair → (limit : ℕ) → RoomPasses limit → (room : ℕ) (m : Nest) (ts : List Symbol) → 3 * length ts + rank m ≤ limit → (k : ℕ) (rest : List Symbol) → Begins Whole Started (rule m) ts k → Passes room k rest (reads room (rule m) (ts ++ rest))
+passes-rule fair limit p room m ts le k rest b =
+    passes limit (rank m) room Whole Started (read_nest room) (inner-with fair limit room (p room)) (rule m) (rule-guarded m) (rule-ok m) (fair m) ts le k rest b
 
-passes-enter : (limit : ℕ) → RoomPasses limit → (m : Nest) (c : Bool) → counts m ≡ c → (room : ℕ) (t : Symbol) (us : List Symbol) → 3 * length (t ∷ us) + rank m ≤ limit → (h k : ℕ) (rest : List Symbol) → BegunAt (suc h) m (t ∷ us) k → Passes room (opened m k) rest (enter_if m c read_nest room (t ∷ us ++ rest))
-passes-enter limit p m true counted zero t us le h k rest b = passes-shut h m counted t us k rest b
-passes-enter limit p m true counted (suc room) t us le h k rest b =
+passes-enter : AllFair → (limit : ℕ) → RoomPasses limit → (m : Nest) (c : Bool) → counts m ≡ c → (room : ℕ) (t : Symbol) (us : List Symbol) → 3 * length (t ∷ us) + rank m ≤ limit → (h k : ℕ) (rest : List Symbol) → BegunAt (suc h) m (t ∷ us) k → Passes room (opened m k) rest (enter_if m c read_nest room (t ∷ us ++ rest))
+passes-enter fair limit p m true counted zero t us le h k rest b = passes-shut h m counted t us k rest b
+passes-enter fair limit p m true counted (suc room) t us le h k rest b =
     passes-open room (opened m k) k rest (reads room (rule m) (t ∷ us ++ rest)) (opened-counted m k counted)
-    (passes-rule limit p room m (t ∷ us) le k rest (Begins-up (WholeAt h) Whole (BegunAt h) Started (whole-up h) (started-up h) (rule m) (t ∷ us) k b))
-passes-enter limit p m false free room t us le h k rest b =
+    (passes-rule fair limit p room m (t ∷ us) le k rest (Begins-up (WholeAt h) Whole (BegunAt h) Started (whole-up h) (started-up h) (rule m) (t ∷ us) k b))
+passes-enter fair limit p m false free room t us le h k rest b =
     passes-free room (opened m k) k rest (reads room (rule m) (t ∷ us ++ rest)) (opened-free m k free)
-    (passes-rule limit p room m (t ∷ us) le k rest (Begins-up (WholeAt h) Whole (BegunAt h) Started (whole-up h) (started-up h) (rule m) (t ∷ us) k b))
+    (passes-rule fair limit p room m (t ∷ us) le k rest (Begins-up (WholeAt h) Whole (BegunAt h) Started (whole-up h) (started-up h) (rule m) (t ∷ us) k b))
 
-passes-within : (limit room : ℕ) → NestPasses limit room Started (read_nest room)
-passes-within zero room m t us k rest lt b = absurd (omega (arith, lt))
-passes-within (suc limit) room m t us k rest lt (zero, b) = absurd b
-passes-within (suc limit) room m t us k rest lt (suc h, b) =
-    subst (λ (o : Outcome (Of m)). Passes room (opened m k) rest o) (sym (nest-is room m (t ∷ us ++ rest))) (passes-enter limit (passes-within limit) m (counts m) refl room t us (omega (arith, lt)) h k rest b)
+passes-within : AllFair → (limit room : ℕ) → NestPasses limit room Started (read_nest room)
+passes-within fair zero room m t us k rest lt b = absurd (omega (arith, lt))
+passes-within fair (suc limit) room m t us k rest lt (zero, b) = absurd b
+passes-within fair (suc limit) room m t us k rest lt (suc h, b) =
+    subst (λ (o : Outcome (Of m)). Passes room (opened m k) rest o) (sym (nest-is room m (t ∷ us ++ rest))) (passes-enter fair limit (passes-within fair limit) m (counts m) refl room t us (omega (arith, lt)) h k rest b)
 
 -- what begins a sound form is passed
 pub passes-any : {A : Type 0} (f : Form A) → IsSound f → (room : ℕ) (ts : List Symbol) (n : ℕ) (rest : List Symbol) → Begins Whole Started f ts n → Passes room n rest (reads room f (ts ++ rest))
 passes-any f sound room ts n rest b =
     let limit = 3 * length ts + 3 in
-    passes limit 3 room Whole Started (read_nest room) (inner-with limit room (passes-within limit room)) f (any-guarded f) sound.0 sound.1 ts (omega arith) n rest b
+    passes limit 3 room Whole Started (read_nest room) (inner-with sound.2 limit room (passes-within sound.2 limit room)) f (any-guarded f) sound.0 sound.1 ts (omega arith) n rest b

@@ -17,13 +17,15 @@ use Rattle.decl_grammar.proofs.Rules.{ordinary-ok, ordinary-plain, package_info-
 use Rattle.decl_grammar.proofs.Complete.{Comes, complete}
 use Rattle.decl_grammar.proofs.Passes.{bind-left}
 use Rattle.decl_grammar.proofs.Fuel.{at-reads}
-use Rattle.decl_grammar.proofs.Knot.{full-at, begins-at, told-at, most-at, comes-at, inside-at, Whole, Started, whole-up, started-up, IsSound, sound-plain, passes-any}
+use Rattle.decl_grammar.proofs.Heights.{full-at, begins-at, most-at, Whole, Started, whole-up, started-up}
+use Rattle.decl_grammar.proofs.RuleFair.{fair}
+use Rattle.decl_grammar.proofs.Knot.{told-at, comes-at, inside-at, IsSound, sound-plain, passes-any}
 
 pub ordinary-sound : IsSound ordinary
-ordinary-sound = sound-plain ordinary ordinary-ok ordinary-plain
+ordinary-sound = sound-plain fair ordinary ordinary-ok ordinary-plain
 
 pub package_info-sound : IsSound package_info
-package_info-sound = sound-plain package_info package_info-ok package_info-plain
+package_info-sound = sound-plain fair package_info package_info-ok package_info-plain
 
 ended-left : {A : Type 0} (x : A) (rest : List Symbol) → length (left (ended x rest)) ≤ length rest
 ended-left x [] = omega arith
@@ -64,17 +66,17 @@ starts-end ks = refl
 
 phrase-comes : {A : Type 0} (f : Form A) → IsSound f → (room h : ℕ) (ts : List Symbol) (x : A) → Is (WholeAt h) f ts x → (phrase_at room f ts ≡ done x []) ⊎ ((at : List Symbol) × (phrase_at room f ts ≡ deep at))
 phrase-comes f sound room h ts x is =
-    let c = complete (WholeAt h) Whole Started room (read_nest room) (inside-at room h (comes-at h room)) f sound.0 sound.1 ts x [] (starts-end (more f)) is in
+    let c = complete (WholeAt h) Whole Started room (read_nest room) (inside-at room h (comes-at sound.2 h room)) f sound.0 sound.1 ts x [] (starts-end (more f)) is in
     let d : Comes x [] (reads room f ts) = subst (λ (u : List Symbol). Comes x [] (reads room f u)) (append-nil ts) c in
     ⊎_elim (λ (e : reads room f ts ≡ done x []). inl (rw e refl)) (λ (e : (at : List Symbol) × (reads room f ts ≡ deep at) × (0 < length at)). inr (e.0, rw e.1 refl)) d
 
 -- with room for three forms at each symbol nothing is too deep
-phrase-fits : {A : Type 0} (f : Form A) (ts at : List Symbol) → phrase_at (3 * length ts) f ts ≡ deep at → ⊥
-phrase-fits {A} f ts at e =
-    let p : PhraseTold f (3 * length ts) ts (deep at) = subst (λ (o : Outcome A). PhraseTold f (3 * length ts) ts o) e (phrase-told f (3 * length ts) ts) in
+pub phrase-fits : {A : Type 0} (f : Form A) (room : ℕ) (ts at : List Symbol) → 3 * length ts ≤ room → phrase_at room f ts ≡ deep at → ⊥
+phrase-fits {A} f room ts at fits e =
+    let p : PhraseTold f room ts (deep at) = subst (λ (o : Outcome A). PhraseTold f room ts o) e (phrase-told f room ts) in
     let h = p.7.0 in
     let most = most-open (WholeAt h) (BegunAt h) (full-at h) (most-at h) f (p.0 ++ p.1 ∷ []) p.5 p.7.1 in
-    omega (arith, most, p.6, ap length p.4, length-append p.0 (p.1 ∷ []), length-append p.0 (p.1 ∷ p.2))
+    omega (arith, most, p.6, fits, ap length p.4, length-append p.0 (p.1 ∷ []), length-append p.0 (p.1 ∷ p.2))
 
 -- ---- the laws
 
@@ -92,7 +94,7 @@ pub phrase-unique : {A : Type 0} (f : Form A) → IsSound f → (ts : List Symbo
 phrase-unique f sound ts x y p q = done_value x y (sym (read_whole x p) ∙ read_whole y q)
   where
     read_whole : (z : _) → IsPhrase f ts z → phrase_at (3 * length ts) f ts ≡ done z []
-    read_whole z is = ⊎_elim (λ (e : phrase_at (3 * length ts) f ts ≡ done z []). e) (λ (e : (at : List Symbol) × (phrase_at (3 * length ts) f ts ≡ deep at)). absurd (phrase-fits f ts e.0 e.1)) (phrase-only f sound (3 * length ts) ts z is)
+    read_whole z is = ⊎_elim (λ (e : phrase_at (3 * length ts) f ts ≡ done z []). e) (λ (e : (at : List Symbol) × (phrase_at (3 * length ts) f ts ≡ deep at)). absurd (phrase-fits f (3 * length ts) ts e.0 (omega arith) e.1)) (phrase-only f sound (3 * length ts) ts z is)
 
 split_end : (us vs ws at : List Symbol) (ts : List Symbol) → ts ≡ us ++ at → us ≡ vs ++ ws → vs ++ (ws ++ at) ≡ ts
 split_end us vs ws at ts p q = sym (append_assoc vs ws at) ∙ ap (λ (u : List Symbol). u ++ at) (sym q) ∙ sym p

@@ -5,9 +5,8 @@ use Rattle.decl_grammar.specs.declared.fault.ReadFault.{ReadFault}
 use Rattle.decl_grammar.specs.declared.fault.ReadFault.TheVariants as faults
 use Rattle.decl_grammar.specs.Symbols.{operator}
 use Rattle.decl_grammar.specs.Reading.{starts, Outcome, done, fault, deep, left, ◌>>=◌, Fails, one_at}
-use Rattle.decl_grammar.specs.Form.{Nest, any_value, array_rest, enum_rest, counts, Of, first_of, Form, pair, turn, maybe, nest, first, with_front, turned}
-use Rattle.decl_grammar.specs.Types.{comma_item, sign, behind, list_or_none, one_and_rest, annotations, annotation, name}
-use Rattle.decl_grammar.specs.Expressions.{array_rest_form, some_values}
+use Rattle.decl_grammar.specs.Form.{Nest, enum_rest, counts, Of, first_of, Form, maybe, nest, first, with_front, turned}
+use Rattle.decl_grammar.specs.Types.{comma_item, list_or_none, one_and_rest, annotations, annotation, name}
 use Rattle.decl_grammar.specs.Grammar.{enum_rest_form, some_constants, constant, constant_part}
 use Rattle.decl_grammar.specs.Rule.{rule, enter_if, read_nest, reads}
 use Rattle.decl_grammar.proofs.Loop.{falls}
@@ -128,12 +127,6 @@ pub row-stops : (room : ℕ) {A : Type 0} (row : Form (List A)) → first row �
     → with_front front (turned list_or_none (reads room (maybe row) ts)) ≡ total → total ≡ done front ts
 row-stops room {A} row begins front ts total s so_far =
     sym so_far ∙ (ap (λ (c : Bool). with_front front (turned list_or_none (cond c (reads room row ts >>= λ x rest. done (Some x) rest) (done None ts)))) (ap (λ (ks : List ℕ). starts ks ts) begins ∙ s) ∙ ap (λ (ys : List A). done ys ts) (append-nil front))
-
--- ---- the rows of the grammar
-
-pub array-row : (room : ℕ) → RowIs room (nest any_value) (nest array_rest)
-unfolding array_rest_form some_values
-array-row room ts = free-is array_rest refl room ts ∙ row-read (one_at comma ts) (starts (first_of any_value)) (read_nest room any_value) (reads room (maybe (nest array_rest)))
 
 -- ---- no reading leaves more than there was
 

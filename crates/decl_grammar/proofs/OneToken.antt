@@ -3,10 +3,10 @@ use Rattle.std.proofs.Common.{◌≡◌, ℕ, ◌<◌, ◌≤◌, Bool, true, fa
 use Rattle.std.specs.Prelude.{◌||◌, ◌&&◌, nat_lt}
 use Rattle.std.proofs.Math.Bool.{or-false}
 use Rattle.std.proofs.lemmas.Bool.{eqb-true}
-use Rattle.decl_grammar.specs.Symbols.{operator, numbers}
+use Rattle.decl_grammar.specs.Symbols.{operator}
 use Rattle.decl_grammar.specs.declared.symbol.Symbol.{Symbol}
 use Rattle.decl_grammar.specs.Reading.{has, starts}
-use Rattle.decl_grammar.specs.Form.{Nest, type_arguments, any_value, lone_value, first_name, nested_type, modifiers, plain_modifiers, static_word, array_rest, import_rest, enum_rest, param_rest, first_rest, first_of, expression_signs, names, ats, Form, terminal, pair, turn, maybe, many, either, seen, nest, over, attempt, nullable, first}
+use Rattle.decl_grammar.specs.Form.{Part, one_of, bracketed, arguments, annotated, created, type_reference, tested, tested_name, tested_dim, Nest, type_arguments, created_arguments, array_value, nested_annotation, first_name, constant_value, expression_part, nested_type, modifiers, plain_modifiers, static_word, import_rest, enum_rest, param_rest, first_rest, value_and_rest, expression_rest, initialiser, value_end, constant_items, constant_chain, first_of, names, ats, Form, terminal, pair, turn, maybe, many, either, seen, nest, over, attempt, nullable, first}
 
 abbrev pub no : Bool → Bool
 no true = false
@@ -78,6 +78,19 @@ abbrev pub within : List ℕ → List ℕ → Bool
 within [] ls = true
 within (k ∷ ks) ls = has ls k && within ks ls
 
+eqb_self : (k : ℕ) → eqb k k ≡ true
+eqb_self k = grind arith
+
+within-more : (ks ls : List ℕ) (l : ℕ) → within ks ls ≡ true → within ks (l ∷ ls) ≡ true
+within-more [] ls l e = refl
+within-more (k ∷ ks) ls l e =
+    let p = both (has ls k) (within ks ls) e in
+    both_true (has (l ∷ ls) k) (within ks (l ∷ ls)) (has-cons l ls k ∙ or_right (eqb k l) (has ls k) p.0) (within-more ks ls l p.1)
+
+pub within-self : (ks : List ℕ) → within ks ks ≡ true
+within-self [] = refl
+within-self (k ∷ ks) = both_true (has (k ∷ ks) k) (within ks (k ∷ ks)) (has-cons k ks k ∙ or_left (eqb k k) (has ks k) (eqb_self k)) (within-more ks ks k (within-self ks))
+
 pub within-has : (ks ls : List ℕ) (n : ℕ) → within ks ls ≡ true → has ks n ≡ true → has ls n ≡ true
 within-has [] ls n d h = absurd cc
 within-has (k ∷ ks) ls n d h =
@@ -96,25 +109,40 @@ within-starts ks ls (t ∷ ts) d h = go (has ks t.sort) refl
     go true e = not_both (has ls t.sort) (within-has ks ls t.sort d e) h
     go false e = refl
 
--- what may go on with an expression
-abbrev pub expression_more : List ℕ
-expression_more = numbers 0 61 ++ (operator 10 ∷ expression_signs) ++ operator 0 ∷ operator 2 ∷ operator 4 ∷ []
-
 -- the sorts of symbol that can continue each nested form, and each form
+abbrev pub more_of_part : Part → List ℕ
+more_of_part (one_of ks) = []
+more_of_part (bracketed ks) = []
+more_of_part arguments = []
+more_of_part annotated = []
+more_of_part created = operator 8 ∷ operator 14 ∷ []
+more_of_part type_reference = []
+more_of_part tested = operator 8 ∷ operator 0 ∷ ats
+more_of_part tested_name = []
+more_of_part tested_dim = []
+
 abbrev pub more_of : Nest → List ℕ
 more_of type_arguments = []
-more_of any_value = operator 8 ∷ operator 0 ∷ expression_more
-more_of lone_value = operator 8 ∷ operator 0 ∷ expression_more
+more_of created_arguments = []
+more_of array_value = []
+more_of nested_annotation = operator 8 ∷ operator 0 ∷ []
+more_of constant_value = operator 8 ∷ operator 4 ∷ operator 28 ∷ operator 0 ∷ []
+more_of (expression_part s p) = more_of_part p
 more_of first_name = []
 more_of nested_type = []
 more_of modifiers = operator 8 ∷ operator 0 ∷ first_of modifiers
 more_of plain_modifiers = operator 8 ∷ operator 0 ∷ first_of modifiers
 more_of static_word = []
-more_of array_rest = operator 7 ∷ operator 8 ∷ operator 0 ∷ (first_of any_value ++ expression_more)
 more_of import_rest = operator 8 ∷ []
 more_of enum_rest = operator 7 ∷ operator 0 ∷ operator 2 ∷ operator 8 ∷ (ats ++ names)
 more_of param_rest = operator 4 ∷ operator 7 ∷ ats
 more_of first_rest = operator 4 ∷ operator 7 ∷ operator 8 ∷ ats
+more_of (value_and_rest s) = []
+more_of (expression_rest s w a) = []
+more_of initialiser = []
+more_of (value_end s) = []
+more_of constant_items = []
+more_of constant_chain = operator 8 ∷ operator 4 ∷ operator 28 ∷ []
 
 abbrev pub more : {A : Type 0} → Form A → List ℕ
 more (terminal k) = []
@@ -143,10 +171,50 @@ ok (attempt f g) = ok f && ok g
 
 -- The rank of a form that holds itself: those that it may begin with, before its first symbol, are of smaller ranks.
 abbrev pub rank : Nest → ℕ
-rank m = 0
+rank initialiser = 2
+rank (value_and_rest s) = 2
+rank (expression_rest s w a) = 2
+rank (expression_part s p) = 1
+rank constant_items = 1
+rank type_arguments = 0
+rank created_arguments = 0
+rank array_value = 0
+rank nested_annotation = 0
+rank first_name = 0
+rank constant_value = 0
+rank nested_type = 0
+rank modifiers = 0
+rank plain_modifiers = 0
+rank static_word = 0
+rank import_rest = 0
+rank enum_rest = 0
+rank param_rest = 0
+rank first_rest = 0
+rank (value_end s) = 0
+rank constant_chain = 0
 
 pub rank-bound : (m : Nest) → rank m ≤ 2
-rank-bound m = omega arith
+rank-bound initialiser = omega arith
+rank-bound (value_and_rest s) = omega arith
+rank-bound (expression_rest s w a) = omega arith
+rank-bound (expression_part s p) = omega arith
+rank-bound constant_items = omega arith
+rank-bound type_arguments = omega arith
+rank-bound created_arguments = omega arith
+rank-bound array_value = omega arith
+rank-bound nested_annotation = omega arith
+rank-bound first_name = omega arith
+rank-bound constant_value = omega arith
+rank-bound nested_type = omega arith
+rank-bound modifiers = omega arith
+rank-bound plain_modifiers = omega arith
+rank-bound static_word = omega arith
+rank-bound import_rest = omega arith
+rank-bound enum_rest = omega arith
+rank-bound param_rest = omega arith
+rank-bound first_rest = omega arith
+rank-bound (value_end s) = omega arith
+rank-bound constant_chain = omega arith
 
 pub rank-below : (m : Nest) (k : ℕ) → nat_lt (rank m) k ≡ true → rank m < k
 rank-below m k e = grind arith
@@ -164,6 +232,30 @@ guarded k (nest m) = nat_lt (rank m) k
 guarded k (over opens) = true
 guarded k (attempt f g) = guarded k f && guarded k g
 
+-- each rank is smaller than three
+nest-guarded : (m : Nest) → nat_lt (rank m) 3 ≡ true
+nest-guarded initialiser = refl
+nest-guarded (value_and_rest s) = refl
+nest-guarded (expression_rest s w a) = refl
+nest-guarded (expression_part s p) = refl
+nest-guarded constant_items = refl
+nest-guarded type_arguments = refl
+nest-guarded created_arguments = refl
+nest-guarded array_value = refl
+nest-guarded nested_annotation = refl
+nest-guarded first_name = refl
+nest-guarded constant_value = refl
+nest-guarded nested_type = refl
+nest-guarded modifiers = refl
+nest-guarded plain_modifiers = refl
+nest-guarded static_word = refl
+nest-guarded import_rest = refl
+nest-guarded enum_rest = refl
+nest-guarded param_rest = refl
+nest-guarded first_rest = refl
+nest-guarded (value_end s) = refl
+nest-guarded constant_chain = refl
+
 -- all ranks are smaller than three
 pub any-guarded : {A : Type 0} (f : Form A) → guarded 3 f ≡ true
 any-guarded (terminal ks) = refl
@@ -173,6 +265,6 @@ any-guarded (maybe f) = any-guarded f
 any-guarded (many f) = any-guarded f
 any-guarded (either f g) = both_true (guarded 3 f) (guarded 3 g) (any-guarded f) (any-guarded g)
 any-guarded (seen h f) = any-guarded f
-any-guarded (nest m) = refl
+any-guarded (nest m) = nest-guarded m
 any-guarded (over opens) = refl
 any-guarded (attempt f g) = both_true (guarded 3 f) (guarded 3 g) (any-guarded f) (any-guarded g)

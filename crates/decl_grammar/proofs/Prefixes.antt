@@ -6,7 +6,7 @@ use Rattle.decl_grammar.specs.Rule.{WholeAt, BegunAt}
 use Rattle.decl_grammar.specs.File.{IsPhrase, BeginsPhrase}
 use Rattle.decl_grammar.proofs.Heads.{Is-begins}
 use Rattle.decl_grammar.proofs.Fronts.{Begins-front}
-use Rattle.decl_grammar.proofs.Knot.{full-at, begins-at, fronts-at}
+use Rattle.decl_grammar.proofs.Heights.{full-at, begins-at, fronts-at}
 
 pub phrase-front : {A : Type 0} (f : Form A) (us vs : List Symbol) (n : ℕ) → BeginsPhrase f (us ++ vs) n → (j : ℕ) × BeginsPhrase f us j
 phrase-front f us vs n b =

@@ -24,8 +24,8 @@ has-numbers a (suc k) n = has-cons a (numbers (suc a) k) n ∙ (ap (λ (b : Bool
 pub has-both : (ks ls : List ℕ) (n : ℕ) → (has ks n || has ls n) ≡ has (ks ++ ls) n
 has-both ks ls n = sym (has-append ks ls n)
 
-pub has-one : (k : ℕ) (ks : List ℕ) (n : ℕ) → (eqb n k || has ks n) ≡ has (k ∷ ks) n
-has-one k ks n = sym (has-cons k ks n)
+pub has_one : (k : ℕ) (ks : List ℕ) (n : ℕ) → (eqb n k || has ks n) ≡ has (k ∷ ks) n
+has_one k ks n = sym (has-cons k ks n)
 
 range_is : (a k n : ℕ) (c : Bool) → c ≡ in_range a k n → c ≡ has (numbers a k) n
 range_is a k n c e = e ∙ sym (has-numbers a k n)

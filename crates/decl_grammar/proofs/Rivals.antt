@@ -1,13 +1,23 @@
 -- What two readings of the same symbols must keep to, and forms all of whose two readings do.
-use Rattle.std.proofs.Common.{◌≡◌, ℕ, ◌≤◌, Bool, true, false, List, [], ◌∷◌, ◌++◌, Some, None, inl, inr}
+use Rattle.std.proofs.Common.{◌≡◌, ℕ, ◌≤◌, Bool, true, false, List, [], ◌∷◌, ◌++◌, Option, Some, None, inl, inr}
 use Rattle.std.specs.Prelude.{◌&&◌}
 use Rattle.decl_grammar.specs.declared.symbol.Symbol.{Symbol}
 use Rattle.decl_grammar.specs.Form.{Nest, Of, Form, terminal, pair, turn, maybe, many, either, nest, over, seen, attempt, Each, Wholes, Begun, Is, Begins}
-use Rattle.decl_grammar.proofs.OneToken.{both}
+use Rattle.decl_grammar.specs.Rule.{WholeAt}
+use Rattle.decl_grammar.proofs.OneToken.{both, more_of}
 
--- Two readings: the same whole symbols mean the same to both, neither goes on where the other one is whole, and the first one has at least as much open.
+-- what is whole at one height, or at any
+abbrev pub Upto : Option ℕ → Wholes
+Upto None m ts x = (h : ℕ) × WholeAt h m ts x
+Upto (Some h) m ts x = WholeAt h m ts x
+
+-- whole in one way; and where nothing continues the form, with the one meaning that the symbols have in another way
+abbrev pub Sole : Wholes → Wholes → Wholes
+Sole w v m ts x = w m ts x × (more_of m ≡ [] → (y : Of m) → v m ts y → x ≡ y)
+
+-- Two readings: the same whole symbols mean the same to both (where those behind a part that both have in common do), neither goes on where the other one is whole, and the first one has at least as much open.
 pub record Rivals (w : Wholes) (b : Begun) {A : Type 0} (f g : Form A) : Type 0 where
-  pub agree : (ts : List Symbol) (x y : A) → Is w f ts x → Is w g ts y → x ≡ y
+  pub agree : (l : Option ℕ) (ts : List Symbol) (x y : A) → Is (Sole w (Upto l)) f ts x → Is (Upto l) g ts y → x ≡ y
   pub first_ends : (us vs : List Symbol) (x : A) (n : ℕ) → Is w f us x → Begins w b g (us ++ vs) n → vs ≡ []
   pub other_ends : (us vs : List Symbol) (x : A) (n : ℕ) → Is w g us x → Begins w b f (us ++ vs) n → vs ≡ []
   pub dominated : (us : List Symbol) (m n : ℕ) → Begins w b f us m → Begins w b g us n → (k : ℕ) × (n ≤ k) × Begins w b f us k
@@ -92,3 +102,6 @@ Begins-up v w a b up on (nest m) ts n (inr q) = inr (q.0, q.1, q.2, q.3, q.4, on
 Begins-up v w a b up on (over opens) ts n p = p
 Begins-up v w a b up on (attempt f g) ts n (inl p) = inl (Begins-up v w a b up on f ts n p)
 Begins-up v w a b up on (attempt f g) ts n (inr p) = inr (Begins-up v w a b up on g ts n p)
+
+pub sole-up : (w v : Wholes) → WholeUp (Sole w v) w
+sole-up w v m ts x p = p.0

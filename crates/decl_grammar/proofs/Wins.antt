@@ -13,7 +13,8 @@ use Rattle.decl_grammar.proofs.Fronts.{cuts, Begins-front}
 use Rattle.decl_grammar.proofs.Attempts.{Passes, reached}
 use Rattle.decl_grammar.proofs.Complete.{Comes, complete}
 use Rattle.decl_grammar.proofs.Passes.{bounded}
-use Rattle.decl_grammar.proofs.Knot.{Whole, Started, IsSound, known-any, inside-any, bounded-at, passes-any}
+use Rattle.decl_grammar.proofs.Heights.{Whole, Started}
+use Rattle.decl_grammar.proofs.Knot.{IsSound, known-any, inside-any, bounded-at, passes-any}
 
 -- where the first part is whole, what is whole or begun by the other reading is so by the second part
 pub record Wins (w : Wholes) (b : Begun) {A B C : Type 0} (f : Form A) (g : Form B) (o : Form C) : Type 0 where
@@ -67,14 +68,14 @@ record Lost (room : ℕ) {A B C : Type 0} (h : A × B → C) (f : Form A) (g : F
 lost-whole : (room : ℕ) {A B C : Type 0} (h : A × B → C) (f : Form A) (g : Form B) (o : Form C) (ts at : List Symbol) → Lost room h f g o ts at → (us r : List Symbol) (z : C) → ts ≡ us ++ r → Is Whole (led h f g) us z → ⊥
 lost-whole room {A} {B} {C} h f g o ts at l us r z e is =
     let good = both (ok (led h f g)) (ok o) l.sound.0 in
-    let c = complete Whole Whole Started room (read_nest room) (inside-any room) (led h f g) good.0 l.sound.1.0 us z r (ap (λ (ks : List ℕ). starts ks r) l.ends ∙ none-starts r) is in
+    let c = complete Whole Whole Started room (read_nest room) (inside-any l.sound.2 room) (led h f g) good.0 l.sound.1.0 us z r (ap (λ (ks : List ℕ). starts ks r) l.ends ∙ none-starts r) is in
     let d : Comes z r (fault at) = subst (λ (q : Outcome C). Comes z r q) (ap (reads room (led h f g)) (sym e) ∙ l.fails) c in
     ⊎_elim (λ (p : fault at ≡ done z r). absurd cc) (λ (p : (to : List Symbol) × (fault at ≡ deep to) × (length r < length to)). absurd cc) d
 
 lost-begun : (room : ℕ) {A B C : Type 0} (h : A × B → C) (f : Form A) (g : Form B) (o : Form C) (ts at : List Symbol) → Lost room h f g o ts at → (us r : List Symbol) (n : ℕ) → ts ≡ us ++ r → Begins Whole Started (led h f g) us n → (length at ≤ length r) × (n ≤ room)
 lost-begun room {A} {B} {C} h f g o ts at l us r n e begins =
     let good = both (ok (led h f g)) (ok o) l.sound.0 in
-    let c = passes-any (led h f g) (good.0, l.sound.1.0) room us n r begins in
+    let c = passes-any (led h f g) (good.0, l.sound.1.0, l.sound.2) room us n r begins in
     let d : Passes room n r (fault at) = subst (λ (q : Outcome C). Passes room n r q) (ap (reads room (led h f g)) (sym e) ∙ l.fails) c in
     ⊎_elim (λ (p : (length at ≤ length r) × (n ≤ room)). p) (λ (p : (to : List Symbol) × (fault at ≡ deep to) × (length r < length to)). absurd cc) d
 

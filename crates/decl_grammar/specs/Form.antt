@@ -2,6 +2,8 @@
 use Rattle.std.specs.Prelude.{◌≡◌, ℕ, zero, suc, Bool, true, false, List, [], ◌∷◌, ◌++◌, length, nat_le, Option, Some, None, if◌then◌else◌, ◌||◌, ◌&&◌, ◌⊎◌}
 use Rattle.decl_tree.specs.declared.type_text.TypeText.{TypeText}
 use Rattle.decl_tree.specs.declared.annotation.ValueText.{ValueText}
+use Rattle.decl_tree.specs.declared.annotation.ElementValuePair.{ElementValuePair}
+use Rattle.decl_tree.specs.declared.annotation.AnnotationText.{AnnotationText}
 use Rattle.decl_tree.specs.declared.type_text.Around.{Around}
 use Rattle.decl_tree.specs.declared.type_text.BaseType.{BaseType}
 use Rattle.decl_tree.specs.declared.member.Param.{Param}
@@ -9,39 +11,116 @@ use Rattle.decl_tree.specs.declared.declaration.Member.{Member}
 use Rattle.decl_tree.specs.declared.compilation.Import.{Import}
 use Rattle.decl_grammar.specs.declared.written.Modifiers.{Modifiers}
 use Rattle.decl_grammar.specs.declared.written.TypeRest.{TypeRest}
+use Rattle.decl_grammar.specs.declared.written.Declarator.{Declarator}
 use Rattle.decl_grammar.specs.declared.written.ParamEnd.{ParamEnd}
 use Rattle.decl_grammar.specs.declared.symbol.Symbol.{Symbol}
 use Rattle.decl_grammar.specs.Symbols.{identifier, named, at_interface, word, operator, numbers}
-use Rattle.decl_grammar.specs.Reading.{has, starts, Outcome, done, fault, deep, ◌>>=◌, one_at, read_of, skip}
+use Rattle.decl_grammar.specs.Reading.{has, starts, Outcome, done, fault, ◌>>=◌, one_at, read_of, skip, deep}
+
+-- Where an expression stands: alone in the brackets of an annotation, behind the `=` of a pair there, in an array, as the
+-- default of an element, or as the initialiser of a field.
+pub data Stands : Type 0 where
+  alone : Stands
+  paired : Stands
+  listed : Stands
+  defaulted : Stands
+  assigned : Stands
+
+-- Whether a `=` may stand here: not yet; within this many conditions and one more, up to its `:`; or anywhere, as in a
+-- lambda and an initialiser (JLS 15.25 to 15.27).
+pub data Freedom : Type 0 where
+  strict : Freedom
+  conditional : ℕ → Freedom
+  anywhere : Freedom
+
+-- in an initialiser it may stand anywhere
+abbrev pub freedom_in : Stands → Freedom → Freedom
+freedom_in alone w = w
+freedom_in paired w = w
+freedom_in listed w = w
+freedom_in defaulted w = w
+freedom_in assigned w = anywhere
+
+-- What stands before the next part of an expression: nothing that tells, a name, a `>`, a `.`, a `::`, type arguments behind
+-- a `::`, a type that is created; and of a type that is tested the `instanceof`, a name, type arguments, or brackets.
+pub data After : Type 0 where
+  between : After
+  name_there : After
+  greater : After
+  dot : After
+  colons : After
+  colon_arguments : After
+  creation : After
+  test : After
+  test_name : After
+  test_arguments : After
+  test_end : After
+
+-- The parts of an expression: a symbol of one of these sorts, a bracket with all up to where it is closed, type arguments,
+-- annotations up to the type behind them, what is created, the rest of a type from its arguments up to its `::`; and of a
+-- type that is tested the `instanceof`, a further name, and a pair of brackets.
+pub data Part : Type 0 where
+  one_of : List ℕ → Part
+  bracketed : List ℕ → Part
+  arguments : Part
+  annotated : Part
+  created : Part
+  type_reference : Part
+  tested : Part
+  tested_name : Part
+  tested_dim : Part
 
 -- The forms that hold themselves.
 pub data Nest : Type 0 where
   -- a list of type arguments
   type_arguments : Nest
-  -- a value in an array or behind a `=`
-  any_value : Nest
-  -- a value alone in the brackets of an annotation, and the name of a first pair there, which might still be one
-  lone_value : Nest
+  -- the type arguments of a class that is created, which may be `<>` (JLS 15.9)
+  created_arguments : Nest
+  -- an array and an annotation as values, and the name of a first pair, which might still be a value
+  array_value : Nest
+  nested_annotation : Nest
   first_name : Nest
+  -- a constant form, as long as an initialiser might still be one
+  constant_value : Nest
+  -- a part of an expression: within a value it counts, since the value is open there
+  expression_part : Stands → Part → Nest
   -- a type behind its modifiers, and modifiers, which might still be those of a type: any, those of which the first is not `static`, and a first `static`
   nested_type : Nest
   modifiers : Nest
   plain_modifiers : Nest
   static_word : Nest
-  -- The rest of a row, which holds itself and counts nothing: what stands behind a value of an array, a name of an import, a constant of an enum, and the type of a parameter, which may be the receiver where it is the first one.
-  array_rest : Nest
+  -- The rest of a row, which holds itself and counts nothing: a name of an import, a constant of an enum, and the type of a parameter, which may be the receiver where it is the first one.
   import_rest : Nest
   enum_rest : Nest
   param_rest : Nest
   first_rest : Nest
+  -- The same of values: a value and all behind it, the rest of an expression and all behind it, an initialiser and all
+  -- behind it, what stands behind a value, and the rest of constant forms.
+  value_and_rest : Stands → Nest
+  expression_rest : Stands → Freedom → After → Nest
+  initialiser : Nest
+  value_end : Stands → Nest
+  constant_items : Nest
+  constant_chain : Nest
+
+-- whether an expression that stands here is a value
+abbrev pub is_value : Stands → Bool
+is_value assigned = false
+is_value _ = true
 
 -- those that count as open
 abbrev pub counts : Nest → Bool
-counts array_rest = false
+counts (expression_part s p) = is_value s
 counts import_rest = false
 counts enum_rest = false
 counts param_rest = false
 counts first_rest = false
+counts (value_and_rest s) = false
+counts (expression_rest s w a) = false
+counts initialiser = false
+counts (value_end s) = false
+counts constant_items = false
+counts constant_chain = false
 counts _ = true
 
 -- ---- what the rests of rows mean
@@ -58,20 +137,40 @@ ParamRest = List Around × (ParamEnd × (List Param × Bool))
 abbrev pub ImportRest : Type 0
 ImportRest = List ℕ → Import
 
+-- what stands behind a value, by where it stands, up to the bracket or the `;` that ends all of them
+abbrev pub Behind : Stands → Type 0
+Behind alone = Unit {0}
+Behind paired = List ElementValuePair
+Behind listed = List ValueText
+Behind defaulted = Unit {0}
+Behind assigned = List Declarator
+
+-- the symbols of the rest of an expression, and what stands behind it
+abbrev pub Rest : Stands → Type 0
+Rest s = List Symbol × Behind s
+
 abbrev pub Of : Nest → Type 0
 Of type_arguments = List TypeText
-Of any_value = ValueText
-Of lone_value = ValueText
+Of created_arguments = List TypeText
+Of array_value = ValueText
+Of nested_annotation = AnnotationText
 Of first_name = List ℕ
+Of constant_value = ValueText
+Of (expression_part s p) = Unit {0}
 Of nested_type = TypeRest
 Of modifiers = Modifiers
 Of plain_modifiers = Modifiers
 Of static_word = Symbol
-Of array_rest = List ValueText
 Of import_rest = ImportRest
 Of enum_rest = List Member
 Of param_rest = ParamRest
 Of first_rest = ParamRest
+Of (value_and_rest s) = ValueText × Behind s
+Of (expression_rest s w a) = Rest s
+Of initialiser = Option ValueText × List Declarator
+Of (value_end s) = Behind s
+Of constant_items = List ValueText
+Of constant_chain = Unit {0}
 
 -- A form of the grammar, by the type of what it means.
 pub data Form : Type 0 → Type 1 where
@@ -136,8 +235,8 @@ Begins whole begun (many {A} f) ts n = (us : List Symbol) × (vs : List Symbol) 
 Begins whole begun (either f g) ts n = Begins whole begun f ts n ⊎ Begins whole begun g ts n
 Begins whole begun (seen h f) ts n = Begins whole begun f ts n
 Begins whole begun (nest m) ts n = ((ts ≡ []) × (n ≡ 0)) ⊎ ((t : Symbol) × (us : List Symbol) × (k : ℕ) × (ts ≡ t ∷ us) × (n ≡ opened m k) × begun m ts k)
-Begins whole begun (over opens) ts n = (n ≡ 0) × ((skip opens ts ≡ fault []) ⊎ (skip opens ts ≡ done tt []))
 Begins whole begun (attempt f g) ts n = Begins whole begun f ts n ⊎ Begins whole begun g ts n
+Begins whole begun (over opens) ts n = (n ≡ 0) × ((skip opens ts ≡ fault []) ⊎ (skip opens ts ≡ done tt []))
 
 -- ---- reading from left to right
 
@@ -161,25 +260,103 @@ names = identifier ∷ named ∷ []
 abbrev pub ats : List ℕ
 ats = operator 10 ∷ at_interface ∷ []
 
--- What an expression may have at its outermost, besides brackets: no `,`, `;`, `=` and `@`.
+-- the reserved words but `instanceof` and `new`
+abbrev pub plain_expression_words : List ℕ
+plain_expression_words = numbers (word 0) 25 ++ (numbers (word 26) 4 ++ numbers (word 31) 20)
+
+-- What tells nothing in an expression: literals, words, and all operators but brackets, `,`, `;`, `.`, `::`, `@`, `=`, `<`, `>`, `?`, `:` and `->`.
+abbrev pub plain_sorts : List ℕ
+plain_sorts = numbers 2 7 ++ (plain_expression_words ++ (operator 9 ∷ operator 15 ∷ operator 16 ∷ numbers (operator 20) 30))
+
+-- `.` and `::`
 abbrev pub dots : List ℕ
-dots = operator 8 ∷ operator 9 ∷ operator 11 ∷ []
+dots = operator 8 ∷ operator 11 ∷ []
 
-abbrev pub expression_signs : List ℕ
-expression_signs = dots ++ numbers (operator 13) 37
+-- `new`, `instanceof`, `>`, `?`, `:`, `->` and `(`, which may stand anywhere in an expression
+abbrev pub telling_sorts : List ℕ
+telling_sorts = word 30 ∷ word 25 ∷ operator 13 ∷ operator 17 ∷ operator 18 ∷ operator 19 ∷ operator 0 ∷ []
 
--- what begins an expression that is no name, besides `(` and `[`
-abbrev pub expression_firsts : List ℕ
-expression_firsts = numbers 2 7 ++ (numbers (word 0) 51 ++ expression_signs)
+-- the primitive types (JLS 4.2)
+abbrev pub primitive_sorts : List ℕ
+primitive_sorts = word 2 ∷ word 4 ∷ word 36 ∷ word 26 ∷ word 28 ∷ word 7 ∷ word 19 ∷ word 13 ∷ []
 
--- the names that begin a value: where a pair may stand, no name that a `=` follows
-abbrev pub value_names : Bool → List ℕ
-value_names true = identifier ∷ named ∷ []
-value_names false = identifier ∷ []
+-- `=`, where it may stand
+abbrev pub equals : Freedom → List ℕ
+equals strict = []
+equals (conditional n) = operator 12 ∷ []
+equals anywhere = operator 12 ∷ []
 
--- what begins a value: `{`, an annotation, an expression
-abbrev pub value_firsts : Bool → List ℕ
-value_firsts named = operator 2 ∷ (ats ++ ((value_names named ++ expression_firsts) ++ (operator 0 ∷ operator 4 ∷ [])))
+-- the names that begin an expression: where a pair may stand, no name that a `=` follows
+abbrev pub first_names : Stands → List ℕ
+first_names alone = identifier ∷ []
+first_names _ = names
+
+-- what ends a value and what stands behind it: a bracket or a `;`, or a `,`
+abbrev pub ends : Stands → List ℕ
+ends alone = operator 1 ∷ []
+ends paired = operator 1 ∷ operator 7 ∷ []
+ends listed = operator 3 ∷ operator 7 ∷ []
+ends defaulted = operator 6 ∷ []
+ends assigned = operator 6 ∷ operator 7 ∷ []
+
+-- what begins an expression: as a value nothing that begins an array or an annotation
+abbrev pub value_sorts : Stands → List ℕ
+value_sorts s = first_names s ++ (plain_sorts ++ (telling_sorts ++ (operator 14 ∷ (dots ++ operator 4 ∷ []))))
+
+abbrev pub expression_sorts : Stands → List ℕ
+expression_sorts assigned = value_sorts assigned ++ (operator 2 ∷ operator 12 ∷ ats)
+expression_sorts s = value_sorts s
+
+-- `<`: behind a type that is created it has begun its arguments, and behind `::` with arguments a name or `new` comes
+abbrev pub less_sorts : After → List ℕ
+less_sorts creation = []
+less_sorts colon_arguments = []
+less_sorts name_there = operator 14 ∷ []
+less_sorts between = operator 14 ∷ []
+less_sorts greater = operator 14 ∷ []
+less_sorts dot = operator 14 ∷ []
+less_sorts colons = operator 14 ∷ []
+less_sorts test = operator 14 ∷ []
+less_sorts test_name = operator 14 ∷ []
+less_sorts test_arguments = operator 14 ∷ []
+less_sorts test_end = operator 14 ∷ []
+
+-- `.` and `::`, which behind a type that is created have gone on with it, and which in a value stand behind no `>` that is an operator
+abbrev pub dot_sorts : Stands → After → List ℕ
+dot_sorts s creation = []
+dot_sorts s greater = if is_value s then [] else dots
+dot_sorts s _ = dots
+
+-- `[`, in the same way
+abbrev pub square_sorts : Stands → After → List ℕ
+square_sorts s greater = if is_value s then [] else operator 4 ∷ []
+square_sorts s _ = operator 4 ∷ []
+
+-- what goes on with an expression; behind `instanceof` a type comes
+abbrev pub later_sorts : Stands → Freedom → After → List ℕ
+later_sorts s w test = names ++ primitive_sorts
+later_sorts s w a =
+    names ++ (plain_sorts ++ (telling_sorts ++ (less_sorts a ++ (dot_sorts s a ++ (square_sorts s a ++ (ats ++ (operator 2 ∷ equals w)))))))
+
+-- what ends an expression and what stands behind it, which behind `instanceof` may not come yet
+abbrev pub later_ends : Stands → After → List ℕ
+later_ends s test = []
+later_ends s _ = ends s
+
+-- what begins a constant form: `{`, `@`, literals, names, `-`, the primitive types and `void`
+abbrev pub constant_sorts : List ℕ
+constant_sorts = operator 2 ∷ (ats ++ (names ++ (numbers 2 7 ++ operator 29 ∷ word 47 ∷ word 2 ∷ word 4 ∷ word 36 ∷ word 26 ∷ word 28 ∷ word 7 ∷ word 19 ∷ word 13 ∷ [])))
+
+abbrev pub first_of_part : Part → List ℕ
+first_of_part (one_of ks) = ks
+first_of_part (bracketed ks) = ks
+first_of_part arguments = operator 14 ∷ []
+first_of_part annotated = ats
+first_of_part created = word 30 ∷ []
+first_of_part tested = word 25 ∷ []
+first_of_part tested_name = operator 8 ∷ []
+first_of_part tested_dim = operator 4 ∷ ats
+first_of_part type_reference = operator 14 ∷ []
 
 -- the modifiers but `static`, and no annotations
 abbrev pub plain_words : List ℕ
@@ -191,18 +368,26 @@ modifier_words = word 37 ∷ plain_words
 -- the sorts of symbol that begin them
 abbrev pub first_of : Nest → List ℕ
 first_of type_arguments = operator 14 ∷ []
-first_of any_value = value_firsts true
-first_of lone_value = value_firsts false
+first_of created_arguments = operator 14 ∷ []
+first_of array_value = operator 2 ∷ []
+first_of nested_annotation = ats
+first_of constant_value = constant_sorts
+first_of (expression_part s p) = first_of_part p
 first_of first_name = named ∷ []
 first_of nested_type = word 8 ∷ word 27 ∷ at_interface ∷ word 15 ∷ []
 first_of modifiers = modifier_words ++ operator 10 ∷ []
 first_of plain_modifiers = plain_words ++ operator 10 ∷ []
 first_of static_word = word 37 ∷ []
-first_of array_rest = operator 7 ∷ []
 first_of import_rest = operator 8 ∷ []
 first_of enum_rest = operator 7 ∷ []
 first_of param_rest = operator 4 ∷ (ats ++ operator 9 ∷ names)
 first_of first_rest = operator 4 ∷ (ats ++ operator 9 ∷ word 42 ∷ names)
+first_of (value_and_rest s) = operator 2 ∷ (ats ++ expression_sorts s)
+first_of (expression_rest s w a) = later_sorts s (freedom_in s w) a ++ later_ends s a
+first_of initialiser = expression_sorts assigned
+first_of (value_end s) = ends s
+first_of constant_items = constant_sorts
+first_of constant_chain = operator 8 ∷ operator 4 ∷ operator 28 ∷ []
 
 -- the sorts of symbol that may begin a form
 abbrev pub first : {A : Type 0} → Form A → List ℕ

@@ -5,7 +5,6 @@ pub mod Form
 pub mod Constants
 pub mod Types
 pub mod Expressions
-pub mod Members
 pub mod Grammar
 pub mod Rule
 pub mod Rows

@@ -1,27 +1,40 @@
 -- What each form that holds itself is, and how forms are read through them.
-use Rattle.std.specs.Prelude.{ℕ, zero, suc, ◌*◌, Bool, true, false, List, length, if◌then◌else◌}
+use Rattle.std.specs.Prelude.{ℕ, zero, suc, Bool, true, false, List, length, if◌then◌else◌, ◌*◌}
 use Rattle.decl_grammar.specs.declared.symbol.Symbol.{Symbol}
 use Rattle.decl_grammar.specs.Reading.{starts, Outcome, fault, deep}
-use Rattle.decl_grammar.specs.Form.{Nest, type_arguments, any_value, lone_value, first_name, nested_type, modifiers, plain_modifiers, static_word, array_rest, import_rest, enum_rest, param_rest, first_rest, counts, Of, first_of, Form, Wholes, Readers, Begun, Is, Begins, read}
-use Rattle.decl_grammar.specs.Types.{keyword, named_text, arguments_form, modifier, plain_modifier, modifiers_form}
-use Rattle.decl_grammar.specs.Expressions.{array_rest_form, value_from}
-use Rattle.decl_grammar.specs.Members.{param_rest_form, first_rest_form}
-use Rattle.decl_grammar.specs.Grammar.{enum_rest_form, type_rest, import_rest_form}
+use Rattle.decl_grammar.specs.Form.{Nest, counts, Of, Form, Wholes, Begun, Readers, Is, Begins, first_of, read, alone, paired, listed, defaulted, assigned, type_arguments, created_arguments, array_value, nested_annotation, first_name, constant_value, expression_part, nested_type, modifiers, plain_modifiers, static_word, import_rest, enum_rest, param_rest, first_rest, value_and_rest, expression_rest, initialiser, value_end, constant_items, constant_chain}
+use Rattle.decl_grammar.specs.Types.{keyword, modifier, plain_modifier, modifiers_form}
+use Rattle.decl_grammar.specs.Expressions.{end_form, value_rule, initialiser_form}
+use Rattle.decl_grammar.specs.Grammar.{param_rest_form, first_rest_form, enum_rest_form, type_rest, import_rest_form}
+
+-- ---- forms that hold themselves
 
 abbrev pub rule : (m : Nest) → Form (Of m)
-rule type_arguments = arguments_form
-rule any_value = value_from true
-rule lone_value = value_from false
-rule first_name = named_text
 rule nested_type = type_rest
 rule modifiers = modifiers_form modifier
 rule plain_modifiers = modifiers_form plain_modifier
 rule static_word = keyword 37
-rule array_rest = array_rest_form
 rule import_rest = import_rest_form
 rule enum_rest = enum_rest_form
 rule param_rest = param_rest_form
 rule first_rest = first_rest_form
+rule initialiser = initialiser_form
+rule (value_end assigned) = end_form assigned
+rule type_arguments = value_rule type_arguments
+rule created_arguments = value_rule created_arguments
+rule array_value = value_rule array_value
+rule nested_annotation = value_rule nested_annotation
+rule first_name = value_rule first_name
+rule constant_value = value_rule constant_value
+rule (expression_part s p) = value_rule (expression_part s p)
+rule (value_and_rest s) = value_rule (value_and_rest s)
+rule (expression_rest s w a) = value_rule (expression_rest s w a)
+rule constant_items = value_rule constant_items
+rule constant_chain = value_rule constant_chain
+rule (value_end alone) = value_rule (value_end alone)
+rule (value_end paired) = value_rule (value_end paired)
+rule (value_end listed) = value_rule (value_end listed)
+rule (value_end defaulted) = value_rule (value_end defaulted)
 
 -- a form that holds itself, where this many more may be open: of one that counts the room is one less within
 abbrev pub enter_if : (m : Nest) → Bool → (ℕ → Readers) → ℕ → List Symbol → Outcome (Of m)
@@ -32,12 +45,11 @@ enter_if m false inner room ts = read (inner room) (rule m) ts
 abbrev pub enter : (ℕ → Readers) → ℕ → Readers
 enter inner room m ts = enter_if m (counts m) inner room ts
 
--- the same through this many forms that hold themselves
+-- the same through this many forms that hold themselves; at most three of them begin at one symbol, so that three for each symbol are enough
 abbrev pub read_at : ℕ → ℕ → Readers
 read_at zero room m ts = fault ts
 read_at (suc n) room m ts = enter (read_at n) room m ts
 
--- At most three of them begin at one symbol, so that three for each symbol, and three more, are enough.
 unfoldable pub read_nest : ℕ → Readers
 read_nest room m ts = read_at (3 * suc (length ts)) room m ts
 

@@ -1,25 +1,26 @@
--- Short forms, names, annotations, types and modifiers (JLS 3.8, 4, 6.5, 8.1.1, 9.7), over symbols: what the phrases of each are, and what they mean.
--- Annotations of types are passed over.
-use Rattle.std.specs.Prelude.{ℕ, List, [], ◌∷◌, ◌++◌, Option, None, Some, codes, ◌==◌, if◌then◌else◌}
+-- Short forms, names, annotations and types (JLS 3.8, 4, 6.5, 9.7), over symbols: what the phrases of each are, and what they mean.
+use Rattle.std.specs.Prelude.{ℕ, List, [], ◌∷◌, ◌++◌, Option, Some, None, if◌then◌else◌, codes, ◌==◌}
+use Rattle.decl_tree.specs.declared.type_text.TypeText.{TypeText, out-TypeText}
+use Rattle.decl_tree.specs.declared.annotation.ValueText.{ValueText}
+use Rattle.decl_tree.specs.declared.annotation.ElementValuePair.{ElementValuePair}
+use Rattle.decl_tree.specs.declared.annotation.AnnotationText.{AnnotationText, roll-AnnotationText}
+use Rattle.decl_tree.specs.declared.type_text.Around.{Around}
+use Rattle.decl_tree.specs.declared.type_text.BaseType.{BaseType}
+use Rattle.decl_grammar.specs.declared.written.Modifiers.{Modifiers}
+use Rattle.decl_grammar.specs.declared.symbol.Symbol.{Symbol}
+use Rattle.decl_grammar.specs.Symbols.{named, word, operator}
 use Rattle.std.specs.Option.{option_map_or}
 use Rattle.std.specs.Int.Bits.{bit_or}
 use Rattle.decl_tree.specs.declared.type_text.PrimitiveKind.{PrimitiveKind}
-use Rattle.decl_tree.specs.declared.type_text.PrimitiveKind.TheVariants as primitive
-use Rattle.decl_tree.specs.declared.type_text.Around.{Around}
-use Rattle.decl_tree.specs.declared.type_text.Around.TheVariants as around
-use Rattle.decl_tree.specs.declared.type_text.BaseType.{BaseType}
-use Rattle.decl_tree.specs.declared.type_text.BaseType.TheVariants as base
-use Rattle.decl_tree.specs.declared.type_text.TypeText.{TypeText, out-TypeText}
 use Rattle.decl_tree.specs.declared.type_text.NamedPart.{NamedPart}
-use Rattle.decl_tree.specs.declared.annotation.ValueText.{ValueText}
-use Rattle.decl_tree.specs.declared.annotation.AnnotationText.{AnnotationText, roll-AnnotationText}
-use Rattle.decl_tree.specs.declared.annotation.ElementValuePair.{ElementValuePair}
 use Rattle.decl_tree.specs.declared.member.TypeParam.{TypeParam}
-use Rattle.decl_grammar.specs.declared.symbol.Symbol.{Symbol}
-use Rattle.decl_grammar.specs.declared.written.Modifiers.{Modifiers}
-use Rattle.decl_grammar.specs.Symbols.{named, word, operator}
-use Rattle.decl_grammar.specs.Form.{type_arguments, any_value, lone_value, first_name, modifiers, Shape, Form, terminal, pair, turn, maybe, many, either, nest, names, ats, plain_words, modifier_words}
 use Rattle.decl_grammar.specs.Constants.{primitive_of, named_part_of, type_of, more_dotted}
+use Rattle.decl_tree.specs.declared.type_text.Around.TheVariants as around
+use Rattle.decl_tree.specs.declared.type_text.BaseType.TheVariants as base
+use Rattle.decl_tree.specs.declared.type_text.PrimitiveKind.TheVariants as primitive
+use Rattle.decl_grammar.specs.Form.{Shape, Form, names, ats, primitive_sorts, plain_words, modifier_words, alone, paired, type_arguments, first_name, modifiers, value_and_rest, terminal, pair, turn, maybe, many, either, nest}
+
+-- Annotations of types are passed over.
 
 -- ---- short forms
 
@@ -47,17 +48,6 @@ first_and_rest x = x.0 ∷ x.1
 -- a comma, and what stands behind it, where it begins there
 abbrev pub comma_item : {A : Type 0} → Form A → Form (Option A)
 comma_item f = behind (sign 7) (maybe f)
-
--- an item, and those behind it
-abbrev pub one_and_rest : {A : Type 0} → A × Option (List A) → List A
-one_and_rest x = x.0 ∷ list_or_none x.1
-
-abbrev pub no_values : {A : Type 0} → Symbol → List A
-no_values s = []
-
--- what is read means nothing
-abbrev pub silently : {A : Type 0} → A → Unit {0}
-silently v = tt
 
 -- ---- names (JLS 3.8, 6.5)
 
@@ -87,28 +77,35 @@ name_chain = turn dotted_name (pair name (many dot_name))
 abbrev pub pair_of : List ℕ → ValueText → ElementValuePair
 pair_of n v = record { name = n; value = v }
 
+-- a pair, and those behind it
+abbrev pub pair_and_rest : List ℕ × (ValueText × List ElementValuePair) → List ElementValuePair
+pair_and_rest x = pair_of x.0 x.1.0 ∷ x.1.1
+
 -- a value alone is that of the element `value` (JLS 9.7.3)
 abbrev pub lone_pair : ValueText → List ElementValuePair
 lone_pair v = pair_of (codes "value") v ∷ []
 
--- Name = Value, where the name might still be a value
-unfoldable pub first_pair : Form ElementValuePair
-first_pair = turn (λ x. pair_of x.0 x.1) (pair (nest first_name) (behind (sign 12) (nest any_value)))
+-- Name = Value, and all behind it up to the `)`, where the name might still be a value
+unfoldable pub first_pair : Form (List ElementValuePair)
+first_pair = turn pair_and_rest (pair (nest first_name) (behind (sign 12) (nest (value_and_rest paired))))
 
--- , Name = Value
-unfoldable pub next_pair : Form ElementValuePair
-next_pair = behind (sign 7) (turn (λ x. pair_of x.0 x.1) (pair name (behind (sign 12) (nest any_value))))
+-- Name = Value, and all behind it
+unfoldable pub next_pair : Form (List ElementValuePair)
+next_pair = turn pair_and_rest (pair name (behind (sign 12) (nest (value_and_rest paired))))
 
--- Name = Value { , Name = Value }
-unfoldable pub pairs : Form (List ElementValuePair)
-pairs = turn first_and_rest (pair first_pair (many next_pair))
+abbrev pub no_pairs : Symbol → List ElementValuePair
+no_pairs s = []
 
+abbrev pub only_pair : ValueText × Unit {0} → List ElementValuePair
+only_pair x = lone_pair x.0
+
+-- PairsOrValue )
 unfoldable pub pairs_or_value : Form (List ElementValuePair)
-pairs_or_value = either pairs (turn lone_pair (nest lone_value))
+pairs_or_value = either first_pair (turn only_pair (nest (value_and_rest alone)))
 
 -- ( [PairsOrValue] )
 unfoldable pub annotation_arguments : Form (List ElementValuePair)
-annotation_arguments = behind (sign 0) (before (turn list_or_none (maybe pairs_or_value)) (sign 1))
+annotation_arguments = behind (sign 0) (either (turn no_pairs (sign 1)) pairs_or_value)
 
 abbrev pub annotation_of : List ℕ → Option (List ElementValuePair) → AnnotationText
 annotation_of n values = roll-AnnotationText (record { name = n; values = list_or_none values })
@@ -131,10 +128,21 @@ modifier_annotation = annotation_from (operator 10 ∷ [])
 unfoldable pub annotations : Form (List AnnotationText)
 annotations = many annotation
 
--- ---- types (JLS 4, 8.3, 10.2)
+-- an item, and those behind it
+abbrev pub one_and_rest : {A : Type 0} → A × Option (List A) → List A
+one_and_rest x = x.0 ∷ list_or_none x.1
 
-abbrev pub primitive_sorts : List ℕ
-primitive_sorts = word 2 ∷ word 4 ∷ word 36 ∷ word 26 ∷ word 28 ∷ word 7 ∷ word 19 ∷ word 13 ∷ []
+abbrev pub no_values : {A : Type 0} → Symbol → List A
+no_values s = []
+
+-- what is read means nothing
+abbrev pub silently : {A : Type 0} → A → Unit {0}
+silently v = tt
+
+abbrev pub as_written : List Symbol → List Symbol
+as_written ts = ts
+
+-- ---- types (JLS 4, 8.3, 10.2)
 
 abbrev pub kind_of_word : ℕ → PrimitiveKind
 kind_of_word n = option_map_or (λ k. k) (primitive_of n) primitive.Void

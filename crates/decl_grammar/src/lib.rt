@@ -1,6 +1,6 @@
-//! The grammar of declarations (JLS 4, 7.3 to 9.7) without the initialisers of fields, as data, and its laws.
+//! The grammar of declarations (JLS 4, 7.3 to 9.7, and of 15 what initialisers and values are told by) as data, and its laws.
 //!
-//! `specs/Types`, `Expressions`, `Members` and `Grammar` have the grammar, over the symbols of tokens (`symbols`), and
+//! `specs/Types`, `Expressions` and `Grammar` have the grammar, over the symbols of tokens (`symbols`), and
 //! `Rule` the forms that hold themselves. What is a phrase of a form and what begins one with so much open is defined by
 //! cases on forms (`specs/Form`), and so are the first fault and the first symbol at which too much is open
 //! (`specs/File`). How forms are read from left to right, and what a function that reads must return, is in

@@ -26,11 +26,12 @@ pub struct Signature {
     pub default: Option<ValueText>,
 }
 
-/// A name with the brackets behind it.
+/// A name with the brackets behind it, and its value where that is kept.
 #[derive(Drop)]
 pub struct Declarator {
     pub name: Name,
     pub dims: List<Around>,
+    pub constant: Option<ValueText>,
 }
 
 /// A type without its modifiers and its doc comment.

@@ -1,4 +1,3 @@
 pub mod UnitRows
 pub mod Places
 pub mod MemberReads
-pub mod TypedMembers

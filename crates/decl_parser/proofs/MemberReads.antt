@@ -1,5 +1,5 @@
 -- What is read of a member: a `;`, an initialiser, or what its declaration gives.
-use Rattle.std.proofs.Common.{◌≡◌, ℕ, Bool, true, false, cond, List, [], ◌∷◌, ◌++◌, refl, sym, ap, ◌∙◌}
+use Rattle.std.proofs.Common.{◌≡◌, ℕ, true, false, List, [], ◌∷◌, ◌++◌, refl, ap}
 use Rattle.std.specs.Prelude.{◌&&◌}
 use Rattle.std.proofs.lemmas.List.{append-nil}
 use Rattle.decl_tree.specs.declared.declaration.Member.{Member}
@@ -7,7 +7,7 @@ use Rattle.decl_tree.specs.declared.declaration.TypeKind.{TypeKind}
 use Rattle.decl_tree.specs.declared.declaration.TypeKind.TheVariants as kind
 use Rattle.decl_grammar.specs.declared.symbol.Symbol.{Symbol}
 use Rattle.decl_grammar.specs.declared.fault.ReadFault.{ReadFault}
-use Rattle.decl_grammar.specs.Reading.{starts, Outcome, done, ◌>>=◌, Fails, one_at, skip}
+use Rattle.decl_grammar.specs.Reading.{starts, done, Fails, one_at, skip}
 use Rattle.decl_grammar.specs.Form.{with_front}
 use Rattle.decl_grammar.specs.Grammar.{no_member, member_from, modified_form, member_form}
 use Rattle.decl_grammar.specs.Rule.{reads}

@@ -1,19 +1,15 @@
--- What functions read of members, in words: members behind others, and members behind what is known of them.
-use Rattle.std.specs.Prelude.{ℕ, true, List, [], ◌∷◌, ◌++◌, Option, map}
-use Rattle.decl_tree.specs.declared.type_text.TypeText.{TypeText}
+-- What functions read of members with their modifiers, in words: members behind others.
+use Rattle.std.specs.Prelude.{ℕ, true, List, [], ◌∷◌, ◌++◌}
 use Rattle.decl_tree.specs.declared.declaration.Member.{Member}
 use Rattle.decl_tree.specs.declared.declaration.TypeKind.{TypeKind}
 use Rattle.decl_grammar.specs.declared.symbol.Symbol.{Symbol}
 use Rattle.decl_grammar.specs.declared.written.Modifiers.{Modifiers}
-use Rattle.decl_grammar.specs.declared.written.Declarator.{Declarator}
 use Rattle.decl_grammar.specs.declared.written.Unmodified.{Unmodified}
-use Rattle.decl_grammar.specs.declared.written.MemberRest.{MemberRest}
 use Rattle.decl_grammar.specs.Reading.{Outcome}
 use Rattle.decl_grammar.specs.Form.{Form, many, turned, with_front, modifier_words, first_of, nested_type}
-use Rattle.decl_grammar.specs.Members.{typed_member, constructed_or}
-use Rattle.decl_grammar.specs.Grammar.{enum_members, unmodified_of, plain_modified, class_modified, modified_form, member_from, member_form, field_of}
+use Rattle.decl_grammar.specs.Grammar.{enum_members, unmodified_of, plain_modified, class_modified, modified_form, member_from, member_form}
 use Rattle.decl_grammar.specs.Rule.{reads}
-use Rattle.decl_types.specs.Members.{named_at, with_members}
+use Rattle.decl_types.specs.Members.{with_members}
 
 -- a member of a class whose first modifier is not `static`
 abbrev pub plain_of_class : Form (Modifiers × Unmodified)
@@ -22,18 +18,6 @@ plain_of_class = plain_modified (unmodified_of true)
 -- a member of a class with its modifiers, or a static initialiser
 abbrev pub modified_of_class : Form (Modifiers × Unmodified)
 modified_of_class = class_modified (unmodified_of true)
-
--- a member of a class type behind the first name of the type
-abbrev pub typed_at : List ℕ → ℕ → MemberRest → List Symbol → Outcome Unmodified
-typed_at n room kind ts = turned (named_at n) (reads room (typed_member kind) ts)
-
--- the same, or a constructor
-abbrev pub constructed_at : List ℕ → ℕ → MemberRest → List Symbol → Outcome Unmodified
-constructed_at n room kind ts = turned (named_at n) (reads room (constructed_or kind) ts)
-
--- the fields of a declaration
-abbrev pub fields_of : Option (List ℕ) → Modifiers → TypeText → List Declarator → List Member
-fields_of doc m of ds = map (field_of doc m of) ds
 
 -- what a member with its modifiers gives, behind other members
 abbrev pub declared_behind : List Member → ℕ → TypeKind → List Symbol → Outcome (List Member)

@@ -1,5 +1,5 @@
 -- The units of a compilation unit: one for each top-level type, or one for a package.
-use Rattle.std.specs.Prelude.{ℕ, List, [], ◌∷◌, ◌++◌, Option, None, Some}
+use Rattle.std.specs.Prelude.{ℕ, List, [], ◌∷◌, Option, None, Some}
 use Rattle.decl_tree.specs.declared.annotation.AnnotationText.{AnnotationText}
 use Rattle.decl_tree.specs.declared.declaration.TypeDecl.{TypeDecl}
 use Rattle.decl_tree.specs.declared.compilation.Import.{Import}

@@ -66,10 +66,10 @@ fn units_of_symbols(
     }
 }
 
-/// The units of an ordinary compilation unit whose fields have no initialisers, from the tokens of the file and its length.
+/// The units of an ordinary compilation unit (JLS 7.3), from the tokens of the file and its length in bytes.
 ///
-/// A file in which a field has an initialiser is answered by `Bad` at its `=`: this call does not read the whole language.
-pub fn uninitialised_units(
+/// A package's name of more than 1,024 bytes and a list of more than 65,535 children are not refused yet.
+pub fn units_of_tokens(
     alloc: Global,
     tokens: &[Token<'_>],
     end: u32,
@@ -129,7 +129,7 @@ fn info_of_symbols(
 
 /// The unit of a file `package-info.java` (JLS 7.4.1), from the tokens of the file and its length in bytes.
 ///
-/// Not all of the language is read yet. In an annotation's value a comma within type arguments of an expression, as in `@A(new B<C, D>())`, ends the value, and an assignment by `=` within a conditional or a lambda, as in `@A(b ? c = d : e)`, is refused. A package's name of more than 1,024 bytes is not refused yet.
+/// A package's name of more than 1,024 bytes is not refused yet.
 pub fn package_info_units(
     alloc: Global,
     tokens: &[Token<'_>],

@@ -8,8 +8,8 @@ ghost use Rattle.decl_grammar.specs.Grammar.{type_rest, modified_type, top_type}
 ghost use Rattle.decl_grammar.specs.Rule.{reads};
 
 use crate::declarations::type_rest_of;
-use crate::made_members::with_doc;
 use decl_grammar::{Modifiers, ReadFault, Symbol, TypeRest};
+use decl_members::with_doc;
 use decl_tree::TypeDecl;
 use decl_types::{starts_modifier, starts_type_word, type_modifiers_of};
 use decl_values::{begin, doc_before, is_next, one};

@@ -4,10 +4,9 @@ use Rattle.decl_tree.specs.declared.declaration.TypeKind.{TypeKind}
 use Rattle.decl_tree.specs.declared.declaration.TypeKind.TheVariants as kind
 use Rattle.decl_grammar.specs.declared.written.MemberRest.{MemberRest}
 use Rattle.decl_grammar.specs.declared.written.MemberRest.TheVariants as rest_kind
-use Rattle.decl_grammar.specs.Form.{first, nullable, names, ats, first_of, nested_type}
-use Rattle.decl_grammar.specs.Types.{name, annotation, primitive_sorts, primitive_type, type_params, optional_modifiers}
-use Rattle.decl_grammar.specs.Members.{params, method_signature, constructor_signature, element_signature, next_declarator, void_method, primitive_member, named_member, annotated_method, generic}
-use Rattle.decl_grammar.specs.Grammar.{nested_member, unmodified_of, annotation_unmodified, plain_modified, modified_form, member_form}
+use Rattle.decl_grammar.specs.Form.{first, nullable, names, ats, first_of, nested_type, primitive_sorts}
+use Rattle.decl_grammar.specs.Types.{name, annotation, primitive_type, type_params, optional_modifiers}
+use Rattle.decl_grammar.specs.Grammar.{params, method_signature, constructor_signature, element_signature, void_method, primitive_member, named_member, annotated_method, generic, nested_member, unmodified_of, annotation_unmodified, plain_modified, modified_form, member_form}
 use Rattle.decl_types.specs.Members.{unmodified_firsts, element_firsts, modified_firsts, member_firsts, plain_firsts}
 
 pub method_signature_first : first method_signature ≡ 61 ∷ []
@@ -21,14 +20,6 @@ constructor_signature_first = refl
 pub element_signature_first : first element_signature ≡ 61 ∷ []
 unfolding element_signature
 element_signature_first = refl
-
-pub next_declarator_first : first next_declarator ≡ 68 ∷ []
-unfolding next_declarator
-next_declarator_first = refl
-
-pub next_declarator_full : nullable next_declarator ≡ false
-unfolding next_declarator
-next_declarator_full = refl
 
 pub void_method_first : first void_method ≡ 57 ∷ []
 unfolding void_method

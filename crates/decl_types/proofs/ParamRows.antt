@@ -15,7 +15,7 @@ use Rattle.decl_grammar.specs.declared.written.ParamEnd.TheVariants as param_end
 use Rattle.decl_grammar.specs.Reading.{starts, Outcome, done, fault, deep, ◌>>=◌, Fails, one_at}
 use Rattle.decl_grammar.specs.Form.{param_rest, first_rest, ParamRest, Form, maybe, many, nest, turned}
 use Rattle.decl_grammar.specs.Types.{Mark, keyword, behind, annotations, base_type, with_marks}
-use Rattle.decl_grammar.specs.Members.{based, param_modifier, param_modifiers, params_from, next_params, params_or_none, apply_rest, FirstRest, final_and, final_first, plain_first, annotated_only, behind_annotations, first_from, first_params}
+use Rattle.decl_grammar.specs.Grammar.{based, param_modifier, param_modifiers, params_from, next_params, params_or_none, apply_rest, FirstRest, final_and, final_first, plain_first, annotated_only, behind_annotations, first_from, first_params}
 use Rattle.decl_grammar.specs.Rule.{read_nest, reads}
 use Rattle.decl_types.specs.Params.{end_then, with_items, finished, one_or_none, params_behind, later_params, param_then, apply_to, found_to, ReadsParam}
 use Rattle.decl_grammar.proofs.Progress.{word-shorter}

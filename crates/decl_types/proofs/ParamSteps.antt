@@ -13,7 +13,7 @@ use Rattle.decl_grammar.specs.declared.written.ParamEnd.TheVariants as param_end
 use Rattle.decl_grammar.specs.Reading.{starts, Outcome, done, fault, deep, ◌>>=◌, Fails, one_at}
 use Rattle.decl_grammar.specs.Form.{Nest, param_rest, first_rest, ats, ParamRest, Form, terminal, pair, turn, maybe, many, either, nest, first, nullable, turned}
 use Rattle.decl_grammar.specs.Types.{sign, behind, name, dim, annotation, annotations}
-use Rattle.decl_grammar.specs.Members.{bracket_rest, annotated_rest, varargs, named_with, named_end, receiver, receiver_end, dot_this, with_dims, some_dims, dims_and_rest, comma_first, alone_or, FirstBehind, behind_first_name, first_named, end_named, ended_with, ended_last, end_and_rest, in_array, params_or_none, next_params, param_rest_form, first_rest_form}
+use Rattle.decl_grammar.specs.Grammar.{bracket_rest, annotated_rest, varargs, named_with, named_end, receiver, receiver_end, dot_this, with_dims, some_dims, dims_and_rest, comma_first, alone_or, FirstBehind, behind_first_name, first_named, end_named, ended_with, ended_last, end_and_rest, in_array, params_or_none, next_params, param_rest_form, first_rest_form}
 use Rattle.decl_grammar.specs.Rule.{read_nest, reads}
 use Rattle.decl_types.specs.Params.{no_end, some_end, bracket_step, varargs_step, annotated_step, param_step, dims_or_none, first_end_of, first_end, first_step, end_then, with_items}
 use Rattle.decl_grammar.proofs.OneToken.{starts-append}

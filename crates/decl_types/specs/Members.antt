@@ -12,10 +12,10 @@ use Rattle.decl_grammar.specs.declared.written.Signature.{Signature}
 use Rattle.decl_grammar.specs.declared.written.Declarator.{Declarator}
 use Rattle.decl_tree.specs.declared.declaration.TypeKind.{TypeKind}
 use Rattle.decl_tree.specs.declared.declaration.TypeKind.TheVariants as kind
-use Rattle.decl_grammar.specs.Form.{Form, turned, first_of, nested_type, names, plain_words, modifier_words}
-use Rattle.decl_grammar.specs.Types.{next_type_param, next_argument, primitive_sorts}
-use Rattle.decl_grammar.specs.Members.{Named, Typed, rest_form, field_rest, next_declarator, declarator_of, fields_named, method_named}
-use Rattle.decl_grammar.specs.Grammar.{joined_lists}
+use Rattle.decl_grammar.specs.Expressions.{declarator_of}
+use Rattle.decl_grammar.specs.Form.{Form, turned, first_of, nested_type, names, plain_words, modifier_words, primitive_sorts}
+use Rattle.decl_grammar.specs.Types.{next_type_param, next_argument}
+use Rattle.decl_grammar.specs.Grammar.{Named, Typed, rest_form, field_rest, fields_named, method_named, joined_lists}
 use Rattle.decl_grammar.specs.Rule.{reads}
 
 -- the member with this type and this name
@@ -30,25 +30,17 @@ rest_at of n room kind ts = turned (named_as of n) (reads room (rest_form kind) 
 abbrev pub method_at : TypeText → List ℕ → ℕ → Form Signature → List Symbol → Outcome Unmodified
 method_at of n room f ts = turned (λ s. method_named s of n) (reads room f ts)
 
--- the names of fields, of which the first is known
+-- the fields of a declaration, of which the first name is known
 abbrev pub declarators_at : List ℕ → ℕ → List Symbol → Outcome (List Declarator)
-declarators_at n room ts = turned (λ v. declarator_of n v.0 ∷ v.1) (reads room field_rest ts)
+declarators_at n room ts = turned (λ v. declarator_of n v.0 v.1.0 ∷ v.1.1) (reads room field_rest ts)
 
 -- the fields of this type, of which the first name is known
 abbrev pub fields_at : TypeText → List ℕ → ℕ → List Symbol → Outcome Unmodified
 fields_at of n room ts = turned (λ v. fields_named v of n) (reads room field_rest ts)
 
--- the names behind commas, behind others
-abbrev pub declarators_behind : List Declarator → ℕ → List Symbol → Outcome (List Declarator)
-declarators_behind front room ts = row_behind front room next_declarator ts
-
 -- the type parameters behind commas, behind others
 abbrev pub type_params_behind : List TypeParam → ℕ → List Symbol → Outcome (List TypeParam)
 type_params_behind front room ts = row_behind front room next_type_param ts
-
--- the type arguments behind commas, behind others
-abbrev pub arguments_behind : List TypeText → ℕ → List Symbol → Outcome (List TypeText)
-arguments_behind front room ts = row_behind front room next_argument ts
 
 -- the member behind this first name
 abbrev pub named_at : List ℕ → Typed → Unmodified

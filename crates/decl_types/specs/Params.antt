@@ -13,7 +13,7 @@ use Rattle.decl_grammar.specs.declared.written.ParamEnd.TheVariants as param_end
 use Rattle.decl_grammar.specs.Reading.{Outcome, done, ◌>>=◌, Fails}
 use Rattle.decl_grammar.specs.Form.{ParamRest, Form, pair, turn, maybe, either, turned}
 use Rattle.decl_grammar.specs.Types.{sign, behind, name, annotation, annotations}
-use Rattle.decl_grammar.specs.Members.{varargs, named_end, receiver, dot_this, with_dims, end_named, ended_last, end_and_rest, param_of, params_or_none, next_params, apply_rest, FirstRest, based, behind_annotations}
+use Rattle.decl_grammar.specs.Grammar.{varargs, named_end, receiver, dot_this, with_dims, end_named, ended_last, end_and_rest, param_of, params_or_none, next_params, apply_rest, FirstRest, based, behind_annotations}
 use Rattle.decl_grammar.specs.Rule.{reads}
 
 -- ---- steps: a pair of brackets, or the end of a parameter

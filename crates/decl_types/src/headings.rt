@@ -8,11 +8,10 @@ ghost use Rattle.decl_grammar.specs.Types.{list_or_none, annotated_class, next_b
 ghost use Rattle.decl_grammar.specs.Grammar.{single_or, import_step, import_named, import_static, import_form, package_form, with_dot};
 ghost use Rattle.decl_grammar.specs.Rule.{reads, read_nest};
 
-use crate::types::annotated_class_of;
 use apt_base::{List, Name};
 use decl_grammar::{ReadFault, Symbol};
 use decl_tree::{Import, ImportKind, TypeParam, TypeText};
-use decl_values::{annotations_of, begin, is_next, one, read_chain, read_name, starts_name};
+use decl_values::{annotated_class_of, annotations_of, begin, is_next, one, read_chain, read_name};
 use std::alloc::Global;
 
 // A `&` and a further bound.

@@ -1,10 +1,10 @@
-//! Readers of types (JLS 4), of modifiers, of the headings of types, and of what stands behind the name of a member (JLS 8.3, 8.4, 8.8).
+//! Readers of modifiers, of the headings of types, and of what stands behind the name of a member (JLS 8.3, 8.4, 8.8).
 //!
 //! Each function says that what it returns is what reading its form gives (`Gives` of `decl_grammar`): the value and
 //! the symbols behind it, or the symbols from the first fault or from where too much is open on, or want of memory. `room`
-//! is how many nested types, lists of type arguments and values may be open at once. Each takes time linear in what it reads.
+//! is how many nested types, lists of type arguments and values may be open at once.
 //!
-//! Annotations on the use of a type are read and passed over (JLS 9.7.4). The bodies of methods are passed over.
+//! The bodies of methods are passed over. Types and initialisers are read by `decl_values`.
 #![tactic(auto)]
 
 mod headings;
@@ -12,7 +12,6 @@ mod modifiers;
 mod params;
 mod signatures;
 mod starting;
-mod types;
 
 pub use headings::{classes_of, optional_params_of, package_of, type_params_of};
 pub use modifiers::{
@@ -21,7 +20,3 @@ pub use modifiers::{
 };
 pub use signatures::{constructor_signature_of, member_rest_of, method_signature_of};
 pub use starting::{starts_member, starts_type_word, starts_unmodified};
-pub use types::{
-    annotated_class_of, dims_of, more_parts_of, primitive_type_of, starts_primitive,
-    type_arguments_of,
-};

@@ -5,14 +5,15 @@ ghost use Rattle.decl_grammar.specs.Reading.{Gives, has, starts, one_at};
 ghost use Rattle.decl_grammar.specs.Form.{ats, plain_words, modifier_words, many, maybe, nest, modifiers, plain_modifiers, static_word, turned};
 ghost use Rattle.decl_grammar.specs.Rows.{read_as, marks_behind};
 ghost use Rattle.decl_grammar.specs.Types.{keyword, bit_of, with_annotation, with_mark, with_marks, no_modifiers, modifier, plain_modifier, modifiers_form, modifiers_or_none, optional_modifiers, type_modifiers};
-ghost use Rattle.decl_grammar.specs.Members.{param_modifier, param_modifiers};
+ghost use Rattle.decl_grammar.specs.Grammar.{param_modifier, param_modifiers};
 ghost use Rattle.decl_grammar.specs.Rule.{reads, read_nest};
 
-use crate::types::modifier_annotation_of;
 use apt_base::List;
 use decl_grammar::{Modifiers, ReadFault, Symbol};
 use decl_tree::AnnotationText;
-use decl_values::{annotation_of, begin, is_next, one, shut, starts_annotation};
+use decl_values::{
+    annotation_of, begin, is_next, modifier_annotation_of, one, shut, starts_annotation,
+};
 use std::alloc::Global;
 
 // The bit of a modifier.
@@ -166,7 +167,7 @@ fn plain_modifier_of<'a, 's>(
 }
 
 // One modifier of a parameter, put behind others.
-#[tactic(auto, unfolding(decl_grammar::specs::Members::param_modifier, decl_grammar::specs::Reading::one_at))]
+#[tactic(auto, unfolding(decl_grammar::specs::Grammar::param_modifier, decl_grammar::specs::Reading::one_at))]
 fn param_modifier_of<'a, 's>(
     alloc: Global,
     room: usize,
@@ -255,7 +256,7 @@ pub fn type_modifiers_of<'a, 's>(
 }
 
 /// The modifiers of a parameter.
-#[tactic(auto, unfolding(decl_grammar::specs::Members::param_modifiers))]
+#[tactic(auto, unfolding(decl_grammar::specs::Grammar::param_modifiers))]
 pub fn param_modifiers_of<'a, 's>(
     alloc: Global,
     room: usize,

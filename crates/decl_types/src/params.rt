@@ -2,20 +2,19 @@
 ghost use Rattle.std.specs.Prelude.{◌≡◌, ◌++◌, [], ◌∷◌, ℕ, List, length, IfOk, Ok, Some, None, MatchResult};
 ghost use Rattle.decl_grammar.specs.declared.fault.ReadFault.TheVariants as faults;
 ghost use Rattle.decl_grammar.specs.Reading.{Gives, UnlessMemory, has, starts};
-ghost use Rattle.decl_grammar.specs.Form.{ats, names, many, maybe, nest, either, turn, param_rest, first_rest, turned};
-ghost use Rattle.decl_grammar.specs.Types.{primitive_sorts};
-ghost use Rattle.decl_grammar.specs.Members.{param_of, named_end, receiver, dot_this, with_dims, some_dims, end_named, varargs, based, params_from, next_params, behind_annotations, first_params, params};
+ghost use Rattle.decl_grammar.specs.Form.{ats, names, many, maybe, nest, either, turn, param_rest, first_rest, turned, primitive_sorts};
+ghost use Rattle.decl_grammar.specs.Grammar.{param_of, named_end, receiver, dot_this, with_dims, some_dims, end_named, varargs, based, params_from, next_params, behind_annotations, first_params, params};
 ghost use Rattle.decl_grammar.specs.Rule.{reads, read_nest};
 ghost use Rattle.decl_types.specs.Params.{some_end, one_or_none, bracket_step, varargs_step, annotated_step, param_step, first_end, first_step, finished, params_behind, more_params, this_or_name, ReadsEndOf, ReadsParam, ReadsBased, ReadsFound};
 
 use crate::modifiers::{more_param_modifiers_of, param_modifiers_of};
 use crate::starting::is_primitive_or_name;
-use crate::types::{base_type_of, dim_of, dims_of, more_dims_of, starts_dim};
 use apt_base::{List, Name};
 use decl_grammar::{Modifiers, ParamEnd, Params, ReadFault, Symbol};
 use decl_tree::{AnnotationText, Around, BaseType, Param, TypeText};
 use decl_values::{
-    annotation_of, annotations_of, begin, is_at, is_next, one, read_name, starts_annotation,
+    annotation_of, annotations_of, base_type_of, begin, dim_of, dims_of, is_at, is_next,
+    more_dims_of, one, read_name, starts_annotation, starts_dim,
 };
 use std::alloc::Global;
 
@@ -33,7 +32,7 @@ fn bracket_step_of<'a, 's>(
 }
 
 // `...` and the name of a parameter.
-#[tactic(auto, unfolding(crate::specs::Params::varargs_step, decl_grammar::specs::Members::varargs))]
+#[tactic(auto, unfolding(crate::specs::Params::varargs_step, decl_grammar::specs::Grammar::varargs))]
 fn varargs_step_of<'a, 's>(
     alloc: Global,
     room: usize,
@@ -77,7 +76,7 @@ fn annotated_step_of<'a, 's>(
 }
 
 // A name and the brackets behind it.
-#[tactic(auto, unfolding(decl_grammar::specs::Members::named_end))]
+#[tactic(auto, unfolding(decl_grammar::specs::Grammar::named_end))]
 fn named_end_of<'a, 's>(
     alloc: Global,
     room: usize,
@@ -114,7 +113,7 @@ fn param_step_of<'a, 's>(
 }
 
 // `.` and `this`.
-#[tactic(auto, unfolding(decl_grammar::specs::Members::dot_this))]
+#[tactic(auto, unfolding(decl_grammar::specs::Grammar::dot_this))]
 fn dot_this_of<'a, 's>(
     room: usize,
     symbols: &'s [Symbol<'a>],
@@ -127,7 +126,7 @@ fn dot_this_of<'a, 's>(
 }
 
 // Pairs of brackets, of which there is one.
-#[tactic(auto, unfolding(decl_grammar::specs::Members::with_dims, decl_grammar::specs::Members::some_dims))]
+#[tactic(auto, unfolding(decl_grammar::specs::Grammar::with_dims, decl_grammar::specs::Grammar::some_dims))]
 fn some_dims_of<'a, 's>(
     alloc: Global,
     room: usize,
@@ -164,7 +163,7 @@ fn first_end_of<'a, 's>(
 }
 
 // `this`.
-#[tactic(auto, unfolding(decl_grammar::specs::Members::receiver))]
+#[tactic(auto, unfolding(decl_grammar::specs::Grammar::receiver))]
 fn receiver_of<'a, 's>(
     room: usize,
     symbols: &'s [Symbol<'a>],
@@ -462,7 +461,7 @@ fn starts_params(symbols: &[Symbol<'_>]) -> bool
 }
 
 /// Parameters in their brackets.
-#[tactic(auto, using(crate::proofs::ParamFirsts::first_params_first), unfolding(decl_grammar::specs::Members::params))]
+#[tactic(auto, using(crate::proofs::ParamFirsts::first_params_first), unfolding(decl_grammar::specs::Grammar::params))]
 pub fn params_of<'a, 's>(
     alloc: Global,
     room: usize,

@@ -3,21 +3,20 @@ ghost use Rattle.std.specs.Prelude.{◌≡◌, ◌++◌, [], ◌∷◌, ℕ, Lis
 ghost use Rattle.decl_grammar.specs.Reading.{Gives, starts};
 ghost use Rattle.decl_grammar.specs.Form.{many, maybe, nest, turned, with_front};
 ghost use Rattle.decl_grammar.specs.Types.{dim, name};
-ghost use Rattle.decl_grammar.specs.Members.{thrown, body, method_signature, constructor_signature, element_default, element_signature, next_declarator, field_rest, declarator_of, fields_named, method_named, rest_form};
+ghost use Rattle.decl_grammar.specs.Grammar.{thrown, body, method_signature, constructor_signature, element_end, element_signature, field_rest, fields_named, method_named, rest_form};
 ghost use Rattle.decl_grammar.specs.Rule.{reads};
-ghost use Rattle.decl_types.specs.Members.{declarators_behind, declarators_at, fields_at, method_at, rest_at};
+ghost use Rattle.decl_types.specs.Members.{declarators_at, fields_at, method_at, rest_at};
 
 use crate::headings::classes_of;
 use crate::params::params_of;
-use crate::types::dims_of;
 use apt_base::{List, Name};
 use decl_grammar::{Declarator, MemberRest, Params, ReadFault, Signature, Symbol, Unmodified};
-use decl_tree::{Around, TypeText, ValueText};
-use decl_values::{any_value_of, begin, is_next, one, read_name, read_over};
+use decl_tree::{TypeText, ValueText};
+use decl_values::{default_of, dims_of, fields_of, is_next, one, read_over};
 use std::alloc::Global;
 
 // The types behind `throws`.
-#[tactic(auto, unfolding(decl_grammar::specs::Members::thrown))]
+#[tactic(auto, unfolding(decl_grammar::specs::Grammar::thrown))]
 fn thrown_of<'a, 's>(
     alloc: Global,
     room: usize,
@@ -33,7 +32,7 @@ fn thrown_of<'a, 's>(
 }
 
 // What is behind the body of a method, or behind the `;` in place of it.
-#[tactic(auto, unfolding(decl_grammar::specs::Members::body))]
+#[tactic(auto, unfolding(decl_grammar::specs::Grammar::body))]
 fn body_of<'a, 's>(
     alloc: Global,
     room: usize,
@@ -49,7 +48,7 @@ fn body_of<'a, 's>(
 }
 
 /// What stands behind the name of a method.
-#[tactic(auto, unfolding(decl_grammar::specs::Members::method_signature))]
+#[tactic(auto, unfolding(decl_grammar::specs::Grammar::method_signature))]
 pub fn method_signature_of<'a, 's>(
     alloc: Global,
     room: usize,
@@ -76,7 +75,7 @@ pub fn method_signature_of<'a, 's>(
 }
 
 /// What stands behind the name of a constructor.
-#[tactic(auto, unfolding(decl_grammar::specs::Members::constructor_signature))]
+#[tactic(auto, unfolding(decl_grammar::specs::Grammar::constructor_signature))]
 pub fn constructor_signature_of<'a, 's>(
     alloc: Global,
     room: usize,
@@ -101,25 +100,26 @@ pub fn constructor_signature_of<'a, 's>(
     ))
 }
 
-// The value behind `default`, where there is one.
-#[tactic(auto, unfolding(decl_grammar::specs::Members::element_default))]
-fn element_default_of<'a, 's>(
+// What stands behind the brackets of an element: its default, where there is one, and a `;`.
+#[tactic(auto, unfolding(decl_grammar::specs::Grammar::element_end))]
+fn element_end_of<'a, 's>(
     alloc: Global,
     room: usize,
     symbols: &'s [Symbol<'a>],
 ) -> Result<(Option<ValueText>, &'s [Symbol<'a>]), ReadFault>
-    ensures { Gives (λ x. (x.0, x.1.now)) result (reads room element_default symbols.now) }
+    ensures { Gives (λ x. (x.0, x.1.now)) result (reads room element_end symbols.now) }
 {
-    if is_next(symbols, 21) {
-        let (_, rest) = one(symbols, 21)?;
-        let (value, rest) = any_value_of(alloc, room, rest)?;
-        return Ok((Some(value), rest));
+    if is_next(symbols, 67) {
+        let (_, rest) = one(symbols, 67)?;
+        return Ok((None, rest));
     }
-    Ok((None, symbols))
+    let (_, rest) = one(symbols, 21)?;
+    let (value, rest) = default_of(alloc, room, rest)?;
+    Ok((Some(value), rest))
 }
 
 // What stands behind the name of an element of an annotation interface.
-#[tactic(auto, unfolding(decl_grammar::specs::Members::element_signature))]
+#[tactic(auto, unfolding(decl_grammar::specs::Grammar::element_signature))]
 fn element_signature_of<'a, 's>(
     alloc: Global,
     room: usize,
@@ -131,8 +131,7 @@ fn element_signature_of<'a, 's>(
     let (_, rest) = one(rest, 62)?;
     let (dims, rest) = dims_of(alloc, room, rest)?;
     let dims = List::from_vec(dims);
-    let (default, rest) = element_default_of(alloc, room, rest)?;
-    let (_, rest) = one(rest, 67)?;
+    let (default, rest) = element_end_of(alloc, room, rest)?;
     let params = Params {
         params: List::new(alloc),
         varargs: false,
@@ -149,44 +148,8 @@ fn element_signature_of<'a, 's>(
     ))
 }
 
-// A comma, and a name with its brackets.
-#[tactic(auto, unfolding(decl_grammar::specs::Members::next_declarator))]
-fn next_declarator_of<'a, 's>(
-    alloc: Global,
-    room: usize,
-    symbols: &'s [Symbol<'a>],
-) -> Result<(Declarator, &'s [Symbol<'a>]), ReadFault>
-    ensures { Gives (λ x. (x.0, x.1.now)) result (reads room next_declarator symbols.now) }
-{
-    let (_, rest) = one(symbols, 68)?;
-    let (text, rest) = read_name(room, rest)?;
-    let name = Name::new(alloc, text)?;
-    let (dims, rest) = dims_of(alloc, room, rest)?;
-    let dims = List::from_vec(dims);
-    Ok((Declarator { name, dims }, rest))
-}
-
-// The names behind commas, put behind others.
-fn more_declarators_of<'a, 's>(
-    alloc: Global,
-    room: usize,
-    front: Vec<Declarator>,
-    symbols: &'s [Symbol<'a>],
-) -> Result<(Vec<Declarator>, &'s [Symbol<'a>]), ReadFault>
-    ensures { Gives (λ x. (x.0.items, x.1.now)) result (declarators_behind front.items room symbols.now) }
-{
-    let mut all = front;
-    let mut rest = begin(symbols)?;
-    'row: while is_next(rest, 68) {
-        let (next, after) = next_declarator_of(alloc, room, rest)?;
-        all.push(next)?;
-        rest = after;
-    }
-    Ok((all, rest))
-}
-
-// The names of fields, of which the first is known.
-#[tactic(auto, unfolding(decl_grammar::specs::Members::field_rest))]
+// The fields of a declaration, of which the first name is known.
+#[tactic(auto, unfolding(decl_grammar::specs::Grammar::field_rest))]
 fn field_rest_of<'a, 's>(
     alloc: Global,
     room: usize,
@@ -197,15 +160,11 @@ fn field_rest_of<'a, 's>(
 {
     let (dims, rest) = dims_of(alloc, room, symbols)?;
     let dims = List::from_vec(dims);
-    let mut front = Vec::new(alloc);
-    front.push(Declarator { name, dims })?;
-    let (all, rest) = more_declarators_of(alloc, room, front, rest)?;
-    let (_, rest) = one(rest, 67)?;
-    Ok((all, rest))
+    fields_of(alloc, room, name, dims, rest)
 }
 
 // The rest of fields.
-fn fields_of<'a, 's>(
+fn fields_rest_of<'a, 's>(
     alloc: Global,
     room: usize,
     of: TypeText,
@@ -265,14 +224,14 @@ pub fn member_rest_of<'a, 's>(
             if is_next(symbols, 61) {
                 return method_of(alloc, room, of, name, symbols);
             }
-            fields_of(alloc, room, of, name, symbols)
+            fields_rest_of(alloc, room, of, name, symbols)
         }
         MemberRest::Method => method_of(alloc, room, of, name, symbols),
         MemberRest::Element => {
             if is_next(symbols, 61) {
                 return element_of(alloc, room, of, name, symbols);
             }
-            fields_of(alloc, room, of, name, symbols)
+            fields_rest_of(alloc, room, of, name, symbols)
         }
     }
 }

@@ -1,15 +1,13 @@
 // Which symbols begin members.
 ghost use Rattle.std.specs.Prelude.{◌≡◌, ◌++◌, [], ◌∷◌, List};
 ghost use Rattle.decl_grammar.specs.Reading.{has, starts};
-ghost use Rattle.decl_grammar.specs.Form.{names, plain_words, modifier_words, first_of, nested_type};
-ghost use Rattle.decl_grammar.specs.Types.{primitive_sorts};
+ghost use Rattle.decl_grammar.specs.Form.{names, plain_words, modifier_words, first_of, nested_type, primitive_sorts};
 ghost use Rattle.decl_types.specs.Members.{unmodified_firsts, element_firsts, modifier_firsts, plain_firsts, modified_firsts, block_or, member_firsts};
 
 use crate::modifiers::{is_modifier_word, is_plain_word};
-use crate::types::is_primitive;
 use decl_grammar::Symbol;
 use decl_tree::TypeKind;
-use decl_values::is_name_sort;
+use decl_values::{is_name_sort, is_primitive};
 
 // Whether a type may begin with this sort, its modifiers aside.
 fn is_type_word(sort: u8) -> bool

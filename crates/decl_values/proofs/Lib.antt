@@ -1,4 +1,8 @@
-pub mod ImportRests
-pub mod DocTexts
-pub mod Parts
-pub mod Pairs
+pub mod PartFirsts
+pub mod RowTurns
+pub mod RowItems
+pub mod ValueEnds
+pub mod StepsSmaller
+pub mod FieldItems
+pub mod ConstantReads
+pub mod Measures

@@ -1,28 +1,37 @@
-//! Readers of the parts of declarations that hold no types: names, imports (JLS 7.5), annotations with their values (JLS 9.7), and doc comments.
+//! Readers of types (JLS 4), annotations with their values (JLS 9.7) and initialisers of fields (JLS 8.3). Those of names, imports (JLS 7.5) and doc comments stand below, and
+//! are handed on.
 //!
 //! Each function says that what it returns is what reading its form gives (`Gives` of `decl_grammar`): the value and
 //! the symbols behind it, or the symbols from the first fault or from where too much is open on, or want of memory. `room`
-//! is how many values may be open at once. Each takes time linear in what it reads.
+//! is how many lists of type arguments and values may be open at once. Values hold types and types hold annotations with values, so their readers are one cycle.
 //!
-//! An annotation's value that is no constant form is passed over and kept as the texts of its tokens. A comma within type arguments
-//! of an expression, as in `@A(new B<C, D>())`, ends the value, and an assignment by `=` within a conditional or a
-//! lambda, as in `@A(b ? c = d : e)`, is refused.
+//! Annotations on the use of a type are read and passed over (JLS 9.7.4). An annotation's value that is no constant form is kept as the texts of its
+//! tokens, and an initialiser that is none is passed over. In an expression a `<` behind a name may begin the arguments of a type up to its `::`: that is
+//! tried, and where it fails it is the operator, and of two faults the further one counts. What is tried holds types alone, so each symbol is read
+//! once for each list of type arguments that may be open around it, of which there are at most 200.
 #![tactic(auto)]
 
-mod constants;
-mod docs;
-mod imports;
-mod marks;
-mod names;
-mod skipping;
-mod steps;
+mod annotations;
+mod constant_forms;
+mod creations;
+mod fields;
+mod pieces;
+mod reached;
+mod rows;
+mod type_arguments;
+mod types;
 mod values;
 
-pub use constants::primitive_of_sort;
-pub use docs::doc_before;
-pub use imports::imports_of;
-pub use marks::annotations_of;
-pub use names::{is_name_sort, read_chain, read_name, starts_name};
-pub use skipping::{closer_of, is_opening, pass_over, read_over};
-pub use steps::{begin, is_next, one, shut};
-pub use values::{annotation_body_of, annotation_of, any_value_of, is_at, starts_annotation};
+pub use annotations::{annotation_of, annotations_of};
+pub use decl_constants::primitive_type_of;
+pub use decl_names::{
+    begin, doc_before, imports_of, is_at, is_name_sort, is_next, is_primitive, one, read_chain,
+    read_name, read_over, shut, starts_annotation, starts_name, starts_primitive,
+};
+pub use fields::fields_of;
+pub use type_arguments::{optional_arguments_of, type_arguments_of};
+pub use types::{
+    annotated_class_of, base_type_of, dim_of, dims_of, modifier_annotation_of, more_dims_of,
+    more_parts_of, starts_dim,
+};
+pub use values::default_of;

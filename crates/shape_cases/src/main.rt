@@ -11,7 +11,7 @@
 //! | `arguments NUMBER` | as `shape`, of a class with a field whose type has that number of lists of type arguments, each inside the one before |
 //! | `brackets NUMBER` | the same, with that number of pairs of brackets |
 //! | `wildcards NUMBER` | the same, with `? extends` that number of times |
-//! | `file TEXT` | the units of the ordinary compilation unit that the text is, without initialisers of fields, in words; or `bad` and the offset of its first fault, or `deep` |
+//! | `file TEXT` | the units of the ordinary compilation unit that the text is, in words; or `bad` and the offset of its first fault, or `deep` |
 //! | `info TEXT` | the same of a file `package-info.java` |
 //!
 //! In words, a list is the number of its items and the items, and a part that may be left out is `none`, or `some` and the part.

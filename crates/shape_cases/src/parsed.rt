@@ -4,7 +4,7 @@ ghost use Rattle.std.specs.Prelude.{◌≤◌, length};
 use crate::unit::unit;
 use crate::words::Words;
 use case_lines::{CaseFault, text_bytes};
-use decl_parser::{FileFault, package_info_units, uninitialised_units};
+use decl_parser::{FileFault, package_info_units, units_of_tokens};
 use decl_syntax::{List, UnitText};
 use java_tokens::{Chars, TextFault, read_chars, tokens};
 use std::alloc::Global;
@@ -62,7 +62,7 @@ fn units(alloc: Global, info: bool, bytes: &[u8]) -> Result<List<UnitText>, Case
     let read = if info {
         package_info_units(alloc, list.as_slice(), end)
     } else {
-        uninitialised_units(alloc, list.as_slice(), end)
+        units_of_tokens(alloc, list.as_slice(), end)
     };
     match read {
         Ok(units) => Ok(units),

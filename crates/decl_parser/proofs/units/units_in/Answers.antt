@@ -1,5 +1,3 @@
-use Rattle.std.proofs.Common.{[], ◌∷◌, ◌++◌, ap, ◌∙◌, sym}
-use Rattle.decl_parser.specs.Units.{units_from}
 use Rattle.decl_parser.proofs.UnitRows.{units-push}
 use Rattle.decl_parser.proofs.units.units_in.Goals as goal
 

@@ -1,7 +1,7 @@
 use Rattle.std.proofs.Common.{◌≡◌, length}
 use Rattle.decl_grammar.specs.Form.{many, turned}
 use Rattle.decl_grammar.specs.Types.{with_marks}
-use Rattle.decl_grammar.specs.Members.{param_modifier}
+use Rattle.decl_grammar.specs.Grammar.{param_modifier}
 use Rattle.decl_grammar.specs.Rule.{reads}
 use Rattle.decl_types.proofs.modifiers.more_param_modifiers_of.Given as goal
 

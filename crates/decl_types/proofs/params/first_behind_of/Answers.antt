@@ -2,7 +2,7 @@ use Rattle.std.proofs.Common.{refl, arith, ◌∙◌, sym}
 use Rattle.std.proofs.lemmas.Result.{err_from_is_err_and}
 use Rattle.decl_grammar.specs.Form.{many}
 use Rattle.decl_grammar.specs.Types.{with_marks}
-use Rattle.decl_grammar.specs.Members.{param_modifier, final_and}
+use Rattle.decl_grammar.specs.Grammar.{param_modifier, final_and}
 use Rattle.decl_grammar.proofs.Nests.{fewer-turned}
 use Rattle.decl_types.proofs.ParamRows.{final-joined, final-fails, final-shut, plain-joined, param-moved, one-fewer}
 use Rattle.decl_types.proofs.params.first_behind_of.Goals as goal

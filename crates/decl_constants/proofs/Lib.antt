@@ -1,0 +1,4 @@
+pub mod Parts
+pub mod Pairs
+pub mod ConstantFirsts
+pub mod ChainReads

@@ -1,0 +1,4 @@
+pub mod ImportRests
+pub mod DocTexts
+pub mod Smaller
+pub mod AnnotationFirsts

@@ -1,0 +1,3 @@
+pub mod FieldRows
+pub mod Ends
+pub mod ConstantRows

@@ -1,0 +1,175 @@
+// Reads type arguments and wildcards (JLS 4.5.1).
+ghost use Rattle.std.specs.Prelude.{◌≡◌, [], ◌∷◌, List, MatchResult};
+ghost use Rattle.decl_grammar.specs.Reading.{Gives, starts};
+ghost use Rattle.decl_grammar.specs.Form.{maybe, nest, type_arguments};
+ghost use Rattle.decl_grammar.specs.Types.{wildcard_bound, type_argument, next_argument, arguments_form, wildcard, bounded_text};
+ghost use Rattle.decl_grammar.specs.Rule.{reads, read_nest};
+ghost use Rattle.decl_values.specs.Ends.{arguments_behind};
+ghost use Rattle.decl_grammar.specs.declared.fault.ReadFault.TheVariants as faults;
+
+use crate::annotations::annotations_of;
+use crate::types::{annotated_reference_of, reference_of};
+use apt_base::List;
+use decl_grammar::{ReadFault, Symbol};
+use decl_names::{begin, is_next, one, shut};
+use decl_tree::{Around, BaseType, TypeText};
+use std::alloc::Global;
+
+// The same type within something around it.
+fn within(alloc: Global, item: Around, text: TypeText) -> Result<TypeText, ReadFault>
+    ensures { MatchResult result (λ x. x ≡ bounded_text item text) (λ e. e ≡ faults.Memory) }
+{
+    let TypeText { around, base } = text;
+    let mut items = Vec::new(alloc);
+    items.push(item)?;
+    items.extend_from_slice(around.as_slice())?;
+    let around = List::from_vec(items);
+    Ok(TypeText { around, base })
+}
+
+// The bound of a wildcard.
+#[cycle(values)]
+#[tactic(auto, unfolding(decl_grammar::specs::Types::wildcard_bound))]
+fn wildcard_bound_of<'a, 's>(
+    alloc: Global,
+    room: usize,
+    symbols: &'s [Symbol<'a>],
+) -> Result<(TypeText, &'s [Symbol<'a>]), ReadFault>
+    ensures { Gives (λ x. (x.0, x.1.now)) result (reads room wildcard_bound symbols.now) }
+{
+    if is_next(symbols, 26) {
+        let (_, rest) = one(symbols, 26)?;
+        let (text, rest) = annotated_reference_of(alloc, room, rest)?;
+        return Ok((within(alloc, Around::Extends, text)?, rest));
+    }
+    let (_, rest) = one(symbols, 49)?;
+    let (text, rest) = annotated_reference_of(alloc, room, rest)?;
+    Ok((within(alloc, Around::Super, text)?, rest))
+}
+
+// Whether the bound of a wildcard begins here.
+fn starts_bound(symbols: &[Symbol<'_>]) -> bool
+    ensures { result ≡ starts (26 ∷ 49 ∷ []) symbols.now }
+{
+    is_next(symbols, 26) || is_next(symbols, 49)
+}
+
+// A wildcard (JLS 4.5.1).
+#[cycle(values)]
+#[tactic(auto, using(decl_grammar::proofs::Firsts::wildcard_bound_first), unfolding(decl_grammar::specs::Types::wildcard))]
+fn wildcard_of<'a, 's>(
+    alloc: Global,
+    room: usize,
+    symbols: &'s [Symbol<'a>],
+) -> Result<(TypeText, &'s [Symbol<'a>]), ReadFault>
+    ensures { Gives (λ x. (x.0, x.1.now)) result (reads room wildcard symbols.now) }
+{
+    let (_, rest) = one(symbols, 78)?;
+    if starts_bound(rest) {
+        return wildcard_bound_of(alloc, room, rest);
+    }
+    let base = BaseType::Wildcard;
+    let around = List::new(alloc);
+    Ok((TypeText { around, base }, rest))
+}
+
+/// A type argument.
+#[cycle(values)]
+#[tactic(auto, using(decl_grammar::proofs::Firsts::wildcard_first), unfolding(decl_grammar::specs::Types::type_argument))]
+pub fn type_argument_of<'a, 's>(
+    alloc: Global,
+    room: usize,
+    symbols: &'s [Symbol<'a>],
+) -> Result<(TypeText, &'s [Symbol<'a>]), ReadFault>
+    ensures { Gives (λ x. (x.0, x.1.now)) result (reads room type_argument symbols.now) }
+{
+    let (_, rest) = annotations_of(alloc, room, symbols)?;
+    if is_next(rest, 78) {
+        return wildcard_of(alloc, room, rest);
+    }
+    reference_of(alloc, room, rest)
+}
+
+// A comma and a type argument.
+#[cycle(values)]
+#[tactic(auto, unfolding(decl_grammar::specs::Types::next_argument))]
+fn next_argument_of<'a, 's>(
+    alloc: Global,
+    room: usize,
+    symbols: &'s [Symbol<'a>],
+) -> Result<(TypeText, &'s [Symbol<'a>]), ReadFault>
+    ensures { Gives (λ x. (x.0, x.1.now)) result (reads room next_argument symbols.now) }
+{
+    let (_, rest) = one(symbols, 68)?;
+    type_argument_of(alloc, room, rest)
+}
+
+/// The type arguments behind commas, put behind others.
+#[cycle(values)]
+pub fn more_arguments_of<'a, 's>(
+    alloc: Global,
+    room: usize,
+    front: Vec<TypeText>,
+    symbols: &'s [Symbol<'a>],
+) -> Result<(Vec<TypeText>, &'s [Symbol<'a>]), ReadFault>
+    ensures { Gives (λ x. (x.0.items, x.1.now)) result (arguments_behind front.items room symbols.now) }
+{
+    let mut all = front;
+    let mut rest = begin(symbols)?;
+    'row: while is_next(rest, 68) {
+        let (next, after) = next_argument_of(alloc, room, rest)?;
+        all.push(next)?;
+        rest = after;
+    }
+    Ok((all, rest))
+}
+
+// A list of type arguments, where so much may be open in it.
+#[cycle(values)]
+#[tactic(auto, unfolding(decl_grammar::specs::Types::arguments_form))]
+fn arguments_in<'a, 's>(
+    alloc: Global,
+    room: usize,
+    symbols: &'s [Symbol<'a>],
+) -> Result<(Vec<TypeText>, &'s [Symbol<'a>]), ReadFault>
+    ensures { Gives (λ x. (x.0.items, x.1.now)) result (reads room arguments_form symbols.now) }
+{
+    let (_, rest) = one(symbols, 75)?;
+    let (first, rest) = type_argument_of(alloc, room, rest)?;
+    let mut front = Vec::new(alloc);
+    front.push(first)?;
+    let (all, rest) = more_arguments_of(alloc, room, front, rest)?;
+    let (_, rest) = one(rest, 74)?;
+    Ok((all, rest))
+}
+
+/// A list of type arguments (JLS 4.5.1).
+#[cycle(values)]
+pub fn type_arguments_of<'a, 's>(
+    alloc: Global,
+    room: usize,
+    symbols: &'s [Symbol<'a>],
+) -> Result<(Vec<TypeText>, &'s [Symbol<'a>]), ReadFault>
+    ensures { Gives (λ x. (x.0.items, x.1.now)) result (read_nest room type_arguments symbols.now) }
+{
+    if room > 0 {
+        return arguments_in(alloc, room - 1, symbols);
+    }
+    Err(shut(is_next(symbols, 75), symbols))
+}
+
+/// The type arguments that stand here, where there are any.
+#[cycle(values)]
+pub fn optional_arguments_of<'a, 's>(
+    alloc: Global,
+    room: usize,
+    symbols: &'s [Symbol<'a>],
+) -> Result<(Option<List<TypeText>>, &'s [Symbol<'a>]), ReadFault>
+    ensures { Gives (λ x. (x.0, x.1.now)) result (reads room (maybe (nest type_arguments)) symbols.now) }
+{
+    if is_next(symbols, 75) {
+        let (arguments, rest) = type_arguments_of(alloc, room, symbols)?;
+        return Ok((Some(List::from_vec(arguments)), rest));
+    }
+    Ok((None, symbols))
+}
