@@ -1,5 +1,5 @@
 #!/usr/bin/env python3
-"""Builds the program that frames.py, shapes.py and tokens.py measure, where it is not built yet, and prints its path.
+"""Builds the program that declarations.py, frames.py, shapes.py and tokens.py measure, where it is not built yet, and prints its path.
 
     bench/measured.py
 
@@ -24,7 +24,7 @@ BUILT = os.path.join(HERE, "built")
 NAME = "measured"
 
 # The crates that the program names.
-USED = ["apt_base", "decl_syntax", "java_tokens", "wire_frames", "frame_stream"]
+USED = ["apt_base", "decl_syntax", "decl_parser", "java_tokens", "wire_frames", "frame_stream"]
 
 
 def listed_crates():

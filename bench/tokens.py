@@ -25,7 +25,7 @@ PROGRAM = None
 SMALL, LARGE, TURNS, FEW = 1_000, 10_000, 3, 1
 
 # How many rounds more the longer run has at LARGE; at SMALL ten times as many, so that both take as long.
-MORE = {"copy": 100, "chars": 3, "tokens": 3}
+MORE = {"copy": 100, "chars": 40, "tokens": 3}
 
 # How many rounds of each step only warm the JDK up.
 WARM = 4

@@ -1,15 +1,16 @@
 -- What a character at the front of a text is, and where there is none.
 use lib.Utf8.{scalar_cases, low_scalar, scalars, scalar as scalar_of}
-use Rattle.std.proofs.Common.{◌≡◌, ◌⊎◌, inl, inr, Option, None, Some, MatchOption, Bool, true, false, ◌&&◌, eqb, min, suc, ℕ, ◌+◌, ◌%◌, ◌<◌, ◌≤◌, List, [], ◌∷◌, replicate, ◌++◌, length, take, drop, slice_index, refl, sym, ap, ◌∙◌, subst, arith, append_assoc, length-append}
-use Rattle.std.proofs.lemmas.Bool.{false≢true}
-use Rattle.std.proofs.lemmas.List.{drop_at, take_at, length-take, length-replicate, take-append-drop}
+use Rattle.std.proofs.Common.{◌≡◌, ◌≢◌, ◌⊎◌, inl, inr, Option, None, Some, MatchOption, Bool, true, false, ◌&&◌, eqb, min, suc, ℕ, ◌+◌, ◌%◌, ◌<◌, ◌≤◌, List, [], ◌∷◌, replicate, ◌++◌, length, take, drop, slice_index, get_or, cond, refl, sym, ap, ◌∙◌, subst, arith, append_assoc, length-append}
+use Rattle.std.proofs.lemmas.Bool.{false≢true, false_from_ne_true}
+use Rattle.std.proofs.lemmas.List.{drop_at, take_at, get_or_append_left, get_or-append-add, length-take, length-replicate, take-append-drop}
 use Rattle.std.proofs.Math.Seq.{take-take}
 use Rattle.std.proofs.lemmas.Str.{length-encode, len_utf8_bounds, IsUtf8-encode, cons_from_encodes, encode_same, encode_ascii}
+use Rattle.std.proofs.lemmas.Slice.Eq.{bytes_eq-Decides}
 use Rattle.std.specs.Prelude.{encode_utf8}
 use Rattle.std.specs.Char.{IsScalar, len_utf8}
 use Rattle.std.specs.Str.{StartsWithNoChar, IsUtf8}
 use Rattle.java_tokens.specs.Escapes.{IsEscape, HasEscape, NoEscape}
-use Rattle.java_tokens.specs.Characters.{BeginsEscape, IsHigh, IsLow, joined, BeginsWith, Spells, raw, escape, pair, HasChar, HasNoChar}
+use Rattle.java_tokens.specs.Characters.{BeginsEscape, IsPlain, IsHigh, IsLow, joined, BeginsWith, Spells, raw, escape, pair, HasChar, HasNoChar, slashes_after}
 use Rattle.java_tokens.proofs.EscapesLemmas.{one_escape}
 
 -- whether an escape begins is a matter of the parity
@@ -116,6 +117,35 @@ first_found bytes text rest after k (Some c) is split utf8 longest found =
 pub ascii_begins : (bytes : List ℕ) → false ≡ eqb (length bytes) 0 → slice_index bytes 0 < 128 → BeginsWith bytes (slice_index bytes 0)
 ascii_begins [] some low = absurd (false≢true some)
 ascii_begins (b ∷ rest) some low = (low_scalar b (omega (arith, low)), (rest, sym (ap (λ h. h ++ rest) (encode_ascii b low))))
+
+-- bytes that are some
+pub some_bytes : (bytes : List ℕ) → false ≡ eqb (length bytes) 0 → 0 < length bytes
+some_bytes [] some = absurd (false≢true some)
+some_bytes (b ∷ rest) some = omega arith
+
+-- a front of bytes that have no `\` up to a place
+pub plain_before : (bytes text rest : List ℕ) (end : ℕ) → bytes ≡ text ++ rest → length text ≤ end → ((k : ℕ) → 0 ≤ k → k < end → ¬ (eqb (get_or bytes k 0) 92 ≡ true)) → IsPlain text
+plain_before bytes text rest end split fits none k h is =
+    none k (omega arith) (omega (arith, h, fits)) (ap (λ x. eqb x 92) (ap (λ b. get_or b k 0) split ∙ get_or_append_left text rest 0 k h ∙ is))
+
+-- what follows in a text without `\`
+pub plain_rest : (xs ys : List ℕ) → IsPlain (xs ++ ys) → IsPlain ys
+plain_rest xs ys plain k h is = plain (length xs + k) (omega (arith, h, length-append xs ys)) (get_or-append-add xs ys k 0 ∙ is)
+
+-- no escape begins there
+pub plain_begins : (s c : ℕ) (rest after bytes : List ℕ) → IsPlain (encode_utf8 c ++ rest) → bytes ≡ (encode_utf8 c ++ rest) ++ after → ¬ BeginsEscape s bytes
+plain_begins s c rest after bytes plain split b =
+    let some : 0 < length (encode_utf8 c ++ rest) = omega (arith, length-append (encode_utf8 c) rest, length-encode c, (len_utf8_bounds c).0) in
+    plain 0 some (sym (get_or_append_left (encode_utf8 c ++ rest) after 0 0 some) ∙ sym (ap (λ x. get_or x 0 0) split) ∙ ap (λ x. get_or x 0 0) b.begins)
+
+-- and no `\` stands directly before what follows a character of it
+pub plain_slashes : (s c : ℕ) (rest : List ℕ) → IsPlain (encode_utf8 c ++ rest) → slashes_after s (encode_utf8 c) ≡ 0
+plain_slashes s c rest plain = ap (λ b. cond b (s + 1) 0) (false_from_ne_true _ (λ e. other (ap (λ x. get_or x 0 0) ((bytes_eq-Decides (encode_utf8 c) (92 ∷ [])).0 e))))
+  where
+    other : get_or (encode_utf8 c) 0 0 ≢ 92
+    other is =
+        let some = (len_utf8_bounds c).0 in
+        plain 0 (omega (arith, length-append (encode_utf8 c) rest, length-encode c, some)) (get_or_append_left (encode_utf8 c) rest 0 0 (omega (arith, length-encode c, some)) ∙ is)
 
 -- an escape begins with two bytes
 pub long_escape : (s : ℕ) (bytes : List ℕ) → BeginsEscape s bytes → length bytes ≤ 1 → ⊥

@@ -1,18 +1,20 @@
 -- How the characters of a file are gathered one by one.
-use Rattle.std.proofs.Common.{◌≡◌, ℕ, ◌+◌, ◌-◌, ◌<◌, ◌≤◌, Bool, true, false, cond, List, [], ◌∷◌, ◌++◌, length, take, drop, map, bytes_eq, refl, sym, ap, ◌∙◌, subst, arith, append-nil, length-append, length-drop}
+use lib.Utf8.{scalars, scalar as scalar_of}
+use Rattle.std.proofs.Common.{◌≡◌, ℕ, ◌+◌, ◌-◌, ◌<◌, ◌≤◌, Bool, true, false, cond, List, [], ◌∷◌, ◌++◌, length, take, drop, map, bytes_eq, refl, sym, ap, ◌∙◌, subst, arith, append-nil, append_assoc, length-append, length-drop}
 use Rattle.std.proofs.lemmas.List.{drop_all, drop_at, take_at, drop-drop, map-append, length-map}
 use Rattle.std.proofs.lemmas.List.Elements.{All-get_or, All-push}
 use Rattle.std.proofs.lemmas.List.Sorted.{IsNonDecreasingBy-push}
-use Rattle.std.proofs.lemmas.Str.{length-encode, len_utf8_bounds, chars-append, chars_past_char, chars-nil, encodes-chars, IsUtf8-encode}
+use Rattle.std.proofs.lemmas.Str.{length-encode, len_utf8_bounds, chars-append, chars_past_char, chars-nil, encodes-chars, IsUtf8-encode, IsUtf8-append, drop_past_char}
 use Rattle.std.proofs.lemmas.Slice.Eq.{bytes_eq-Decides}
 use Rattle.std.specs.List.{zip, All}
 use Rattle.std.specs.Prelude.{encode_utf8}
 use Rattle.std.specs.Char.{IsScalar, len_utf8}
 use Rattle.std.specs.Str.{chars, IsUtf8, encode_utf8_all}
 use Rattle.java_tokens.specs.declared.shift.Shift.{Shift}
-use Rattle.java_tokens.specs.Characters.{Placed, Spells, Spelled, HasChar, HasNoChar, slashes_after, AreChars, IsCharFault}
+use Rattle.java_tokens.specs.Characters.{Placed, IsPlain, Spells, Spelled, HasChar, HasNoChar, slashes_after, AreChars, IsCharFault}
 use Rattle.java_tokens.specs.CharsShown.{places_from, shift_at, offsets_of, placed_chars, Ascend, AreWithin}
-use Rattle.java_tokens.proofs.CharactersLemmas.{has_long}
+use Rattle.java_tokens.proofs.CharactersLemmas.{has_long, raw_char, plain_rest, plain_begins, plain_slashes}
+use Rattle.java_tokens.proofs.TableLemmas.{both_true}
 use Rattle.java_tokens.proofs.Shifts.{shift_settled, shift_before, shift_behind, places_from-length, map_places}
 
 -- one character more at the end
@@ -147,6 +149,55 @@ reading_more file text shifts shifts' slashes at width code reading utf8 (spelli
           (subst (λ sp. Spelled 0 0 file (placed_chars text shifts ++ (code, at) ∷ []) after (slashes_after slashes sp)) (sym front) more));
       shifted = subst (λ n. IsShifted shifts' (length file) n (at + width)) (sym long) goes_on.shifted;
     }
+
+-- one character more of a text without `\`
+plain_more : (file text : List ℕ) (shifts : List Shift) (slashes at c : ℕ) (rest after : List ℕ) → IsReading file text shifts slashes at → IsUtf8 text → IsScalar c → IsPlain (encode_utf8 c ++ rest) → drop at file ≡ (encode_utf8 c ++ rest) ++ after → IsReading file (text ++ encode_utf8 c) shifts 0 (at + len_utf8 c)
+plain_more file text shifts slashes at c rest after reading utf8 scalar plain cut =
+    let w = length (encode_utf8 c) in
+    let split : drop at file ≡ encode_utf8 c ++ (rest ++ after) = cut ∙ append_assoc (encode_utf8 c) rest after in
+    let has : HasChar slashes (drop at file) (len_utf8 c) c = raw_char slashes (drop at file) (rest ++ after) c (plain_begins slashes c rest after (drop at file) plain cut) scalar split in
+    let long : length (drop at file) ≡ w + length (rest ++ after) = ap length split ∙ length-append (encode_utf8 c) (rest ++ after) in
+    let fits : at + len_utf8 c ≤ length file = omega (arith, long, length-encode c, length-drop at file, reading.within) in
+    let front : take (len_utf8 c) (drop at file) ≡ encode_utf8 c = ap (λ n. take n (drop at file)) (sym (length-encode c)) ∙ ap (take w) split ∙ take_at (encode_utf8 c) (rest ++ after) w refl in
+    subst (λ s. IsReading file (text ++ encode_utf8 c) shifts s (at + len_utf8 c)) (ap (slashes_after slashes) front ∙ plain_slashes slashes c rest plain)
+    (reading_more file text shifts shifts slashes at (len_utf8 c) c reading utf8 has scalar fits (shift_stays shifts (length file) (length text) at (len_utf8 c) (len_utf8 c) reading.shifted refl))
+
+-- how many `\` stand directly before what follows such characters
+abbrev slashes_behind : List ℕ → ℕ → ℕ
+slashes_behind [] slashes = slashes
+slashes_behind (c ∷ cs) slashes = 0
+
+none_behind : (cs : List ℕ) → slashes_behind cs 0 ≡ 0
+none_behind [] = refl
+none_behind (c ∷ cs) = refl
+
+some_behind : (cs : List ℕ) (slashes : ℕ) → 0 < length (encode_utf8_all cs) → slashes_behind cs slashes ≡ 0
+some_behind [] slashes some = absurd (omega (arith, some))
+some_behind (c ∷ cs) slashes some = refl
+
+plain_chars : (cs file text : List ℕ) (shifts : List Shift) (slashes at : ℕ) (after : List ℕ) → IsReading file text shifts slashes at → IsUtf8 text → scalars cs ≡ true → IsPlain (encode_utf8_all cs) → drop at file ≡ encode_utf8_all cs ++ after → IsReading file (text ++ encode_utf8_all cs) shifts (slashes_behind cs slashes) (at + length (encode_utf8_all cs))
+plain_chars [] file text shifts slashes at after reading utf8 are plain cut =
+    subst (λ t. IsReading file t shifts slashes (at + 0)) (sym (append-nil text)) (subst (λ n. IsReading file text shifts slashes n) (nothing at) reading)
+  where
+    nothing : (n : ℕ) → n ≡ n + 0
+    nothing n = omega arith
+plain_chars (c ∷ cs) file text shifts slashes at after reading utf8 are plain cut =
+    let rest = encode_utf8_all cs in
+    let both = both_true (scalar_of c) (scalars cs) are in
+    let more = plain_more file text shifts slashes at c rest after reading utf8 both.0 plain cut in
+    let left : drop (at + len_utf8 c) file ≡ rest ++ after = drop_past_char file (rest ++ after) at c (cut ∙ append_assoc (encode_utf8 c) rest after) in
+    let all = plain_chars cs file (text ++ encode_utf8 c) shifts 0 (at + len_utf8 c) after more (IsUtf8-append text (encode_utf8 c) utf8 (IsUtf8-encode c both.0)) both.1 (plain_rest (encode_utf8 c) rest plain) left in
+    let end : at + len_utf8 c + length rest ≡ at + length (encode_utf8 c ++ rest) = omega (arith, length-append (encode_utf8 c) rest, length-encode c) in
+    subst (λ t. IsReading file t shifts 0 (at + length (encode_utf8 c ++ rest))) (append_assoc text (encode_utf8 c) rest)
+    (subst (λ n. IsReading file ((text ++ encode_utf8 c) ++ rest) shifts 0 n) end
+    (subst (λ s. IsReading file ((text ++ encode_utf8 c) ++ rest) shifts s (at + len_utf8 c + length rest)) (none_behind cs) all))
+
+-- a text without `\` more
+pub reading_plain : (file text : List ℕ) (shifts : List Shift) (slashes at : ℕ) (plain after : List ℕ) → IsReading file text shifts slashes at → IsUtf8 text → IsUtf8 plain → IsPlain plain → 0 < length plain → drop at file ≡ plain ++ after → IsReading file (text ++ plain) shifts 0 (at + length plain)
+reading_plain file text shifts slashes at plain after reading utf8 (cs, (are, spell)) is some cut =
+    subst (λ s. IsReading file (text ++ plain) shifts s (at + length plain)) (some_behind cs slashes (subst (λ p. 0 < length p) (sym spell) some))
+    (subst (λ p. IsReading file (text ++ p) shifts (slashes_behind cs slashes) (at + length p)) spell
+    (plain_chars cs file text shifts slashes at after reading utf8 are (subst IsPlain (sym spell) is) (cut ∙ ap (λ p. p ++ after) (sym spell))))
 
 -- all characters were read
 pub reading_done : (file text : List ℕ) (shifts : List Shift) (slashes at : ℕ) → IsReading file text shifts slashes at → length file ≤ at → AreChars file (placed_chars text shifts)

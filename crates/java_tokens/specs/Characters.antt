@@ -1,7 +1,7 @@
 -- The characters of a file: UTF-8, with Unicode escapes (JLS 3.3).
 -- A `\` begins an escape only if an even number of `\` stand directly before it in the raw text. The character that an escape gives takes
 -- no part in further escapes. A high and a low surrogate, both escapes, one directly after the other, give one character.
-use Rattle.std.specs.Prelude.{◌≡◌, ◌⊎◌, ℕ, ◌+◌, ◌-◌, ◌*◌, ◌%◌, ◌<◌, ◌≤◌, List, [], ◌∷◌, ◌++◌, length, if◌then◌else◌, encode_utf8, bytes_eq}
+use Rattle.std.specs.Prelude.{◌≡◌, ◌≢◌, ◌⊎◌, ℕ, ◌+◌, ◌-◌, ◌*◌, ◌%◌, ◌<◌, ◌≤◌, List, [], ◌∷◌, ◌++◌, length, slice_index, if◌then◌else◌, encode_utf8, bytes_eq}
 use Rattle.std.specs.Char.{IsScalar}
 use Rattle.java_tokens.specs.Escapes.{IsEscape}
 
@@ -10,6 +10,10 @@ pub record BeginsEscape (slashes : ℕ) (rest : List ℕ) : Type 0 where
   pub even : slashes % 2 ≡ 0
   pub after : List ℕ
   pub begins : rest ≡ 92 ∷ 117 ∷ after
+
+-- no byte of a text is a `\`
+abbrev pub IsPlain : List ℕ → Type 0
+IsPlain text = (k : ℕ) → k < length text → slice_index text k ≢ 92
 
 abbrev pub IsHigh : ℕ → Type 0
 IsHigh value = (0xD800 ≤ value) × (value < 0xDC00)

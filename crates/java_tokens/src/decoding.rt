@@ -5,8 +5,9 @@ ghost use Rattle.java_tokens.specs.TokensShown.{Reads, ReadsOnly, FaultsOnly};
 
 use crate::chars::Chars;
 use crate::fault::TextFault;
-use crate::reading::read_char;
+use crate::reading::{plain_front, read_char};
 use crate::shift::Shift;
+use memchr::memmem;
 use std::alloc::Global;
 
 /// The characters of a file (JLS 3.3), or `Bad` with the offset of the first escape or UTF-8 sequence at which none goes on.
@@ -25,6 +26,13 @@ pub fn read_chars(alloc: Global, bytes: &[u8]) -> Result<Chars, TextFault>
     let mut at = 0;
     while at < bytes.len() {
         let rest = &bytes[at..];
+        let plain = plain_front(rest);
+        if !plain.is_empty() {
+            text.push_str(plain)?;
+            at += plain.len();
+            slashes = 0;
+            continue;
+        }
         let Some(read) = read_char(rest, slashes) else {
             return Err(TextFault::Bad { place: at as u32 });
         };
@@ -46,10 +54,7 @@ pub fn read_chars(alloc: Global, bytes: &[u8]) -> Result<Chars, TextFault>
 fn most_escapes(bytes: &[u8]) -> usize
     ensures { result ≤ length bytes.now / 6 }
 {
-    let begun = bytes
-        .windows(2)
-        .filter(|pair| *pair == b"\\u".as_slice())
-        .count();
+    let begun = memmem::find_iter(bytes, b"\\u".as_slice()).count();
     begun.min(bytes.len() / 6)
 }
 

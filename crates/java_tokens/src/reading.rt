@@ -3,10 +3,11 @@ ghost use Rattle.std.specs.Prelude.{◌≡◌, ◌+◌, ◌<◌, ◌≤◌, ◌+
 ghost use Rattle.std.specs.Char.{IsScalar};
 ghost use Rattle.std.specs.Str.{IsUtf8, StartsWithNoChar};
 ghost use Rattle.java_tokens.specs.Escapes.{HasEscape};
-ghost use Rattle.java_tokens.specs.Characters.{BeginsWith, HasNoChar, BeginsEscape, joined, IsHigh, IsLow};
+ghost use Rattle.java_tokens.specs.Characters.{BeginsWith, HasNoChar, BeginsEscape, IsPlain, joined, IsHigh, IsLow};
 ghost use Rattle.java_tokens.specs.CharsShown.{HasRead};
 
 use crate::escapes::{Escape, read_escape};
+use memchr::memchr;
 
 /// A character, and how many bytes spell it.
 #[derive(Clone, Copy)]
@@ -32,6 +33,19 @@ pub fn read_char(bytes: &[u8], slashes: usize) -> Option<Read>
         code,
         width: code.len_utf8(),
     })
+}
+
+/// A front that is UTF-8 and has no `\`, and so begins no escape. It ends only before a `\` or before bytes that begin no
+/// character, which no clause says.
+pub fn plain_front(bytes: &[u8]) -> &str
+    ensures front { (rest : List ℕ) × (bytes.now ≡ result.now ++ rest) }
+    ensures text { IsUtf8 result.now }
+    ensures plain { IsPlain result.now }
+{
+    match memchr(b'\\', bytes) {
+        Some(end) => longest_text(&bytes[..end]),
+        None => longest_text(bytes),
+    }
 }
 
 // The character that one or two escapes at the front give.

@@ -5,10 +5,10 @@ use Rattle.std.specs.Prelude.{encode_utf8}
 use Rattle.std.specs.Char.{len_utf8}
 use Rattle.java_tokens.specs.declared.shift.Shift.{Shift}
 use Rattle.java_tokens.specs.Characters.{HasChar, HasNoChar, slashes_after}
-use Rattle.java_tokens.proofs.CharactersLemmas.{has_long}
+use Rattle.java_tokens.proofs.CharactersLemmas.{has_long, some_bytes}
 use Rattle.java_tokens.proofs.Totals.{list_or_place}
 use Rattle.java_tokens.proofs.Laws.{one_list, never_both, one_place}
-use Rattle.java_tokens.proofs.Readings.{GoesOn, IsReading, reading_none, shift_stays, shift_grows, reading_more, reading_done, reading_stuck}
+use Rattle.java_tokens.proofs.Readings.{GoesOn, IsReading, reading_none, shift_stays, shift_grows, reading_more, reading_plain, reading_done, reading_stuck}
 use Rattle.java_tokens.proofs.decoding.read_chars.Goals as goal
 use Rattle.java_tokens.proofs.decoding.read_chars.Goals.{then-read-len_utf8+in_ok-push-2, else-read-len_utf8}
 
@@ -40,6 +40,20 @@ pub returns-in_default-clause-place : goal.returns-in_default-clause-place
 returns-in_default-clause-place c = λ place is.
     one_place c.args.bytes.now c.loop-at.at place (reading_stuck c.args.bytes.now (string_bytes c.loop-at.text) c.loop-at.shifts.items c.loop-at.slashes c.loop-at.at c.loop-at.invariant c.loop-at-test.true
     (subst (HasNoChar c.loop-at.slashes) (take_rest c.args.bytes.now c.loop-at.at) c.in_default.ensures.char)) is
+
+pub returns-in_err-push_str-clause-decided : goal.returns-in_err-push_str-clause-decided
+returns-in_err-push_str-clause-decided c = list_or_place c.args.bytes.now
+
+pub loop-at-preserved-then-not-is_empty : goal.loop-at-preserved-then-not-is_empty
+loop-at-preserved-then-not-is_empty c =
+    let bytes = c.args.bytes.now in
+    let at = c.loop-at.at in
+    let text = string_bytes c.loop-at.text in
+    let plain = c.plain_front-plain.result.now in
+    let shown = c.plain_front-plain.ensures in
+    let text_is : string_bytes c.push_str.new.self ≡ text ++ plain = search rules in
+    subst (λ t. IsReading bytes t c.loop-at.shifts.items 0 (at + length plain)) (sym text_is)
+    (reading_plain bytes text c.loop-at.shifts.items c.loop-at.slashes at plain shown.front.0 c.loop-at.invariant (IsUtf8-string_bytes c.loop-at.text) shown.text shown.plain (some_bytes plain c.if-not-is_empty.ensures) (sym (take_rest bytes at) ∙ shown.front.1))
 
 pub returns-in_err-push-clause-decided : goal.returns-in_err-push-clause-decided
 returns-in_err-push-clause-decided c = list_or_place c.args.bytes.now
