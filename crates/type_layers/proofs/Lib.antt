@@ -1,0 +1,4 @@
+pub mod BaseLayers
+pub mod LayerLaws
+pub mod PartsEqual
+pub mod SameLaws
