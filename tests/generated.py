@@ -733,6 +733,11 @@ def one_frame_more(project):
 
 
 @case
+def what_is_no_talk_behind_as_many_frames_as_may_come(project):
+    refuses(project, [[asked(69_632, create_class("x")), [say(NOT_IN_A_ROUND["a question"]), "rest"]]], UNBUILT_TALK, "UnbuiltTalk(maker)")
+
+
+@case
 def one_message_more_than_may_come_in_the_last_round(project):
     refuses(project, [[], [asked(65_537, message(NOTE, "n"))]], TOO_MANY_QUESTIONS, "TooManyQuestions(maker, 65536)")
 

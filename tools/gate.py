@@ -1,15 +1,15 @@
 #!/usr/bin/env python3
 """Runs the gate and says where its time goes, crate by crate.
 
-    tools/gate.py [WORD..]          runs `rt ci WORD..` at the top of the repository; with no words the whole gate
+    tools/gate.py [WORD..]          runs `rt ci WORD..` at the top of the repository; with no words the whole gate, and a kit may take no others
     tools/gate.py --functions NAME  checks a copy of the crate NAME on one processor, and names its slowest functions; what a checkout on this
                                     machine has checked before is taken over, and does not show
 
 Each line that the gate prints is written to `gate.log` in the current folder with the seconds since the start before it. At the end a table is
 printed: for each crate its lines of src, specs and proofs, the processor minutes of its proof, of the proof of its tests and of its edits, and
 the minutes by the clock from the first of them to the last. Processor time is read once a second from /proc, so the last second of each process is not
-counted, and neither is what the linker and the programs themselves use. What was kept by an earlier run on the machine takes no time: a
-measurement of the whole wants a machine where nothing is kept, or the word `--anew`.
+counted, and neither is what the linker and the programs themselves use. Some kits keep what an earlier run on the machine proved, which then takes no
+time: there a measurement of the whole wants a machine where nothing is kept, or the word `--anew`.
 """
 import os
 import shutil

@@ -87,10 +87,6 @@ PublishesClean tells talks (Bad at) says old new v = v ≢ Done
 abbrev pub KeepsOutput : Files → Files → Verdict → Type 0
 KeepsOutput old new v = v ≢ Done → StoresStand old → output_of new ≡ output_of old
 
--- where each store file that the record names stood, each still stands
-abbrev pub KeepsStores : Files → Files → Verdict → Type 0
-KeepsStores old new v = v ≢ Done → StoresStand old → StoresStand new
-
 -- ---- what the tree holds in the end
 
 abbrev pub LeavesFailed : Object → Files → Files → Type 0

@@ -67,7 +67,7 @@ count_of p messages = length (filter (λ placed. p placed.message) messages)
 
 -- ---- what a clean run says
 
--- files that are ready for the store: they ascend by path, and each has the least number that is left, and room in its fields
+-- files that are ready for the store: they ascend by path, each has the least number that is left, and fits its fields
 pub record AreNumbered (taken : List ℕ) (files : List Made) : Type 0 where
   pub published : Files
   pub entries : map shown_made files ≡ fin.entries published

@@ -24,7 +24,7 @@ pub data Refusal : Type 0 where
   UnbuiltForm : (path : List ℕ) → Refusal
   -- a child's bytes are none that can be read so far
   UnbuiltTalk : (processor : List ℕ) → Refusal
-  -- a child asked once more than so often in one round
+  -- a child asked once more than it may in one round
   TooManyQuestions : (processor : List ℕ) (most : ℕ) → Refusal
   -- a processor declared that it claims always, or never, and said the other thing
   ClaimBroken : (processor : List ℕ) (declared : Claim) (said : Bool) → Refusal
