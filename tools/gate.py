@@ -2,6 +2,7 @@
 """Runs the gate and says where its time goes, crate by crate.
 
     tools/gate.py [WORD..]          runs `rt ci WORD..` at the top of the repository; with no words the whole gate, and a kit may take no others
+    tools/gate.py --watch NUMBER    measures what the process with this number starts, until it is told to end, and then prints the table
     tools/gate.py --functions NAME  checks a copy of the crate NAME on one processor, and names its slowest functions; what a checkout on this
                                     machine has checked before is taken over, and does not show
 
@@ -13,6 +14,7 @@ time: there a measurement of the whole wants a machine where nothing is kept, or
 """
 import os
 import shutil
+import signal
 import subprocess
 import sys
 import tempfile
@@ -124,6 +126,20 @@ def measure_gate(words):
     return status
 
 
+def watch(number):
+    """Measures what runs below a process until SIGTERM comes, and prints the table."""
+    told = threading.Event()
+    signal.signal(signal.SIGTERM, lambda *_: told.set())
+    start = time.monotonic()
+    sampler = Sampler(number)
+    sampler.start()
+    told.wait()
+    sampler.ended.set()
+    sampler.join()
+    print(table(sampler, time.monotonic() - start))
+    return 0
+
+
 def measure_functions(crate):
     """Checks a crate from nothing on one processor, and prints its slowest functions with their seconds."""
     with tempfile.TemporaryDirectory() as folder:
@@ -150,6 +166,8 @@ def main():
     words = sys.argv[1:]
     if words[:1] == ["--functions"] and len(words) == 2:
         return measure_functions(words[1])
+    if words[:1] == ["--watch"] and len(words) == 2:
+        return watch(int(words[1]))
     return measure_gate(words)
 
 
