@@ -1,5 +1,5 @@
 mod Counts
 pub mod Endings
+mod PackageLaws
 pub mod Paths
-mod TextMaps
 pub mod TableLaws

@@ -1,7 +1,6 @@
 -- What a table has after a unit was entered.
-use Rattle.std.proofs.Common.{◌≡◌, ℕ, ◌+◌, ◌≤◌, Bool, true, false, cond, ◌||◌, T, List, [], ◌∷◌, map, length, is_some, lit≤, Option, Some, None, Result, Ok, Err, IfSome, IsTrue, nat_le, refl, sym, ap, subst, ◌∙◌, arith}
+use Rattle.std.proofs.Common.{◌≡◌, ℕ, ◌+◌, ◌≤◌, Bool, true, false, cond, ◌||◌, List, [], ◌∷◌, map, length, is_some, lit≤, Option, Some, None, Ok, Err, IfSome, IsTrue, nat_le, refl, sym, ap, subst, ◌∙◌, arith}
 use Rattle.std.specs.List.{sum_by}
-use Rattle.std.specs.Option.{option_or}
 use Rattle.std.specs.Ordering.{nat_cmp, is_eq, eq_by_cmp}
 use Rattle.std.specs.declared.cmp.Ordering.TheVariants.{Less, Equal, Greater}
 use Rattle.std.specs.Cmp.Lexicographic.{slice_cmp, nat_list_cmp_total}
@@ -13,14 +12,13 @@ use Rattle.std.proofs.lemmas.List.Sums.{sum_by-cons}
 use Rattle.std.proofs.lemmas.Map.Text.{is_eq-slice_cmp}
 use Rattle.std.proofs.lemmas.Slice.Eq.{bytes_eq-Decides}
 use Rattle.decl_tree.specs.declared.compilation.UnitText.{UnitText}
-use Rattle.element_table.specs.declared.answer.Answer.{Answer}
-use Rattle.element_table.specs.declared.answer.Answer.TheVariants.{IsNew, IsDuplicate, IsTooMany}
+use Rattle.element_table.specs.declared.answer.Answer.TheVariants.{IsNew, IsDuplicate}
 use Rattle.element_table.specs.declared.fault.EnterFault.TheVariants.{Duplicate, TooMany}
 use Rattle.element_table.specs.declared.part.Part.{Part}
 use Rattle.element_table.specs.declared.part.Part.TheVariants.{Source, Stub}
 use Rattle.element_table.specs.TypeCounts.{unit_types}
 use Rattle.element_table.specs.UnitNames.{unit_name}
-use Rattle.element_table.specs.TypeTable.{Units, TypeTable, unit_of, part_of, has_unit, types_in, table_types, most_types, up_to_most, table_of, empty_table, entered, counted_answer, answer_to, Answers, IsThere, IsFull, outcome_by, outcome_of, IsNamed, IsTable, IsTableOf}
+use Rattle.element_table.specs.TypeTable.{Units, TypeTable, has_unit, types_in, table_types, most_types, table_of, empty_table, entered, counted_answer, answer_to, Answers, IsThere, IsFull, outcome_by, outcome_of, IsNamed, IsTable, IsTableOf}
 
 -- ---- one part
 
@@ -172,6 +170,14 @@ module _ (table : TypeTable) (unit : UnitText) (free : has_unit table (unit_name
     stubs_named = named_more table.stub is.stubs_named;
     few = subst (λ n. n ≤ most_types) (sym (table_types-entered Stub)) few;
   }
+
+-- the name of a unit that may be entered is free in each part
+module _ (table : TypeTable) (unit : UnitText) (types : ℕ) (new : answer_to table unit ≡ IsNew types) (name : List ℕ) (named : name ≡ unit_name unit) where
+  pub free_source : fin.contains_key table.source name ≡ false
+  free_source = ap (fin.contains_key table.source) named ∙ no_source table unit (may_enter table unit types new).absent
+
+  pub free_stub : fin.contains_key table.stub name ≡ false
+  free_stub = ap (fin.contains_key table.stub) named ∙ no_stub table unit (may_enter table unit types new).absent
 
 -- a unit that may be entered makes a table again, of this many types
 module _ (table : TypeTable) (unit : UnitText) (types : ℕ) (is : IsTable table) (new : answer_to table unit ≡ IsNew types) where

@@ -1,19 +1,16 @@
 -- How a table in memory is seen: each part by the bytes of its names, and the table as the pair of its parts.
-use Rattle.std.specs.Prelude.{ℕ, List, map, String, string_bytes, refl}
+use Rattle.std.specs.Prelude.{String, refl}
 use Rattle.std.specs.BTreeMap.{BTreeMap}
 use Rattle.std.specs.Coded.{Coded, code_by, coded×, coded_list, coded_ℕ}
 use Rattle.std.specs.FinMap as fin
 use Rattle.std.specs.declared.alloc.Global.{Global}
 use Rattle.decl_tree.specs.contracts.compilation.Unit as unit
 use Rattle.decl_tree.specs.declared.compilation.UnitText.{UnitText}
+use Rattle.name_index.specs.ShownMaps.{shown_map}
 use Rattle.element_table.specs.TypeTable.{Units, TypeTable, table_of}
 
--- a value by the bytes of its key
-abbrev pub shown_entry : {X : Type 0} → String Global × X → List ℕ × X
-shown_entry e = (string_bytes e.0, e.1)
-
 abbrev pub units_of : BTreeMap (String Global) UnitText → Units
-units_of m = fin.from_entries (map shown_entry m.entries)
+units_of m = shown_map m
 
 abbrev pub units_code : Coded Units
 units_code = fin.code (coded_list coded_ℕ) unit.the_row.coded

@@ -1,4 +1,5 @@
 pub mod Held
+pub mod PackageTypes
 pub mod TableElements
 pub mod TypeCounts
 pub mod TypeTable

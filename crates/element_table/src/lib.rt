@@ -1,8 +1,8 @@
 //! The type table: the units of a project and of its stubs, by the canonical names of their types.
 //!
-//! `specs/TypeTable` says what a table is: two finite maps from names to units, one for each part, with no name in both. Contracts see a `Table` as these two maps. `specs/UnitNames` has the name of a unit, `specs/TypeCounts` the number of its types, and `specs/TableElements` the elements of a table.
+//! `specs/TypeTable` says what a table is: two finite maps from names to units, one for each part, with no name in both. Contracts see a `Table` as these two maps. `specs/UnitNames` has the name of a unit, `specs/TypeCounts` the number of its types, `specs/TableElements` the elements of a table, and `specs/PackageTypes` the types of a package.
 //!
-//! Looking a name up takes logarithmic time, and entering a unit the time of one look-up and of the unit's own types. An element takes one look-up and a step for each number of its path; a step to a child that no source has looks through the members of its type. Whether a package is there that has no unit `package-info` takes a look at each unit.
+//! Looking a name up takes logarithmic time, and entering a unit the time of one look-up and of the unit's own types. An element takes one look-up and a step for each number of its path; a step to a child that no source has looks through the members of its type. A package, also one that has no unit `package-info`, is found by one look-up of its name, and its types are listed in the time of one look-up and of a step for each.
 //!
 //! Not promised: that memory is there.
 #![tactic(auto)]
@@ -11,6 +11,7 @@ mod answer;
 mod counting;
 mod elements;
 mod fault;
+mod listed;
 mod naming;
 mod packages;
 mod part;
@@ -19,6 +20,6 @@ mod units;
 
 pub use decl_elements::Element;
 pub use fault::EnterFault;
-pub use naming::unit_name;
+pub use naming::{in_package, unit_name};
 pub use part::Part;
 pub use table::Table;

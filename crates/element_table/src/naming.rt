@@ -7,7 +7,7 @@ use decl_tree::{Body, Unit};
 use std::alloc::Global;
 
 /// A simple name behind a package's name and a dot; nothing stands before it in the unnamed package.
-pub(crate) fn in_package(alloc: Global, package: &str, name: &str) -> Result<String, NoMemory>
+pub fn in_package(alloc: Global, package: &str, name: &str) -> Result<String, NoMemory>
     ensures { IfOk result (λ text. string_bytes text ≡ in_package «package».now name.now) }
 {
     if package.is_empty() {

@@ -1,9 +1,9 @@
 // Packages, and the names under which they stand.
 ghost use Rattle.std.specs.Prelude.{◌≡◌};
 ghost use Rattle.std.specs.Option.{option_copied};
-ghost use Rattle.element_table.specs.TableElements.{is_type, declares_in, info_package};
+ghost use Rattle.element_table.specs.TableElements.{is_type, info_package};
 
-use decl_tree::{Body, Unit};
+use decl_tree::Body;
 
 // The unit of the unnamed package (JLS 7.4.2).
 const UNNAMED: &str = "package-info";
@@ -28,20 +28,12 @@ pub(crate) fn info_package(name: &str) -> Option<&str>
     }
 }
 
-fn is_type(body: &Body) -> bool
+/// Whether this is the body of a unit that declares a type.
+pub(crate) fn is_type(body: &Body) -> bool
     ensures { result ≡ is_type body.now }
 {
     match body {
         Body::Declared(_) => true,
         Body::Info(_, _) => false,
     }
-}
-
-/// Whether a unit declares a type of this package.
-#[tactic(auto, unfolding(crate::specs::TableElements::declares_in))]
-pub(crate) fn declares_in(package: &str, unit: &Unit) -> bool
-    ensures { result ≡ declares_in «package».now unit.now }
-{
-    let text = unit.text();
-    is_type(&text.body) && text.package.as_str() == package
 }

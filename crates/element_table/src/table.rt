@@ -1,19 +1,21 @@
 // The type table.
-ghost use Rattle.std.specs.Prelude.{◌≡◌, IfOk, IfErr, IfSome, OnOk, OnErr, string_bytes};
+ghost use Rattle.std.specs.Prelude.{◌≡◌, true, is_some, IfOk, IfErr, IfSome, OnOk, OnErr, string_bytes};
 ghost use Rattle.std.specs.Option.{option_copied};
 ghost use Rattle.std.specs.FinMap as fin;
 ghost use Rattle.element_table.specs.UnitNames.{unit_name};
 ghost use Rattle.element_table.specs.TypeTable.{empty_table, units_in, unit_of, part_of, has_unit, entered, answer_to, Answers, unit_back, IsTable};
-ghost use Rattle.element_table.specs.TableElements.{has_types};
+ghost use Rattle.element_table.specs.TableElements.{is_type, part_has_types, has_types};
+ghost use Rattle.element_table.specs.PackageTypes.{package_types};
 ghost use Rattle.element_table.specs.declared.answer.Answer.TheVariants.{IsNew};
 
 use crate::answer::Answer;
 use crate::counting::with_unit;
+use crate::listed::ListedUnits;
 use crate::naming::name_of;
-use crate::units::Units;
 use crate::{EnterFault, Part};
 use apt_base::{List, Name, NoMemory};
 use decl_tree::Unit;
+use name_index::Names;
 use std::alloc::Global;
 use std::marker::Model;
 
@@ -21,8 +23,8 @@ use std::marker::Model;
 #[derive(Drop)]
 pub struct Table {
     alloc: Global,
-    sources: Units,
-    stubs: Units,
+    sources: ListedUnits,
+    stubs: ListedUnits,
     // How many types the units of both parts have, nested ones included.
     types: usize,
 }
@@ -47,8 +49,8 @@ impl Table {
     {
         Table {
             alloc,
-            sources: Units::new(alloc),
-            stubs: Units::new(alloc),
+            sources: ListedUnits::new(alloc),
+            stubs: ListedUnits::new(alloc),
             types: 0,
         }
     }
@@ -140,11 +142,35 @@ impl Table {
         }
     }
 
-    /// Whether a type of this package is in either part. It looks at each unit, and takes no memory.
+    /// A unit of a part that declares a type of this package, or `None` where none of that part does. It takes logarithmic time and no memory.
+    pub fn type_of_package(&self, part: Part, package: &str) -> Option<&Unit>
+        ensures value { is_some result ≡ part_has_types «package».now (units_in part self.now) }
+        ensures declares { IfSome result (λ unit. is_type unit.now.body ≡ true) }
+        ensures package { IfSome result (λ unit. unit.now.«package» ≡ «package».now) }
+    {
+        match part {
+            Part::Source => self.sources.type_of_package(package),
+            Part::Stub => self.stubs.type_of_package(package),
+        }
+    }
+
+    /// Whether a type of this package is in either part. It takes logarithmic time and no memory.
     pub(crate) fn has_types(&self, package: &str) -> bool
         ensures { result ≡ has_types self.now «package».now }
     {
-        self.sources.has_types(package) || self.stubs.has_types(package)
+        self.type_of_package(Part::Source, package).is_some()
+            || self.type_of_package(Part::Stub, package).is_some()
+    }
+
+    /// The canonical names of the top-level types of a package (JLS 7.3), of sources and of stubs, ascending by their bytes; none where there is no such package. A unit `package-info` is no type. It takes the time of one look-up in each part, and of these types.
+    #[tactic(auto, unfolding(crate::specs::PackageTypes::package_types))]
+    pub fn package_types(&self, alloc: Global, package: &Name) -> Result<List<Name>, NoMemory>
+        ensures { IfOk result (λ names. names ≡ package_types self.now «package».now) }
+    {
+        let mut all = Names::new(alloc);
+        self.sources.add_types(package.as_str(), &mut all)?;
+        self.stubs.add_types(package.as_str(), &mut all)?;
+        all.list()
     }
 
     /// The names of the units of a part, ascending by their bytes.

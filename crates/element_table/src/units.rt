@@ -2,9 +2,7 @@
 ghost use Rattle.std.specs.Prelude.{◌≡◌, IfOk, IfErr, OnOk, OnErr, string_bytes};
 ghost use Rattle.std.specs.Option.{option_copied};
 ghost use Rattle.std.specs.FinMap as fin;
-ghost use Rattle.element_table.specs.TableElements.{part_has_types};
 
-use crate::packages::declares_in;
 use apt_base::{List, Name, NoMemory};
 use decl_tree::Unit;
 use std::alloc::Global;
@@ -55,32 +53,30 @@ impl Units {
         self.held.contains_key(name)
     }
 
-    /// Whether there is a type of this package. It looks at each unit.
-    pub fn has_types(&self, package: &str) -> bool
-        ensures { result ≡ part_has_types «package».now self.now }
-    {
-        let mut found = false;
-        for unit in self.held.values() {
-            found = found || declares_in(package, unit);
-        }
-        found
-    }
-
-    /// Puts a unit under a name. Without memory it comes back, and the units stay as they were.
-    pub fn insert(&mut self, name: String, unit: Unit) -> Result<(), Unit>
+    /// Puts a unit under a name. Without memory both come back, and the units stay as they were.
+    pub fn insert_with_name(&mut self, name: String, unit: Unit) -> Result<(), (String, Unit)>
         ensures ok { OnOk result (self.new ≡ fin.insert self.old (string_bytes name) unit) }
         ensures err { OnErr result (self.new ≡ self.old) }
-        ensures back { IfErr result (λ back. back ≡ unit) }
+        ensures back { IfErr result (λ back. back ≡ (name, unit)) }
     {
         match self.held.insert(name, unit) {
             Ok(replaced) => {
                 let_go(replaced);
                 Ok(())
             }
-            Err(refused) => {
-                let (_, unit) = refused.value;
-                Err(unit)
-            }
+            Err(refused) => Err(refused.value),
+        }
+    }
+
+    /// The same, where the unit alone comes back.
+    pub fn insert(&mut self, name: String, unit: Unit) -> Result<(), Unit>
+        ensures ok { OnOk result (self.new ≡ fin.insert self.old (string_bytes name) unit) }
+        ensures err { OnErr result (self.new ≡ self.old) }
+        ensures back { IfErr result (λ back. back ≡ unit) }
+    {
+        match self.insert_with_name(name, unit) {
+            Ok(()) => Ok(()),
+            Err((_, unit)) => Err(unit),
         }
     }
 

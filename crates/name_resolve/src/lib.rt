@@ -24,5 +24,5 @@ pub use children::{declared_parameters, declared_types};
 pub use finds::{Finds, Found, both};
 pub use headers::{Supertype, interfaces_at, superclass_at, supertypes, type_at};
 pub use looks::Looks;
-pub use names::{part_names, split};
+pub use names::{longer, part_names, split};
 pub use tops::top_level;

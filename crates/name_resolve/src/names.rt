@@ -53,7 +53,7 @@ pub(crate) fn owned(alloc: Global, text: &str) -> Result<String, NoMemory>
 }
 
 /// A text with a dot and a name behind it.
-pub(crate) fn longer(alloc: Global, before: &str, name: &str) -> Result<String, NoMemory>
+pub fn longer(alloc: Global, before: &str, name: &str) -> Result<String, NoMemory>
     ensures { IfOk result (λ text. string_bytes text ≡ before.now ++ 46 ∷ name.now) }
 {
     let mut text = String::from_str(alloc, before)?;

@@ -1,5 +1,5 @@
 // Top-level types.
-ghost use Rattle.std.specs.Prelude.{◌≡◌, IfOk, string_bytes};
+ghost use Rattle.std.specs.Prelude.{◌≡◌, IfOk};
 ghost use Rattle.element_table.specs.UnitNames.{in_package};
 ghost use Rattle.name_resolve.specs.Meaning.{top_of, met_from, tops_of};
 ghost use Rattle.name_resolve.specs.Shown.{finds_of};
@@ -7,7 +7,7 @@ ghost use Rattle.name_resolve.specs.Shown.{finds_of};
 use crate::finds::{Finds, Found};
 use apt_base::{Name, NoMemory};
 use decl_tree::{Body, Unit};
-use element_table::{Part, Table};
+use element_table::{Part, Table, in_package};
 use std::alloc::Global;
 
 fn top_of<'a>(alloc: Global, part: Part, unit: &'a Unit) -> Finds<'a>
@@ -61,19 +61,6 @@ pub(crate) fn top_named<'a>(
 {
     let name = Name::new(alloc, name)?;
     Ok(top_level(alloc, table, part, &name))
-}
-
-// A simple name behind a package's name and a dot; nothing stands before it in the unnamed package.
-fn in_package(alloc: Global, package: &str, name: &str) -> Result<String, NoMemory>
-    ensures { IfOk result (λ text. string_bytes text ≡ in_package «package».now name.now) }
-{
-    if package.is_empty() {
-        return Ok(String::from_str(alloc, name)?);
-    }
-    let mut text = String::from_str(alloc, package)?;
-    text.push('.')?;
-    text.push_str(name)?;
-    Ok(text)
 }
 
 /// The top-level type of this simple name of a package.

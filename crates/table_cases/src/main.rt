@@ -11,6 +11,8 @@
 //! | `part NAME` | the part in which it is, or `none` |
 //! | `names PART` | the names of a part |
 //! | `count PART` | how many there are, and whether each is greater than the one before |
+//! | `types PACKAGE` | the names of its top-level types, of both parts |
+//! | `typed PART PACKAGE` | the name of a unit of that part that declares a type of the package, or `none` |
 //! | `found PART NUMBER` | how many of the made classes, this many from the first on, are found by their names and are in that part |
 //! | `copied` | `done`: the table is its own copy from now on |
 //! | `name UNIT` | the canonical name |
@@ -32,7 +34,7 @@ mod made;
 mod unit;
 
 use case_lines::{Calls, CaseFault, escaped, joined, name, run};
-use decl_syntax::{Body, Name, Unit};
+use decl_syntax::{Body, List, Name, Unit};
 use element_table::{EnterFault, Part, Table, unit_name};
 use std::alloc::Global;
 use std::process::ExitCode;
@@ -86,7 +88,9 @@ impl Calls for Tables {
 // The calls that leave the table as it is.
 fn look(alloc: Global, table: &Table, words: &[&str]) -> Result<String, CaseFault> {
     match words {
-        ["names", word] => names(alloc, table, part(word)?),
+        ["names", word] => names(alloc, &table.names(alloc, part(word)?)?),
+        ["types", word] => names(alloc, &table.package_types(alloc, &name(alloc, word)?)?),
+        ["typed", part_word, word] => typed(alloc, table, part(part_word)?, &name(alloc, word)?),
         ["count", word] => made::count(alloc, table, part(word)?),
         ["found", part_word, word] => {
             made::found(alloc, table, part(part_word)?, word.parse::<u32>()?)
@@ -167,12 +171,20 @@ fn find(alloc: Global, table: &Table, name: &Name) -> Result<String, CaseFault> 
     }
 }
 
-fn names(alloc: Global, table: &Table, part: Part) -> Result<String, CaseFault> {
+fn names(alloc: Global, names: &List<Name>) -> Result<String, CaseFault> {
     let mut words = Vec::new(alloc);
-    for name in table.names(alloc, part)?.as_slice() {
+    for name in names.as_slice() {
         words.push(escaped(alloc, name.as_str().as_bytes())?)?;
     }
     joined(alloc, &words)
+}
+
+// The name of a unit of this part that declares a type of this package.
+fn typed(alloc: Global, table: &Table, part: Part, package: &Name) -> Result<String, CaseFault> {
+    match table.type_of_package(part, package.as_str()) {
+        None => text_of(alloc, "none"),
+        Some(unit) => name_word(alloc, unit),
+    }
 }
 
 fn main(rt: HostRuntime) -> ExitCode {

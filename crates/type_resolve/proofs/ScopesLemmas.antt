@@ -1,14 +1,11 @@
--- The bare unit of a legal unit's package is legal, and a unit that declares a type of a package is of that package.
+-- The bare unit of a legal unit's package is legal.
 use Rattle.std.proofs.Common.{◌≡◌, ℕ, Bool, true, false, ◌&&◌, List, [], None, refl}
-use Rattle.std.proofs.lemmas.Slice.Eq.{bytes_eq-Decides}
-use Rattle.std.specs.Str.{bytes_eq}
 use Rattle.apt_base.specs.Forms.{is_name, all_fit}
 use Rattle.decl_tree.specs.declared.annotation.AnnotationText.{AnnotationText}
 use Rattle.decl_tree.specs.declared.compilation.Body.TheVariants.{Info}
 use Rattle.decl_tree.specs.declared.compilation.Import.{Import}
 use Rattle.decl_tree.specs.declared.compilation.UnitText.{UnitText}
 use Rattle.decl_tree.specs.Legal.{is_legal, is_legal_body, is_legal_import, is_canonical, package_start, depth}
-use Rattle.element_table.specs.TableElements.{is_type, declares_in}
 use Rattle.name_resolve.specs.Placed.{bare_unit}
 
 first_alone : (a b c d : Bool) → (a && b && c && d) ≡ true → (a && true && true && true) ≡ true
@@ -26,11 +23,3 @@ pub bare_parts-legal : (u : UnitText) (name : List ℕ) (imports : List Import) 
     → name ≡ u.«package» → imports ≡ [] → siblings ≡ [] → annotations ≡ []
     → is_legal (record { «package» = name; imports = imports; siblings = siblings; body = Info annotations None }) ≡ true
 bare_parts-legal u name imports siblings annotations e n i s a = rw (n, i, s, a) (bare-legal u e)
-
-second_of : (a b : Bool) → (a && b) ≡ true → b ≡ true
-second_of true b e = e
-second_of false b e = absurd (cc)
-
-pub declares-package : («package» : List ℕ) (u : UnitText) → declares_in «package» u ≡ true → u.«package» ≡ «package»
-unfolding declares_in
-declares-package «package» u e = (bytes_eq-Decides u.«package» «package»).0 (second_of (is_type u.body) (bytes_eq u.«package» «package») e)

@@ -1,14 +1,12 @@
 -- From an element of a table to what a look-up there begins at.
 use Rattle.std.specs.Prelude.{◌≡◌, ℕ, Bool, true, false, List, [], Option, None, Some, is_some, if◌then◌else◌}
-use Rattle.std.specs.List.{list_any}
-use Rattle.std.specs.FinMap as fin
 use Rattle.apt_base.specs.declared.element.ElementRef.{ElementRef}
 use Rattle.decl_tree.specs.declared.compilation.UnitText.{UnitText}
 use Rattle.element_table.specs.declared.part.Part.{Part}
 use Rattle.element_table.specs.declared.part.Part.TheVariants.{Source, Stub}
 use Rattle.element_table.specs.TypeTable.{TypeTable, IsTable, unit_of, part_of}
 use Rattle.element_table.specs.TableElements as elements
-use Rattle.element_table.specs.TableElements.{declares_in, canonical_at}
+use Rattle.element_table.specs.TableElements.{part_has_types, canonical_at}
 use Rattle.element_table.specs.UnitNames.{unit_name}
 use Rattle.name_resolve.specs.Ways.{type_at}
 use Rattle.name_resolve.specs.Finds.{Find}
@@ -23,17 +21,9 @@ abbrev pub or_unnamed : Option (List ℕ) → List ℕ
 or_unnamed None = []
 or_unnamed (Some «package») = «package»
 
-abbrev pub declares : List ℕ → Option UnitText → Bool
-declares «package» None = false
-declares «package» (Some unit) = declares_in «package» unit
-
--- whether one of the units of these names declares a type of this package
-abbrev pub any_declares : TypeTable → List ℕ → List (List ℕ) → Bool
-any_declares table «package» names = list_any (λ name. declares «package» (unit_of table name)) names
-
 -- the part of a package without a unit: the sources where a source declares a type of it, else the stubs
 abbrev pub package_part : TypeTable → List ℕ → Part
-package_part table «package» = if any_declares table «package» (fin.keys table.source) then Source else Stub
+package_part table «package» = if part_has_types «package» table.source then Source else Stub
 
 -- the package whose canonical name is that of what stands there
 abbrev pub package_at : TypeTable → ElementRef → List ℕ

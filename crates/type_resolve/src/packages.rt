@@ -1,11 +1,9 @@
 // Packages that have no unit.
-ghost use Rattle.std.specs.Prelude.{◌≡◌, is_some, IfOk, IfSome};
-ghost use Rattle.element_table.specs.TypeTable.{unit_of};
-ghost use Rattle.element_table.specs.TableElements.{declares_in};
+ghost use Rattle.std.specs.Prelude.{◌≡◌, IfOk};
 ghost use Rattle.name_resolve.specs.Placed.{bare_unit};
-ghost use Rattle.type_resolve.specs.Scopes.{declares, any_declares, package_part, IsBareUnit};
+ghost use Rattle.type_resolve.specs.Scopes.{package_part, IsBareUnit};
 
-use apt_base::{List, Name, NoMemory};
+use apt_base::{List, NoMemory};
 use decl_tree::{Body, Unit, UnitText};
 use element_table::{Part, Table, unit_name};
 use std::alloc::Global;
@@ -15,47 +13,6 @@ use std::alloc::Global;
 pub(crate) struct Bare {
     pub part: Part,
     pub unit: Unit,
-}
-
-#[tactic(auto, unfolding(element_table::specs::TableElements::declares_in))]
-fn declares_in(package: &str, unit: &Unit) -> bool
-    ensures { result ≡ declares_in «package».now unit.now }
-{
-    let text = unit.text();
-    match &text.body {
-        Body::Declared(_) => text.package.as_str() == package,
-        Body::Info(_, _) => false,
-    }
-}
-
-// The unit of this name, if it declares a type of this package.
-fn declaring<'a>(table: &'a Table, name: &Name, package: &str) -> Option<&'a Unit>
-    ensures value { is_some result ≡ declares «package».now (unit_of table.now name.now) }
-    ensures package { IfSome result (λ unit. unit.now.«package» ≡ «package».now) }
-{
-    match table.find(name) {
-        None => None,
-        Some(unit) => {
-            if declares_in(package, unit) {
-                return Some(unit);
-            }
-            None
-        }
-    }
-}
-
-// The first unit of these names that declares a type of this package.
-fn first_declaring<'a>(table: &'a Table, names: &[Name], package: &str) -> Option<&'a Unit>
-    ensures value { is_some result ≡ any_declares table.now «package».now names.now }
-    ensures package { IfSome result (λ unit. unit.now.«package» ≡ «package».now) }
-{
-    for name in names {
-        match declaring(table, name, package) {
-            None => {}
-            Some(unit) => return Some(unit),
-        }
-    }
-    None
 }
 
 // The bare unit of the package of a unit.
@@ -91,16 +48,14 @@ pub(crate) fn bare_package(alloc: Global, table: &Table, package: &str) -> Resul
     ensures part { IfOk result (λ bare. bare.part ≡ package_part table.now «package».now) }
     ensures stands { IfOk result (λ bare. IsBareUnit table.now «package».now bare.unit) }
 {
-    let sources = table.names(alloc, Part::Source)?;
-    match first_declaring(table, sources.as_slice(), package) {
+    match table.type_of_package(Part::Source, package) {
         Some(of) => {
             let bare = with_bare(alloc, table, Part::Source, of)?;
             return Ok(bare);
         }
         None => {}
     }
-    let stubs = table.names(alloc, Part::Stub)?;
-    match first_declaring(table, stubs.as_slice(), package) {
+    match table.type_of_package(Part::Stub, package) {
         Some(of) => {
             let bare = with_bare(alloc, table, Part::Stub, of)?;
             Ok(bare)

@@ -1,4 +1,4 @@
-use Rattle.std.proofs.Common.{◌≡◌, false, length, None, sym, ◌∙◌, rules}
+use Rattle.std.proofs.Common.{◌≡◌, false, length, None, sym, ◌∙◌}
 use Rattle.std.specs.Prelude.{◌==◌}
 use Rattle.element_table.proofs.Paths.{below_package}
 use Rattle.element_table.proofs.elements.below_package.Goals as goal

@@ -1,8 +1,18 @@
 use Rattle.std.proofs.Common.{string_bytes, ap, ◌∙◌}
 use Rattle.element_table.specs.TypeTable.{TypeTable, table_of, answer_to}
-use Rattle.element_table.proofs.TableLaws.{grown-Source, grown-Stub}
+use Rattle.element_table.proofs.TableLaws.{grown-Source, grown-Stub, free_source, free_stub}
 use Rattle.element_table.proofs.table.Table.put.Goals.{in-Source+in_ok-insert-in-Source, in-Stub+in_ok-insert-in-Stub}
 use Rattle.element_table.proofs.table.Table.put.Goals as goal
+
+pub insert-requires : goal.insert-requires
+insert-requires c =
+    let old : TypeTable = table_of c.self.inside.sources c.self.inside.stubs in
+    free_source old c.args.unit c.args.types (ap (λ t. answer_to t c.args.unit) c.self.view_is ∙ c.requires.new) (string_bytes c.args.name) c.requires.named
+
+pub insert-requires-in-Stub : goal.insert-requires-in-Stub
+insert-requires-in-Stub c =
+    let old : TypeTable = table_of c.self.inside.sources c.self.inside.stubs in
+    free_stub old c.args.unit c.args.types (ap (λ t. answer_to t c.args.unit) c.self.view_is ∙ c.requires.new) (string_bytes c.args.name) c.requires.named
 
 pub invariant_of-self-2 : goal.invariant_of-self-2
 invariant_of-self-2 c =

@@ -1,6 +1,6 @@
 use Rattle.std.proofs.Common.{sym, ap, is_some, ◌∙◌}
 use Rattle.std.specs.FinMap.{contains_key}
-use Rattle.element_table.proofs.TextMaps.{get-shown}
+use Rattle.name_index.proofs.TextMaps.{get-shown}
 use Rattle.element_table.proofs.units.Units.contains.Goals as goal
 
 pub returns : goal.returns

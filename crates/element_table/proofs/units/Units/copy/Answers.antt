@@ -1,11 +1,11 @@
-use Rattle.std.proofs.Common.{◌≡◌, ◌∷◌, [], ◌++◌, map, string_bytes, ap, sym, ◌∙◌, rules}
+use Rattle.std.proofs.Common.{◌≡◌, map, string_bytes, ap, ◌∙◌, rules}
 use Rattle.std.specs.FinMap as fin
 use Rattle.std.specs.Map.Iter.{deref_pair}
 use Rattle.std.specs.Ordering.{nat_cmp}
 use Rattle.std.specs.Cmp.Lexicographic.{slice_cmp}
 use Rattle.std.proofs.lemmas.Map.Iter.{iter_end}
-use Rattle.element_table.specs.Held.{shown_entry}
-use Rattle.element_table.proofs.TextMaps.{put_all, shown_borrowed, get-put_all-borrowed, same_from_put_all, entries_of_borrowed}
+use Rattle.name_index.specs.ShownMaps.{shown_entry}
+use Rattle.name_index.proofs.TextMaps.{put_all, get-put_all-borrowed, same_from_put_all, entries_of_borrowed}
 use Rattle.element_table.proofs.units.Units.copy.Goals as goal
 
 pub loop-name-init : goal.loop-name-init

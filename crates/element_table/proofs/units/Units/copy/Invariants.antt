@@ -1,6 +1,6 @@
 use Rattle.std.proofs.Common.{◌≡◌, ℕ, List, map}
 use Rattle.std.specs.FinMap as fin
-use Rattle.element_table.proofs.TextMaps.{put_all, shown_borrowed}
+use Rattle.name_index.proofs.TextMaps.{put_all, shown_borrowed}
 use Rattle.element_table.proofs.units.Units.copy.Given as goal
 
 -- the copy has what the entries so far put into it

@@ -1,6 +1,6 @@
 use Rattle.std.proofs.Common.{sym, ap, ◌∙◌}
 use Rattle.std.specs.FinMap.{get}
-use Rattle.element_table.proofs.TextMaps.{get-shown}
+use Rattle.name_index.proofs.TextMaps.{get-shown}
 use Rattle.element_table.proofs.units.Units.get.Goals as goal
 
 pub returns : goal.returns

@@ -1,15 +1,14 @@
 -- A map in memory whose keys are texts, as the finite map from their bytes.
-use Rattle.std.proofs.Common.{◌≡◌, ℕ, Bool, true, false, cond, T, List, [], ◌∷◌, ◌++◌, map, Some, None, Option, String, string_bytes, ◌&&◌, ◌||◌, refl, sym, ap, ◌∙◌, subst}
+use Rattle.std.proofs.Common.{◌≡◌, ℕ, Bool, true, false, cond, T, List, [], ◌∷◌, ◌++◌, map, Some, None, Option, String, string_bytes, ◌&&◌, refl, sym, ap, ◌∙◌, subst}
 use Rattle.std.specs.BTreeMap as tree
 use Rattle.std.specs.BTreeMap.{BTreeMap, is_at, get_by_text, UpdatesBy}
-use Rattle.std.specs.Map.{lookup, keys_of, values_of, update, update_all}
+use Rattle.std.specs.Map.{lookup, keys_of, values_of, update_all}
 use Rattle.std.specs.Map.Iter.{deref, deref_pair}
-use Rattle.std.specs.Str.{bytes_eq}
 use Rattle.std.specs.String.{string_cmp}
 use Rattle.std.specs.Ordering.{nat_cmp, is_eq, is_lt, eq_by_cmp}
 use Rattle.std.specs.Cmp.{eq_by_cmp_equiv}
 use Rattle.std.specs.Cmp.Lexicographic.{slice_cmp, nat_list_cmp_total, nat_list_eq_equiv}
-use Rattle.std.specs.List.{AllByRecursion, IsDistinct, list_any}
+use Rattle.std.specs.List.{AllByRecursion}
 use Rattle.std.specs.List.Sorted.{IsStrictlySortedBy}
 use Rattle.std.specs.FinMap as fin
 use Rattle.std.specs.FinMap.{FinMap, find, from_entries, is_sorted, get-from_entries, get-insert, same_map, nat_cmp-IsAntisymmetric, slice_cmp-IsAntisymmetric}
@@ -21,7 +20,7 @@ use Rattle.std.proofs.lemmas.Map.Keys.{IsDistinct-from_sorted}
 use Rattle.std.proofs.lemmas.Map.{update_all_push}
 use Rattle.std.proofs.lemmas.Map.Made.{update_all_none}
 use denote.Ref.{Bor}
-use Rattle.element_table.specs.Held.{shown_entry}
+use Rattle.name_index.specs.ShownMaps.{shown_entry}
 
 -- names that compare alike are one
 pub exact_names : fin.IsAntisymmetric (slice_cmp nat_cmp)
@@ -114,24 +113,6 @@ module _ {X : Type 0} where
   -- the values in the order of the names
   pub values-shown : (m : BTreeMap (String Global) X) → tree.IsOrdered string_cmp m → fin.values (shown m) ≡ tree.values m
   values-shown m s = ap (map (λ e. e.1)) (entries-shown m s) ∙ values_shown m.entries
-
--- whether one of a list passes, and one item more
-or_last : (a b : Bool) → (a || (b || false)) ≡ (a || b)
-or_last a true = refl
-or_last a false = refl
-
-or_apart : (a b c : Bool) → (a || (b || c)) ≡ ((a || b) || c)
-or_apart true b c = refl
-or_apart false b c = refl
-
-pub list_any-push : {A : Type 0} (p : A → Bool) (xs : List A) (x : A) → list_any p (xs ++ x ∷ []) ≡ (list_any p xs || p x)
-list_any-push p [] x = or_last false (p x)
-list_any-push p (y ∷ xs) x = ap (λ (b : Bool). p y || b) (list_any-push p xs x) ∙ or_apart (p y) (list_any p xs) (p x)
-
--- a test of borrowed values
-pub any_of_borrowed : {A : Type 0} (p : A → Bool) (xs : List (Bor A)) → list_any (λ x. p x.now) xs ≡ list_any p (map deref xs)
-any_of_borrowed p [] = refl
-any_of_borrowed p (x ∷ xs) = ap (λ (b : Bool). p x.now || b) (any_of_borrowed p xs)
 
 -- the bytes of borrowed keys
 pub bytes_of_borrowed : (ks : List (Bor (String Global))) → map (λ k. string_bytes k.now) ks ≡ map string_bytes (map deref ks)

@@ -1,8 +1,8 @@
 use Rattle.std.proofs.Common.{string_bytes, ap, ◌∙◌}
 use Rattle.std.specs.FinMap.{insert}
-use Rattle.element_table.proofs.TextMaps.{shown-insert}
-use Rattle.element_table.proofs.units.Units.insert.Goals.{in-Ok, in-Err}
-use Rattle.element_table.proofs.units.Units.insert.Goals as goal
+use Rattle.name_index.proofs.TextMaps.{shown-insert}
+use Rattle.element_table.proofs.units.Units.insert_with_name.Goals.{in-Ok, in-Err}
+use Rattle.element_table.proofs.units.Units.insert_with_name.Goals as goal
 
 pub returns-clause-ok : goal.returns-clause-ok
 returns-clause-ok c =

@@ -1,0 +1,3 @@
+pub mod IndexLaws
+pub mod NameSets
+pub mod TextMaps
