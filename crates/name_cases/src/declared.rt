@@ -155,6 +155,7 @@ fn method(alloc: Global, writer: &mut FieldWriter, words: &[&str; 3]) -> Result<
 fn member(alloc: Global, writer: &mut FieldWriter, words: &[&str]) -> Result<(), CaseFault> {
     match words {
         ["field", name] => field(alloc, writer, name, "int"),
+        ["field", name, of] => field(alloc, writer, name, of),
         ["method", name, types, values] => method(alloc, writer, &[*name, *types, *values]),
         _ => {
             writer.u8(4)?;

@@ -15,10 +15,12 @@
 //! | `type UNIT PATH TYPE` | the mirror that the type means in that element |
 //! | `superclass UNIT PATH` | the superclass of that type |
 //! | `interfaces UNIT PATH` | its interfaces, or `[]` |
+//! | `candidates UNIT` | the candidates of that unit, as a list |
+//! | `reach UNIT` | the reach of that name, as a list |
 //!
 //! What is found is a unit and the steps of a path, joined by colons; it is `none` where the name means nothing, and `several` where it is ambiguous.
 //!
-//! The unnamed package is `-`. Imports are a list: `r.N` or `r.*`, and `static:r.N` or `static:r.*`. A file is the list of the types that it declares. Pieces are a type as far as its members, then its members one by one, of which a type is again followed by its own. A type is `KIND:NAME:MEMBERS` with a kind `enum`, `class`, `annotation` or `interface` and the number of its members, or `KIND:NAME:MEMBERS:PARAMETERS:SUPERCLASS:INTERFACES`; other members are `field:NAME` and `method:NAME:PARAMETERS:ARGUMENTS`. Type parameters, interfaces and the parameters of a method are joined by `+`, or `-` for none.
+//! The unnamed package is `-`. Imports are a list: `r.N` or `r.*`, and `static:r.N` or `static:r.*`. A file is the list of the types that it declares. Pieces are a type as far as its members, then its members one by one, of which a type is again followed by its own. A type is `KIND:NAME:MEMBERS` with a kind `enum`, `class`, `annotation` or `interface` and the number of its members, or `KIND:NAME:MEMBERS:PARAMETERS:SUPERCLASS:INTERFACES`; other members are `field:NAME`, of the type `int`, `field:NAME:TYPE` and `method:NAME:PARAMETERS:ARGUMENTS`. Type parameters, interfaces and the parameters of a method are joined by `+`, or `-` for none.
 //!
 //! A type is `int`, `void` or the names of a class type with dots between them; or its words from the outside in, joined by `/`: `[]`, `?extends`, `?super` and `?`, and for a class type with arguments `.N`, where N is the number of its names, and each name, as `NAME` or as `NAME<N` with the number of the types that follow as its arguments. So `.1/Box<1/?extends/.1/A` is `Box<? extends A>`.
 //!
@@ -27,6 +29,7 @@
 
 mod declared;
 mod looks;
+mod reaches;
 mod shown;
 mod types;
 
@@ -80,6 +83,8 @@ impl Calls for Names {
             ["interfaces", unit, path] => {
                 looks::interface_words(alloc, &self.table, &[*unit, *path])
             }
+            ["candidates", unit] => reaches::candidate_words(alloc, &self.table, *unit),
+            ["reach", unit] => reaches::reach_words(alloc, &self.table, *unit),
             _ => Err(CaseFault::NotACase),
         }
     }

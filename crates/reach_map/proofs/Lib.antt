@@ -1,6 +1,11 @@
 pub mod Asked
+pub mod CandidateSetsLemmas
+pub mod ChainsLemmas
 pub mod Cuts
 pub mod Everywhere
+pub mod NamesLemmas
+pub mod ReachLemmas
 pub mod SameMirrors
 pub mod SameSupertypes
+pub mod SourceUnits
 pub mod WrittenChains

@@ -13,7 +13,7 @@ use Rattle.name_resolve.specs.Mirrors.{Meant, MeantPart, Look, or_none, found_mi
 use Rattle.name_resolve.proofs.MirrorsLemmas.{base-rolls, part-rolls, text-rolls}
 use Rattle.reach_map.specs.Chains.{Chains, gathered, type_chains}
 use Rattle.reach_map.proofs.Everywhere.{each_of_map, each_of_flat_map}
-use Rattle.reach_map.proofs.WrittenChains.{base_chains, part_chains, part_name-is, base_chains-roll, part_chains-roll, type_chains-roll}
+use Rattle.reach_map.proofs.ChainsLemmas.{base_chains, part_chains, part_name-is, base_chains-roll, part_chains-roll, type_chains-roll}
 
 -- the first names of a longer chain
 front_of : (names : List (List ℕ)) (name : List ℕ) (more : List (List ℕ)) → take (length names + 1) (names ++ name ∷ more) ≡ names ++ name ∷ []

@@ -1,15 +1,14 @@
 -- What holds of each chain of a unit holds of the chains in the headers of its types.
-use Rattle.std.proofs.Common.{◌≡◌, ℕ, Bool, true, false, List, [], ◌∷◌, ◌++◌, map, Option, None, Some, slice_get, if◌then◌else◌, refl, sym, ap, subst, ◌∙◌}
+use Rattle.std.proofs.Common.{ℕ, Bool, true, false, List, [], ◌∷◌, ◌++◌, map, Option, None, Some, slice_get, if◌then◌else◌, sym, subst}
 use Rattle.std.specs.List.{AllByRecursion, flat_map}
 use Rattle.std.specs.Option.{option_and_then}
 use Rattle.decl_tree.specs.declared.member.TypeParam.{TypeParam}
 use Rattle.decl_tree.specs.declared.member.Param.{Param}
 use Rattle.decl_tree.specs.declared.type_text.Around.{Around}
-use Rattle.decl_tree.specs.declared.type_text.TypeText.{TypeText, out-TypeText, roll-TypeText, roll-out-TypeText}
+use Rattle.decl_tree.specs.declared.type_text.TypeText.{TypeText, out-TypeText}
 use Rattle.decl_tree.specs.declared.type_text.BaseType.{BaseType, out-BaseType, roll-BaseType, roll-out-BaseType}
-use Rattle.decl_tree.specs.declared.type_text.BaseType.TheOpen.{BaseType-F, NamedPart-F, TypeText-F}
-use Rattle.decl_tree.specs.declared.type_text.BaseType.TheFolds.{map-BaseType, map-NamedPart, fold-BaseType, fold-NamedPart, fold-roll-BaseType, fold-roll-NamedPart, fold-roll-TypeText}
-use Rattle.decl_tree.specs.declared.type_text.NamedPart.{NamedPart, out-NamedPart, roll-NamedPart, roll-out-NamedPart}
+use Rattle.decl_tree.specs.declared.type_text.BaseType.TheOpen.{BaseType-F}
+use Rattle.decl_tree.specs.declared.type_text.NamedPart.{NamedPart}
 use Rattle.decl_tree.specs.declared.declaration.TypeKind.{TypeKind}
 use Rattle.decl_tree.specs.declared.declaration.TypeKind.TheVariants as kind
 use Rattle.decl_tree.specs.declared.declaration.Member.{Member, out-Member, roll-Member, roll-out-Member}
@@ -21,39 +20,10 @@ use Rattle.decl_tree.specs.declared.compilation.Body.TheVariants.{Declared, Info
 use Rattle.decl_tree.specs.declared.compilation.UnitText.{UnitText}
 use Rattle.decl_elements.specs.Nodes.{Node, OfPackage, Top, Inside, OfTypeParam, OfParam, DefaultConstructor, Values, ValueOf, ValueOfName, added_methods, has_default_constructor, added_constructor, added, type_children, executable_children, member_children, children, down, body_root, root}
 use Rattle.name_resolve.specs.Ways.{member_type, declaration_of, node_at, type_at}
-use Rattle.name_resolve.specs.Supertypes.{part_name, base_names, bare, names_in}
-use Rattle.reach_map.specs.Chains.{Chains, gathered, of_option, base_step, part_step, type_step, type_chains, annotation_chains, type_param_chains, member_step, declaration_step, member_chains, declaration_chains, body_chains, unit_chains}
+use Rattle.name_resolve.specs.Supertypes.{base_names, bare, names_in}
+use Rattle.reach_map.specs.Chains.{Chains, gathered, of_option, type_chains, annotation_chains, type_param_chains, member_step, declaration_step, member_chains, declaration_chains, body_chains, unit_chains}
+use Rattle.reach_map.proofs.ChainsLemmas.{base_chains, base_chains-roll, part_names, type_chains-base}
 use Rattle.reach_map.proofs.Everywhere.{OfSome, each_left, each_right, each_append, each_of_map, each_map, each_of_flat_map, each_to, each_at, each}
-
-abbrev pub base_chains : BaseType → Chains
-base_chains = fold-BaseType Chains (List ℕ × Chains) Chains base_step part_step type_step
-
-abbrev pub part_chains : NamedPart → List ℕ × Chains
-part_chains = fold-NamedPart Chains (List ℕ × Chains) Chains base_step part_step type_step
-
-pub base_chains-roll : (x : BaseType-F BaseType NamedPart TypeText) → base_chains (roll-BaseType x)
-    ≡ base_step (map-BaseType BaseType NamedPart TypeText Chains (List ℕ × Chains) Chains base_chains part_chains type_chains x)
-unfolding type_chains
-base_chains-roll x = fold-roll-BaseType Chains (List ℕ × Chains) Chains base_step part_step type_step x
-
-pub part_chains-roll : (x : NamedPart-F BaseType NamedPart TypeText) → part_chains (roll-NamedPart x)
-    ≡ part_step (map-NamedPart BaseType NamedPart TypeText Chains (List ℕ × Chains) Chains base_chains part_chains type_chains x)
-unfolding type_chains
-part_chains-roll x = fold-roll-NamedPart Chains (List ℕ × Chains) Chains base_step part_step type_step x
-
-pub type_chains-roll : (x : TypeText-F BaseType NamedPart TypeText) → type_chains (roll-TypeText x) ≡ base_chains x.base
-unfolding type_chains
-type_chains-roll x = fold-roll-TypeText Chains (List ℕ × Chains) Chains base_step part_step type_step x
-
--- the first component of a fold over a part is its name
-pub part_name-is : (p : NamedPart) → (part_chains p).0 ≡ part_name p
-part_name-is p =
-    ap (λ (q : NamedPart). (part_chains q).0) (sym (roll-out-NamedPart p))
-    ∙ ap (λ (q : List ℕ × Chains). q.0) (part_chains-roll (out-NamedPart p))
-
-part_names : (ps : List NamedPart) → map (λ (p : List ℕ × Chains). p.0) (map part_chains ps) ≡ map part_name ps
-part_names [] = refl
-part_names (p ∷ ps) = rw (part_name-is p, part_names ps) refl
 
 module _ (Q : List (List ℕ) → Type 0) (none : Q []) where
   -- of a type text
@@ -68,16 +38,13 @@ module _ (Q : List (List ℕ) → Type 0) (none : Q []) where
   of_bare [] names q = q
   of_bare (first ∷ more) names q = none
 
-  chains_of-base : (text : TypeText) → type_chains text ≡ base_chains (out-TypeText text).base
-  chains_of-base text = ap type_chains (sym (roll-out-TypeText text)) ∙ type_chains-roll (out-TypeText text)
-
   pub of_type : (text : TypeText) → AllByRecursion Q (type_chains text) → Q (names_in text)
   unfolding names_in
   of_type text a =
       let P : Chains → Type 0 = AllByRecursion Q in
       let B : BaseType → Type 0 = λ b. AllByRecursion Q (base_chains b) in
       of_bare (out-TypeText text).around (base_names (out-BaseType (out-TypeText text).base))
-      (of_base (out-BaseType (out-TypeText text).base) (subst B (sym (roll-out-BaseType (out-TypeText text).base)) (subst P (chains_of-base text) a)))
+      (of_base (out-BaseType (out-TypeText text).base) (subst B (sym (roll-out-BaseType (out-TypeText text).base)) (subst P (type_chains-base text) a)))
 
   -- of what stands in a unit
   abbrev OfDeclaration : TypeDecl → Type 0

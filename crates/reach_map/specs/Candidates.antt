@@ -2,6 +2,7 @@
 use Rattle.std.specs.Prelude.{ℕ, List, [], ◌∷◌, ◌++◌, map, codes}
 use Rattle.std.specs.List.{flat_map}
 use Rattle.apt_base.specs.Identifiers.{parts}
+use Rattle.decl_tree.specs.declared.compilation.Import.{Import}
 use Rattle.decl_tree.specs.declared.compilation.ImportKind.{ImportKind}
 use Rattle.decl_tree.specs.declared.compilation.ImportKind.TheVariants as import
 use Rattle.decl_tree.specs.declared.compilation.UnitText.{UnitText}
@@ -18,11 +19,21 @@ on_demand_name name first import.OnDemand = (name ++ 46 ∷ first) ∷ []
 on_demand_name name first import.StaticOnDemand = (name ++ 46 ∷ first) ∷ []
 on_demand_name name first other = []
 
--- of a name chain: each prefix, and its first name in the unit's package, in each import on demand and in `java.lang`
+abbrev pub imported_name : List ℕ → Import → List (List ℕ)
+imported_name first i = on_demand_name i.name first i.kind
+
+-- the first name of a chain in each import on demand
+abbrev pub imported_names : List ℕ → List Import → List (List ℕ)
+imported_names first imports = flat_map (imported_name first) imports
+
+-- the first name of a chain in the unit's package, in `java.lang` and in each import on demand
+abbrev pub first_candidates : UnitText → List ℕ → List (List ℕ)
+first_candidates u first = in_package u.package first ∷ in_package (codes "java.lang") first ∷ imported_names first u.imports
+
+-- of a name chain: each prefix, and its first name
 abbrev pub chain_candidates : UnitText → List (List ℕ) → List (List ℕ)
 chain_candidates u [] = []
-chain_candidates u (first ∷ others) =
-    prefix_names (first ∷ others) ++ (in_package u.package first ∷ in_package (codes "java.lang") first ∷ flat_map (λ i. on_demand_name i.name first i.kind) u.imports)
+chain_candidates u (first ∷ others) = prefix_names (first ∷ others) ++ first_candidates u first
 
 -- the names that declarations imply
 abbrev pub implied_names : List (List ℕ)
@@ -31,11 +42,20 @@ implied_names =
     ∷ codes "java.lang.Cloneable" ∷ codes "java.io.Serializable" ∷ codes "java.lang.Boolean" ∷ codes "java.lang.Byte" ∷ codes "java.lang.Short"
     ∷ codes "java.lang.Integer" ∷ codes "java.lang.Long" ∷ codes "java.lang.Character" ∷ codes "java.lang.Float" ∷ codes "java.lang.Double" ∷ []
 
+-- the unit itself, and that of its package
+abbrev pub own_names : UnitText → List (List ℕ)
+own_names u = unit_name u ∷ in_package u.package (codes "package-info") ∷ []
+
+-- each prefix of each of some names, and of each import
+abbrev pub prefixes_of_all : List (List ℕ) → List (List ℕ)
+prefixes_of_all names = flat_map (λ name. prefix_names (parts name)) names
+
+abbrev pub import_prefixes : List Import → List (List ℕ)
+import_prefixes imports = flat_map (λ i. prefix_names (parts i.name)) imports
+
 -- the unit itself and that of its package, those of each chain, and each prefix of each import and of each implied name, the whole name too; in which order they
 -- stand and how often one is there says nothing
 unfoldable pub candidates : UnitText → List (List ℕ)
 candidates u =
     unit_name u ∷ in_package u.package (codes "package-info")
-    ∷ (flat_map (chain_candidates u) (unit_chains u)
-    ++ flat_map (λ i. prefix_names (parts i.name)) u.imports
-    ++ flat_map (λ name. prefix_names (parts name)) implied_names)
+    ∷ (flat_map (chain_candidates u) (unit_chains u) ++ import_prefixes u.imports ++ prefixes_of_all implied_names)

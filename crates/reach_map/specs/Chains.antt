@@ -4,10 +4,12 @@ use Rattle.std.specs.Prelude.{ℕ, List, [], ◌∷◌, ◌++◌, map, Option, N
 use Rattle.std.specs.List.{flat_map}
 use Rattle.apt_base.specs.Identifiers.{parts}
 use Rattle.decl_tree.specs.declared.type_text.TypeText.{TypeText}
+use Rattle.decl_tree.specs.declared.type_text.NamedPart.{NamedPart, out-NamedPart}
 use Rattle.decl_tree.specs.declared.type_text.BaseType.TheOpen.{BaseType-F, NamedPart-F, TypeText-F}
 use Rattle.decl_tree.specs.declared.type_text.BaseType.TheFolds.{fold-TypeText}
 use Rattle.decl_tree.specs.declared.annotation.ValueText.{ValueText}
 use Rattle.decl_tree.specs.declared.annotation.AnnotationText.{AnnotationText}
+use Rattle.decl_tree.specs.declared.annotation.ElementValuePair.{ElementValuePair}
 use Rattle.decl_tree.specs.declared.annotation.ValueText.TheOpen.{ValueText-F, AnnotationText-F, ElementValuePair-F}
 use Rattle.decl_tree.specs.declared.annotation.ValueText.TheFolds.{fold-ValueText, fold-AnnotationText}
 use Rattle.decl_tree.specs.declared.member.TypeParam.{TypeParam}
@@ -23,6 +25,7 @@ use Rattle.decl_tree.specs.declared.declaration.Member.TheFolds.{fold-Member, fo
 use Rattle.decl_tree.specs.declared.compilation.Body.{Body}
 use Rattle.decl_tree.specs.declared.compilation.Body.TheVariants.{Declared, Info}
 use Rattle.decl_tree.specs.declared.compilation.UnitText.{UnitText}
+use Rattle.name_resolve.specs.Supertypes.{part_name}
 
 abbrev pub Chains : Type 0
 Chains = List (List (List ℕ))
@@ -51,6 +54,13 @@ type_step text = text.base
 unfoldable pub type_chains : TypeText → Chains
 type_chains = fold-TypeText Chains (List ℕ × Chains) Chains base_step part_step type_step
 
+-- of the type arguments of a part, and of all parts of a class type
+abbrev pub argument_chains : NamedPart → Chains
+argument_chains p = of_option (flat_map type_chains) (out-NamedPart p).arguments
+
+abbrev pub named_chains : List NamedPart → Chains
+named_chains parts = map part_name parts ∷ flat_map argument_chains parts
+
 -- ---- values and annotations
 
 abbrev pub value_step : ValueText-F Chains Chains Chains → Chains
@@ -75,6 +85,9 @@ value_chains = fold-ValueText Chains Chains Chains value_step annotation_step pa
 
 unfoldable pub annotation_chains : AnnotationText → Chains
 annotation_chains = fold-AnnotationText Chains Chains Chains value_step annotation_step pair_step
+
+abbrev pub pair_chains : ElementValuePair → Chains
+pair_chains pair = value_chains pair.value
 
 -- ---- members
 
@@ -112,6 +125,12 @@ abbrev pub declaration_step : TypeDecl-F Chains Chains → Chains
 declaration_step d =
     flat_map annotation_chains d.annotations ++ flat_map type_param_chains d.parameters ++ of_option type_chains d.superclass
     ++ flat_map type_chains d.interfaces ++ flat_map gathered d.members
+
+-- of what stands before the members of a declaration
+abbrev pub head_chains : TypeDecl → Chains
+head_chains d =
+    flat_map annotation_chains d.annotations ++ flat_map type_param_chains d.parameters ++ of_option type_chains d.superclass
+    ++ flat_map type_chains d.interfaces
 
 unfoldable pub member_chains : Member → Chains
 member_chains = fold-Member Chains Chains member_step declaration_step

@@ -2,8 +2,19 @@
 //!
 //! `specs/Chains` has the name chains that are written in a unit, `specs/Candidates` the candidates, and `specs/ClosedCuts` the law: where a set of names is closed, which is that it holds the candidates of each source unit in it, each name that is written in a unit of the set means over the table cut to the set what it means over the whole table. The contract of `find_in_cut` carries it.
 //!
-//! Not here yet: calls that give the candidates of a unit and its reach.
+//! `candidates` lists the candidates of a unit, in time that is linear in what the unit declares but for the logarithm of how many candidates it has.
+//!
+//! Not promised: that memory is there.
 #![tactic(auto)]
+
+mod chains;
+mod gathered;
+mod members;
+mod prefixes;
+mod reaching;
+mod types;
+mod values;
+mod written;
 
 ghost use Rattle.std.specs.Prelude.{◌≡◌, IfSome};
 ghost use Rattle.std.specs.Option.{option_copied};
@@ -13,6 +24,8 @@ ghost use Rattle.reach_map.specs.ClosedCuts.{among, cut, is_cut_off, IsKept, Kee
 use apt_base::{List, Name};
 use decl_tree::Unit;
 use element_table::{Part, Table};
+pub use gathered::candidates;
+pub use reaching::reach;
 
 fn is_among(names: &[Name], name: &Name) -> bool
     ensures { result ≡ among names.now name.now }
