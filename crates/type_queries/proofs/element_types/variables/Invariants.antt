@@ -1,0 +1,7 @@
+use Rattle.std.proofs.Common.{◌≡◌, take}
+use Rattle.type_queries.specs.TypeOf.{own_arguments}
+use Rattle.type_queries.proofs.element_types.variables.Given as goal
+
+-- the variables so far
+abbrev pub invariant-loop-each : goal.invariant-loop-each
+invariant-loop-each l = l.list ≡ own_arguments (take l.each-index l.parameters)

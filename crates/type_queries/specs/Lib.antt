@@ -1,0 +1,7 @@
+pub mod Elements
+pub mod Named
+pub mod Print
+pub mod Questions
+pub mod Spelling
+pub mod TypeOf
+pub mod Verdicts

@@ -1,0 +1,342 @@
+// The types of elements.
+ghost use Rattle.std.specs.Prelude.{◌≡◌, ◌∷◌, [], Some, None, IfOk};
+ghost use Rattle.decl_tree.specs.declared.declaration.Member.{out-Member};
+ghost use Rattle.decl_tree.specs.declared.declaration.Member.TheOpen.{Member-F};
+ghost use Rattle.decl_elements.specs.Nodes.{Values, ValueOf};
+ghost use Rattle.decl_elements.specs.Shown.{node_of};
+ghost use Rattle.element_table.specs.TableElements.{node_at};
+ghost use Rattle.type_layers.specs.Layers.{mirror_of, declared_mirror, executable_mirror};
+ghost use Rattle.type_layers.specs.Layers as layers;
+ghost use Rattle.name_resolve.specs.Shown.{find_of};
+ghost use Rattle.name_resolve.specs.Finds.{One};
+ghost use Rattle.name_resolve.specs.Mirrors.{found_mirror};
+ghost use Rattle.type_resolve.specs.Scopes.{IsElement};
+ghost use Rattle.type_queries.specs.Elements as elements;
+ghost use Rattle.type_queries.specs.Named.{stub_named, string};
+ghost use Rattle.type_queries.specs.Questions.{type_question};
+ghost use Rattle.type_queries.specs.TypeOf.{own_type, own_arguments, parameter_types, written_types, executable_type, member_type, node_type};
+ghost use Rattle.type_queries.specs.Verdicts.{Gives};
+
+use crate::fault::QueryFault;
+use crate::places::{around_of, canonical_name, place_of, type_parameters};
+use apt_base::{Boxed, ElementRef, List, Name, NoMemory};
+use decl_elements::Place;
+use decl_tree::{ConstructorDecl, Member, MethodDecl, Param, TypeText};
+use element_table::{Part, Table, unit_name};
+use name_resolve::{Finds, Found, top_level, type_at};
+use std::alloc::Global;
+use type_mirror::{Around, BaseMirror, DeclaredMirror, ExecutableMirror, Mirror};
+use type_resolve::resolve_type;
+
+// ---- mirrors of several parts
+
+#[tactic(auto, unfolding(type_layers::specs::Layers::mirror_of))]
+fn variable(alloc: Global, at: &ElementRef) -> Result<Mirror, NoMemory>
+    ensures { IfOk result (λ m. m ≡ mirror_of (layers.Variable at.now)) }
+{
+    let element = at.copy(alloc)?;
+    Ok(Mirror::plain(alloc, BaseMirror::Variable(element)))
+}
+
+#[tactic(auto, unfolding(type_layers::specs::Layers::mirror_of))]
+fn void(alloc: Global) -> Mirror
+    ensures { result ≡ mirror_of layers.Void }
+{
+    Mirror::plain(alloc, BaseMirror::Void)
+}
+
+fn array_of(alloc: Global, item: Mirror) -> Result<Mirror, NoMemory>
+    ensures { IfOk result (λ m. m ≡ layers.array_of item) }
+{
+    let mut around = List::new(alloc);
+    around.push(Around::Array)?;
+    item.wrapped(alloc, &around)
+}
+
+fn class_type(alloc: Global, element: ElementRef, arguments: List<Mirror>) -> Mirror
+    ensures { result ≡ declared_mirror element None arguments }
+{
+    let declared = DeclaredMirror {
+        element,
+        enclosing: None,
+        arguments,
+    };
+    Mirror::plain(alloc, BaseMirror::Declared(declared))
+}
+
+fn executable(
+    alloc: Global,
+    variables: List<ElementRef>,
+    parameters: List<Mirror>,
+    outcome: Mirror,
+    thrown: List<Mirror>,
+) -> Result<Mirror, NoMemory>
+    ensures { IfOk result (λ m. m ≡ executable_mirror variables parameters outcome thrown) }
+{
+    let result = Boxed::new(alloc, outcome)?;
+    let executable = ExecutableMirror {
+        variables,
+        parameters,
+        result,
+        thrown,
+    };
+    Ok(Mirror::plain(alloc, BaseMirror::Executable(executable)))
+}
+
+// ---- types
+
+fn variables(alloc: Global, parameters: &[ElementRef]) -> Result<List<Mirror>, NoMemory>
+    ensures { IfOk result (λ list. list ≡ own_arguments parameters.now) }
+{
+    let mut list = List::new(alloc);
+    for each in parameters {
+        let one = variable(alloc, each)?;
+        list.push(one)?;
+    }
+    Ok(list)
+}
+
+/// A type with its own type parameters as arguments.
+pub(crate) fn own_type(alloc: Global, table: &Table, at: &ElementRef) -> Result<Mirror, NoMemory>
+    ensures { IfOk result (λ m. m ≡ own_type table.now at.now) }
+{
+    let parameters = type_parameters(alloc, table, at)?;
+    let arguments = variables(alloc, parameters.as_slice())?;
+    let element = at.copy(alloc)?;
+    Ok(class_type(alloc, element, arguments))
+}
+
+// The type around an element.
+fn enclosing_type(alloc: Global, table: &Table, at: &ElementRef) -> Result<Mirror, NoMemory>
+    ensures { IfOk result (λ m. m ≡ own_type table.now (elements.around_of table.now at.now)) }
+{
+    let around = around_of(alloc, table, at)?;
+    own_type(alloc, table, &around)
+}
+
+// ---- methods and constructors
+
+fn parameter_types(
+    alloc: Global,
+    table: &Table,
+    at: &ElementRef,
+    parameters: &[Param],
+) -> Result<List<Mirror>, NoMemory>
+    requires { IsElement table.now at.now }
+    ensures { IfOk result (λ list. list ≡ parameter_types table.now at.now parameters.now) }
+{
+    let mut list = List::new(alloc);
+    for each in parameters {
+        let one = resolve_type(alloc, table, at, &each.of)?;
+        list.push(one)?;
+    }
+    Ok(list)
+}
+
+fn written_types(
+    alloc: Global,
+    table: &Table,
+    at: &ElementRef,
+    texts: &[TypeText],
+) -> Result<List<Mirror>, NoMemory>
+    requires { IsElement table.now at.now }
+    ensures { IfOk result (λ list. list ≡ written_types table.now at.now texts.now) }
+{
+    let mut list = List::new(alloc);
+    for each in texts {
+        let one = resolve_type(alloc, table, at, each)?;
+        list.push(one)?;
+    }
+    Ok(list)
+}
+
+fn executable_type(
+    alloc: Global,
+    table: &Table,
+    at: &ElementRef,
+    parameters: &[Param],
+    outcome: Mirror,
+    thrown: &[TypeText],
+) -> Result<Mirror, NoMemory>
+    requires { IsElement table.now at.now }
+    ensures { IfOk result (λ m. m ≡ executable_type table.now at.now parameters.now outcome thrown.now) }
+{
+    let variables = type_parameters(alloc, table, at)?;
+    let parameters = parameter_types(alloc, table, at, parameters)?;
+    let thrown = written_types(alloc, table, at, thrown)?;
+    executable(alloc, variables, parameters, outcome, thrown)
+}
+
+fn method_type(
+    alloc: Global,
+    table: &Table,
+    at: &ElementRef,
+    method: &MethodDecl,
+) -> Result<Mirror, NoMemory>
+    requires { IsElement table.now at.now }
+    ensures { IfOk result (λ m. m ≡ member_type table.now at.now (Member-F.Method method.now)) }
+{
+    let outcome = resolve_type(alloc, table, at, &method.result)?;
+    let parameters = method.arguments.as_slice();
+    let thrown = method.thrown.as_slice();
+    executable_type(alloc, table, at, parameters, outcome, thrown)
+}
+
+fn constructor_type(
+    alloc: Global,
+    table: &Table,
+    at: &ElementRef,
+    constructor: &ConstructorDecl,
+) -> Result<Mirror, NoMemory>
+    requires { IsElement table.now at.now }
+    ensures { IfOk result (λ m. m ≡ member_type table.now at.now (Member-F.Constructor constructor.now)) }
+{
+    let outcome = void(alloc);
+    let parameters = constructor.arguments.as_slice();
+    let thrown = constructor.thrown.as_slice();
+    executable_type(alloc, table, at, parameters, outcome, thrown)
+}
+
+fn member_type(
+    alloc: Global,
+    table: &Table,
+    at: &ElementRef,
+    member: &Member,
+) -> Result<Mirror, NoMemory>
+    requires { IsElement table.now at.now }
+    ensures { IfOk result (λ m. m ≡ member_type table.now at.now (out-Member member.now)) }
+{
+    match member {
+        Member::Field(field) => resolve_type(alloc, table, at, &field.of),
+        Member::Method(method) => method_type(alloc, table, at, method),
+        Member::Constructor(constructor) => constructor_type(alloc, table, at, constructor),
+        Member::Constant(_) => enclosing_type(alloc, table, at),
+        Member::Nested(_) => own_type(alloc, table, at),
+    }
+}
+
+// ---- what no source has
+
+// The type that was found, without arguments.
+fn found_type(alloc: Global, found: &Found<'_>) -> Result<Mirror, NoMemory>
+    ensures { IfOk result (λ m. m ≡ found_mirror (One (find_of found.now)) [] None []) }
+{
+    let unit = unit_name(alloc, found.unit)?;
+    let path = List::from_vec(Vec::from_slice(alloc, found.path.as_slice())?);
+    let element = ElementRef { unit, path };
+    match type_at(found) {
+        None => Ok(Mirror::plain(alloc, BaseMirror::Variable(element))),
+        Some(_) => Ok(class_type(alloc, element, List::new(alloc))),
+    }
+}
+
+// The type of this name among the stubs, or the error type with that text.
+#[tactic(auto, unfolding(crate::specs::Named::stub_named))]
+fn stub_type(alloc: Global, table: &Table, name: &str) -> Result<Mirror, NoMemory>
+    ensures { IfOk result (λ m. m ≡ stub_named table.now name.now) }
+{
+    let name = Name::new(alloc, name)?;
+    match top_level(alloc, table, Part::Stub, &name) {
+        Finds::One(found) => found_type(alloc, &found),
+        Finds::Nothing => Ok(Mirror::plain(alloc, BaseMirror::Error(name))),
+        Finds::Several => Ok(Mirror::plain(alloc, BaseMirror::Error(name))),
+    }
+}
+
+fn string(alloc: Global, table: &Table) -> Result<Mirror, NoMemory>
+    ensures { IfOk result (λ m. m ≡ string table.now) }
+{
+    stub_type(alloc, table, "java.lang.String")
+}
+
+fn default_constructor_type(alloc: Global) -> Result<Mirror, NoMemory>
+    ensures { IfOk result (λ m. m ≡ executable_mirror [] [] (mirror_of layers.Void) []) }
+{
+    executable(
+        alloc,
+        List::new(alloc),
+        List::new(alloc),
+        void(alloc),
+        List::new(alloc),
+    )
+}
+
+fn values_type(alloc: Global, table: &Table, at: &ElementRef) -> Result<Mirror, NoMemory>
+    ensures { IfOk result (λ m. m ≡ node_type table.now at.now Values) }
+{
+    let constant = enclosing_type(alloc, table, at)?;
+    let outcome = array_of(alloc, constant)?;
+    executable(
+        alloc,
+        List::new(alloc),
+        List::new(alloc),
+        outcome,
+        List::new(alloc),
+    )
+}
+
+fn value_of_type(alloc: Global, table: &Table, at: &ElementRef) -> Result<Mirror, NoMemory>
+    ensures { IfOk result (λ m. m ≡ node_type table.now at.now ValueOf) }
+{
+    let mut parameters = List::new(alloc);
+    let name = string(alloc, table)?;
+    parameters.push(name)?;
+    let outcome = enclosing_type(alloc, table, at)?;
+    executable(
+        alloc,
+        List::new(alloc),
+        parameters,
+        outcome,
+        List::new(alloc),
+    )
+}
+
+// ---- all elements
+
+#[tactic(auto, unfolding(type_layers::specs::Layers::mirror_of))]
+fn package_type(alloc: Global, table: &Table, at: &ElementRef) -> Result<Mirror, NoMemory>
+    ensures { IfOk result (λ m. m ≡ mirror_of (layers.Package (elements.canonical_name table.now at.now))) }
+{
+    let name = canonical_name(alloc, table, at)?;
+    Ok(Mirror::plain(alloc, BaseMirror::Package(name)))
+}
+
+fn node_type(
+    alloc: Global,
+    table: &Table,
+    at: &ElementRef,
+    place: Place<'_>,
+) -> Result<Mirror, NoMemory>
+    requires { node_at table.now at.now ≡ Some (node_of place) }
+    ensures { IfOk result (λ m. m ≡ node_type table.now at.now (node_of place.entry)) }
+{
+    match place {
+        Place::Package(_) => package_type(alloc, table, at),
+        Place::Top(_) => own_type(alloc, table, at),
+        Place::Inside(_, member) => member_type(alloc, table, at, member),
+        Place::TypeParameter(_) => variable(alloc, at),
+        Place::Parameter(parameter) => resolve_type(alloc, table, at, &parameter.of),
+        Place::DefaultConstructor(_, _) => default_constructor_type(alloc),
+        Place::Values => values_type(alloc, table, at),
+        Place::ValueOf => value_of_type(alloc, table, at),
+        Place::ValueOfName => string(alloc, table),
+    }
+}
+
+/// The type of what stands there, or `NoSuch`.
+#[tactic(auto, using(crate::proofs::TypesAtElements::typed))]
+pub(crate) fn element_type(
+    alloc: Global,
+    table: &Table,
+    at: &ElementRef,
+) -> Result<Mirror, QueryFault>
+    ensures { Gives result (type_question table.now at.now) }
+{
+    match place_of(table, at) {
+        None => Err(QueryFault::NoSuch),
+        Some(place) => {
+            let mirror = node_type(alloc, table, at, place)?;
+            Ok(mirror)
+        }
+    }
+}
