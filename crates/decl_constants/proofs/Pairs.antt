@@ -24,15 +24,15 @@ dims-fewer (s ∷ m ∷ us) rest c is there behind = omega (arith, ap length beh
 
 -- ---- names that dots join
 
-pub chain-goes : (t next : List ℕ) (ss rest : List Symbol) (o : Option Symbol) (n : Symbol) (total : Option (List ℕ)) → o ≡ dotted_name ss → o ≡ Some n → rest ≡ behind_two ss → next ≡ (t ++ codes ".") ++ n.text.now → chain_from t ss ≡ total → chain_from next rest ≡ total
+pub chain-goes : (t next : List ℕ) (ss rest : List Symbol) (o : Option Symbol) (n : Symbol) (total : Option (List ℕ)) → o ≡ dotted_name ss → o ≡ Some n → rest ≡ behind_two ss → next ≡ (t ++ codes ".") ++ n.text → chain_from t ss ≡ total → chain_from next rest ≡ total
 chain-goes t next [] rest o n total is some behind grown so_far = absurd cc
 chain-goes t next (s ∷ []) rest o n total is some behind grown so_far = absurd cc
 chain-goes t next (s ∷ m ∷ us) rest o n total is some behind grown so_far = go (is_dot_name s m) (sym is ∙ some) so_far
   where
-    go : (c : Bool) → cond c (Some m) None ≡ Some n → cond c (chain_from ((t ++ codes ".") ++ m.text.now) us) None ≡ total → chain_from next rest ≡ total
+    go : (c : Bool) → cond c (Some m) None ≡ Some n → cond c (chain_from ((t ++ codes ".") ++ m.text) us) None ≡ total → chain_from next rest ≡ total
     go true e f =
         let same : m ≡ n = cc in
-        ap (λ (x : List ℕ). chain_from x rest) grown ∙ (ap (chain_from ((t ++ codes ".") ++ n.text.now)) behind ∙ (ap (λ (x : Symbol). chain_from ((t ++ codes ".") ++ x.text.now) us) (sym same) ∙ f))
+        ap (λ (x : List ℕ). chain_from x rest) grown ∙ (ap (chain_from ((t ++ codes ".") ++ n.text)) behind ∙ (ap (λ (x : Symbol). chain_from ((t ++ codes ".") ++ x.text) us) (sym same) ∙ f))
     go false e f = absurd cc
 
 pub chain-ends : (t : List ℕ) (ss : List Symbol) (o : Option Symbol) (total : Option (List ℕ)) → o ≡ dotted_name ss → o ≡ None → chain_from t ss ≡ total → text_alone t ss ≡ total
@@ -40,7 +40,7 @@ chain-ends t [] o total is none so_far = so_far
 chain-ends t (s ∷ []) o total is none so_far = so_far
 chain-ends t (s ∷ m ∷ us) o total is none so_far = go (is_dot_name s m) (sym is ∙ none) so_far
   where
-    go : (c : Bool) → cond c (Some m) None ≡ None → cond c (chain_from ((t ++ codes ".") ++ m.text.now) us) None ≡ total → None ≡ total
+    go : (c : Bool) → cond c (Some m) None ≡ None → cond c (chain_from ((t ++ codes ".") ++ m.text) us) None ≡ total → None ≡ total
     go true e f = absurd cc
     go false e f = f
 
@@ -64,15 +64,15 @@ class-ends of items (s ∷ m ∷ us) c total is none so_far = go (dim_here (s �
     go true e f = absurd cc
     go false e f = f
 
-pub named-goes : (parts next : List NamedPart) (ss rest : List Symbol) (o : Option Symbol) (n : Symbol) (total : Option TypeText) → o ≡ dotted_name ss → o ≡ Some n → rest ≡ behind_two ss → next ≡ parts ++ name_part n.text.now ∷ [] → class_named parts ss ≡ total → class_named next rest ≡ total
+pub named-goes : (parts next : List NamedPart) (ss rest : List Symbol) (o : Option Symbol) (n : Symbol) (total : Option TypeText) → o ≡ dotted_name ss → o ≡ Some n → rest ≡ behind_two ss → next ≡ parts ++ name_part n.text ∷ [] → class_named parts ss ≡ total → class_named next rest ≡ total
 named-goes parts next [] rest o n total is some behind grown so_far = absurd cc
 named-goes parts next (s ∷ []) rest o n total is some behind grown so_far = absurd cc
 named-goes parts next (s ∷ m ∷ us) rest o n total is some behind grown so_far = go (is_dot_name s m) (sym is ∙ some) so_far
   where
-    go : (c : Bool) → cond c (Some m) None ≡ Some n → cond c (class_named (parts ++ name_part m.text.now ∷ []) us) (class_end (base.Named parts) [] (s ∷ m ∷ us)) ≡ total → class_named next rest ≡ total
+    go : (c : Bool) → cond c (Some m) None ≡ Some n → cond c (class_named (parts ++ name_part m.text ∷ []) us) (class_end (base.Named parts) [] (s ∷ m ∷ us)) ≡ total → class_named next rest ≡ total
     go true e f =
         let same : m ≡ n = cc in
-        ap (λ (x : List NamedPart). class_named x rest) grown ∙ (ap (class_named (parts ++ name_part n.text.now ∷ [])) behind ∙ (ap (λ (x : Symbol). class_named (parts ++ name_part x.text.now ∷ []) us) (sym same) ∙ f))
+        ap (λ (x : List NamedPart). class_named x rest) grown ∙ (ap (class_named (parts ++ name_part n.text ∷ [])) behind ∙ (ap (λ (x : Symbol). class_named (parts ++ name_part x.text ∷ []) us) (sym same) ∙ f))
     go false e f = absurd cc
 
 pub named-ends : (parts : List NamedPart) (ss : List Symbol) (o : Option Symbol) (total : Option TypeText) → o ≡ dotted_name ss → o ≡ None → class_named parts ss ≡ total → class_end (base.Named parts) [] ss ≡ total
@@ -80,7 +80,7 @@ named-ends parts [] o total is none so_far = so_far
 named-ends parts (s ∷ []) o total is none so_far = so_far
 named-ends parts (s ∷ m ∷ us) o total is none so_far = go (is_dot_name s m) (sym is ∙ none) so_far
   where
-    go : (c : Bool) → cond c (Some m) None ≡ None → cond c (class_named (parts ++ name_part m.text.now ∷ []) us) (class_end (base.Named parts) [] (s ∷ m ∷ us)) ≡ total → class_end (base.Named parts) [] (s ∷ m ∷ us) ≡ total
+    go : (c : Bool) → cond c (Some m) None ≡ None → cond c (class_named (parts ++ name_part m.text ∷ []) us) (class_end (base.Named parts) [] (s ∷ m ∷ us)) ≡ total → class_end (base.Named parts) [] (s ∷ m ∷ us) ≡ total
     go true e f = absurd cc
     go false e f = f
 

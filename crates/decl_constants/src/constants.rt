@@ -2,7 +2,7 @@
 ghost use Rattle.std.specs.Prelude.{◌≡◌, ◌<◌, ◌≤◌, [], List, length, if◌then◌else◌, ◌+◌, IfOk, MatchResult, Some, None, string_bytes, drop};
 ghost use Rattle.std.specs.List.{position_or_len};
 ghost use Rattle.decl_grammar.specs.Reading.{UnlessMemory};
-ghost use Rattle.decl_grammar.specs.Constants.{is_name, is_literal, is_numeral, is_plus, dotted_name, TwoRead, text_alone, dim_here, class_here, type_of, chain_from, chain_of, class_end, class_named, class_primitive, class_void, class_of, literal_of, negated_of, plain_of, parts_of, two_or_more, joined_of, constant_of, expression_of, name_part};
+ghost use Rattle.decl_grammar.specs.Constants.{is_name, is_literal, is_numeral, is_plus, dotted_name, symbol_seen, TwoRead, text_alone, dim_here, class_here, type_of, chain_from, chain_of, class_end, class_named, class_primitive, class_void, class_of, literal_of, negated_of, plain_of, parts_of, two_or_more, joined_of, constant_of, expression_of, name_part};
 ghost use Rattle.decl_tree.specs.declared.annotation.ValueText.TheVariants as value;
 ghost use Rattle.decl_grammar.specs.declared.fault.ReadFault.TheVariants as faults;
 
@@ -38,8 +38,8 @@ fn is_numeral_symbol(symbol: &Symbol<'_>) -> bool
 // The name behind the dot that stands first, where there are such, and what is behind the first two symbols. It gives no fault.
 fn dotted_step<'a, 's>(
     symbols: &'s [Symbol<'a>],
-) -> Result<(Option<Symbol<'a>>, &'s [Symbol<'a>]), ReadFault>
-    ensures { MatchResult result (λ x. TwoRead x.0 (dotted_name symbols.now) x.1.now symbols.now) (λ e. ⊥) }
+) -> Result<(Option<&'s Symbol<'a>>, &'s [Symbol<'a>]), ReadFault>
+    ensures { MatchResult result (λ x. TwoRead (symbol_seen x.0) (dotted_name symbols.now) x.1.now symbols.now) (λ e. ⊥) }
 {
     match symbols {
         [] => Ok((None, symbols)),
@@ -47,7 +47,7 @@ fn dotted_step<'a, 's>(
             [] => Ok((None, behind)),
             [name, after @ ..] => {
                 if dot.sort == 69 && is_name_symbol(name) {
-                    return Ok((Some(*name), after));
+                    return Ok((Some(name), after));
                 }
                 Ok((None, after))
             }
@@ -80,7 +80,7 @@ fn chain_behind<'a, 's>(
         match next {
             Some(name) => {
                 text.push_str(".")?;
-                text.push_str(name.text)?;
+                text.push_str(name.text.as_str())?;
             }
             None => return Ok(text_alone_of(alloc, text, rest)),
         }
@@ -98,7 +98,7 @@ fn chain_in(alloc: Global, symbols: &[Symbol<'_>]) -> Result<Option<Name>, ReadF
             if !is_name_symbol(first) {
                 return Ok(None);
             }
-            let front = String::from_str(alloc, first.text)?;
+            let front = String::from_str(alloc, first.text.as_str())?;
             chain_behind(alloc, front, rest)
         }
     }
@@ -180,7 +180,7 @@ fn class_named_of<'a, 's>(
     'row: loop {
         let (next, after) = dotted_step(rest)?;
         match next {
-            Some(name) => parts.push(part_of(alloc, name.text)?)?,
+            Some(name) => parts.push(part_of(alloc, name.text.as_str())?)?,
             None => return class_end_of(alloc, BaseType::Named(List::from_vec(parts)), rest),
         }
         rest = after;
@@ -221,7 +221,7 @@ fn class_in(alloc: Global, symbols: &[Symbol<'_>]) -> Result<Option<TypeText>, R
         [first, rest @ ..] => {
             if is_name_symbol(first) {
                 let mut parts = Vec::new(alloc);
-                parts.push(part_of(alloc, first.text)?)?;
+                parts.push(part_of(alloc, first.text.as_str())?)?;
                 return class_named_of(alloc, parts, rest);
             }
             if first.sort == 57 {
@@ -239,7 +239,7 @@ fn literal_in(alloc: Global, symbols: &[Symbol<'_>]) -> Result<Option<ValueText>
     match symbols {
         [only] => {
             if is_literal_symbol(only) {
-                return Ok(Some(ValueText::Literal(Name::new(alloc, only.text)?)));
+                return Ok(Some(ValueText::Literal(Name::new(alloc, only.text.as_str())?)));
             }
             Ok(None)
         }
@@ -254,7 +254,7 @@ fn negated_in(alloc: Global, symbols: &[Symbol<'_>]) -> Result<Option<ValueText>
     match symbols {
         [sign, numeral] => {
             if sign.sort == 90 && is_numeral_symbol(numeral) {
-                return Ok(Some(ValueText::Negated(Name::new(alloc, numeral.text)?)));
+                return Ok(Some(ValueText::Negated(Name::new(alloc, numeral.text.as_str())?)));
             }
             Ok(None)
         }

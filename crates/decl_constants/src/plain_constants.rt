@@ -49,14 +49,14 @@ fn read_literal<'a, 's>(symbols: &'s [Symbol<'a>]) -> Result<&'s [Symbol<'a>], R
 #[tactic(auto, unfolding(decl_grammar::specs::Reading::one_at))]
 fn read_numeral<'a, 's>(
     symbols: &'s [Symbol<'a>],
-) -> Result<(Symbol<'a>, &'s [Symbol<'a>]), ReadFault>
-    ensures { Gives (λ x. (x.0, x.1.now)) result (one_at (2 ∷ 3 ∷ []) symbols.now) }
+) -> Result<(&'s Symbol<'a>, &'s [Symbol<'a>]), ReadFault>
+    ensures { Gives (λ x. (x.0.now, x.1.now)) result (one_at (2 ∷ 3 ∷ []) symbols.now) }
 {
     match symbols {
         [] => Err(ReadFault::Bad(0)),
         [symbol, rest @ ..] => {
             if symbol.sort == 2 || symbol.sort == 3 {
-                return Ok((*symbol, rest));
+                return Ok((symbol, rest));
             }
             Err(ReadFault::Bad(symbols.len()))
         }
@@ -112,8 +112,8 @@ fn more_plus_of<'a, 's>(
 fn bare_dim_of<'a, 's>(
     room: usize,
     symbols: &'s [Symbol<'a>],
-) -> Result<(Symbol<'a>, &'s [Symbol<'a>]), ReadFault>
-    ensures { Gives (λ x. (x.0, x.1.now)) result (reads room bare_dim symbols.now) }
+) -> Result<(&'s Symbol<'a>, &'s [Symbol<'a>]), ReadFault>
+    ensures { Gives (λ x. (x.0.now, x.1.now)) result (reads room bare_dim symbols.now) }
 {
     let (_, rest) = one(symbols, 65)?;
     one(rest, 66)
@@ -139,8 +139,8 @@ fn more_bare_dims_of<'a, 's>(
 fn dot_class_of<'a, 's>(
     room: usize,
     symbols: &'s [Symbol<'a>],
-) -> Result<(Symbol<'a>, &'s [Symbol<'a>]), ReadFault>
-    ensures { Gives (λ x. (x.0, x.1.now)) result (reads room dot_class symbols.now) }
+) -> Result<(&'s Symbol<'a>, &'s [Symbol<'a>]), ReadFault>
+    ensures { Gives (λ x. (x.0.now, x.1.now)) result (reads room dot_class symbols.now) }
 {
     let (_, rest) = one(symbols, 69)?;
     one(rest, 18)
@@ -151,8 +151,8 @@ fn dot_class_of<'a, 's>(
 fn dims_class_of<'a, 's>(
     room: usize,
     symbols: &'s [Symbol<'a>],
-) -> Result<(Symbol<'a>, &'s [Symbol<'a>]), ReadFault>
-    ensures { Gives (λ x. (x.0, x.1.now)) result (reads room dims_class symbols.now) }
+) -> Result<(&'s Symbol<'a>, &'s [Symbol<'a>]), ReadFault>
+    ensures { Gives (λ x. (x.0.now, x.1.now)) result (reads room dims_class symbols.now) }
 {
     let rest = more_bare_dims_of(room, symbols)?;
     dot_class_of(room, rest)
@@ -163,8 +163,8 @@ fn dims_class_of<'a, 's>(
 fn array_class_of<'a, 's>(
     room: usize,
     symbols: &'s [Symbol<'a>],
-) -> Result<(Symbol<'a>, &'s [Symbol<'a>]), ReadFault>
-    ensures { Gives (λ x. (x.0, x.1.now)) result (reads room array_class symbols.now) }
+) -> Result<(&'s Symbol<'a>, &'s [Symbol<'a>]), ReadFault>
+    ensures { Gives (λ x. (x.0.now, x.1.now)) result (reads room array_class symbols.now) }
 {
     let (_, rest) = bare_dim_of(room, symbols)?;
     dims_class_of(room, rest)

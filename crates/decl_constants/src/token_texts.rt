@@ -14,7 +14,7 @@ fn add_spaced(text: &mut String, symbol: &Symbol<'_>) -> Result<(), NoMemory>
         return Ok(());
     }
     text.push_str(" ")?;
-    text.push_str(symbol.text)?;
+    text.push_str(symbol.text.as_str())?;
     Ok(())
 }
 
@@ -38,7 +38,7 @@ pub fn joined_text(alloc: Global, symbols: &[Symbol<'_>]) -> Result<Name, NoMemo
     match symbols {
         [] => Name::new(alloc, ""),
         [first, rest @ ..] => {
-            let front = String::from_str(alloc, first.text)?;
+            let front = String::from_str(alloc, first.text.as_str())?;
             let text = spaced_behind(front, rest)?;
             Ok(Name::from_string(alloc, text))
         }

@@ -2,9 +2,10 @@
 use Rattle.std.proofs.Common.{◌≡◌, ℕ, zero, suc, true, List, [], ◌∷◌, ◌++◌, ◌⊎◌, refl, sym, subst, ◌∙◌, inl, inr}
 use Rattle.decl_tree.specs.declared.type_text.Around.{Around}
 use Rattle.decl_grammar.specs.declared.symbol.Symbol.{Symbol}
+use Rattle.decl_grammar.specs.declared.written.NameAt.{NameAt}
 use Rattle.decl_grammar.specs.Reading.{has}
 use Rattle.decl_grammar.specs.Form.{Nest, opened, assigned, value_end, initialiser, Form, pair, many, nest, Is, Begins}
-use Rattle.decl_grammar.specs.Types.{sign, behind, name, dim, annotations, annotation, annotation_body, annotation_arguments, name_chain, dot_name, pairs_or_value, first_pair, named_text}
+use Rattle.decl_grammar.specs.Types.{sign, behind, name, name_at, dim, annotations, annotation, annotation_body, annotation_arguments, name_chain, dot_name, pairs_or_value, first_pair, named_text}
 use Rattle.decl_grammar.specs.Expressions.{assigned_end, value_or_end}
 use Rattle.decl_grammar.specs.Rule.{WholeAt, BegunAt}
 use Rattle.decl_grammar.proofs.OneToken.{within-has}
@@ -68,13 +69,11 @@ dims-opened : (h : ℕ) (us : List Symbol) (n : ℕ) → Begins (WholeAt h) (Beg
 unfolding dim annotations annotation annotation_body annotation_arguments name_chain dot_name name pairs_or_value first_pair named_text
 dims-opened h us n b = form-opened (WholeAt h) (BegunAt h) (levels-at h) (opened-at h) in_arguments (many dim) us n b
 
-name-level : (h : ℕ) (us : List Symbol) (x : List ℕ) → Is (WholeAt h) name us x → Levels in_arguments level us
-unfolding name
-name-level h us x is = form-levels (WholeAt h) (levels-at h) in_arguments name us x is
+name-level : (h : ℕ) (us : List Symbol) (x : NameAt) → Is (WholeAt h) name_at us x → Levels in_arguments level us
+name-level h us x is = form-levels (WholeAt h) (levels-at h) in_arguments name_at us x is
 
-name-opened : (h : ℕ) (us : List Symbol) (n : ℕ) → Begins (WholeAt h) (BegunAt h) name us n → Opened in_arguments level us
-unfolding name
-name-opened h us n b = form-opened (WholeAt h) (BegunAt h) (levels-at h) (opened-at h) in_arguments name us n b
+name-opened : (h : ℕ) (us : List Symbol) (n : ℕ) → Begins (WholeAt h) (BegunAt h) name_at us n → Opened in_arguments level us
+name-opened h us n b = form-opened (WholeAt h) (BegunAt h) (levels-at h) (opened-at h) in_arguments name_at us n b
 
 abbrev NoEnd : ℕ → Type 0
 NoEnd h = (d : ℕ) (us : List Symbol) (r : Symbol) (rs : List Symbol) (n : ℕ) → Leads us (lists d) [] → BegunAt h (value_end assigned) (us ++ r ∷ rs) n → ⊥
@@ -84,8 +83,8 @@ unfolding value_or_end
 no-rest h ih d us r rs n l (inl b) = no-value h d us r rs n l b
 no-rest h ih d us r rs n l (inr b) = ih (suc d) us r rs n l (nest-begun h (value_end assigned) (λ k. refl) us r rs n b)
 
-no-declarator : (h : ℕ) → NoEnd h → (d : ℕ) (us : List Symbol) (r : Symbol) (rs : List Symbol) (n : ℕ) → Leads us (lists (suc d)) [] → Begins (WholeAt h) (BegunAt h) (pair name (pair (many dim) value_or_end)) (us ++ r ∷ rs) n → ⊥
-no-declarator h ih d us r rs n l (inl b) = opened-never h name level refl d us r rs l (name-opened h (us ++ r ∷ rs) n b)
+no-declarator : (h : ℕ) → NoEnd h → (d : ℕ) (us : List Symbol) (r : Symbol) (rs : List Symbol) (n : ℕ) → Leads us (lists (suc d)) [] → Begins (WholeAt h) (BegunAt h) (pair name_at (pair (many dim) value_or_end)) (us ++ r ∷ rs) n → ⊥
+no-declarator h ih d us r rs n l (inl b) = opened-never h name_at level refl d us r rs l (name-opened h (us ++ r ∷ rs) n b)
 no-declarator h ih d us r rs n l (inr q) =
     let f = level-further level refl d us r rs q.0 q.1 q.3 l (name-level h q.0 q.2 q.4) in
     behind-name f.0 f.2 (subst (λ (u : List Symbol). Begins (WholeAt h) (BegunAt h) (pair (many dim) value_or_end) u n) f.1 q.5)
@@ -117,4 +116,4 @@ no-end (suc h) d us r rs n l (inl b) = one-sort d (67 ∷ []) us r rs l b.1
 no-end (suc h) d us r rs n l (inr (inl b)) = one-sort d (68 ∷ []) us r rs l b.1
 no-end (suc h) d us r rs n l (inr (inr q)) =
     let f = comma-first d us r rs q.0 q.1 q.2 q.3 q.4.0 q.4.1 l in
-    no-declarator h (no-end h) f.0 f.1 r rs n f.3 (subst (λ (u : List Symbol). Begins (WholeAt h) (BegunAt h) (pair name (pair (many dim) value_or_end)) u n) f.2 q.5)
+    no-declarator h (no-end h) f.0 f.1 r rs n f.3 (subst (λ (u : List Symbol). Begins (WholeAt h) (BegunAt h) (pair name_at (pair (many dim) value_or_end)) u n) f.2 q.5)

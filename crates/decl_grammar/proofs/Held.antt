@@ -3,19 +3,20 @@ use Rattle.std.proofs.Common.{◌≡◌, ℕ, zero, suc, ◌≤◌, ◌+◌, ari
 use Rattle.decl_grammar.specs.declared.symbol.Symbol.{Symbol}
 use Rattle.decl_grammar.specs.Reading.{has}
 use Rattle.decl_grammar.specs.Form.{Stands, Part, is_value, opened, alone, paired, listed, defaulted, assigned, one_of, bracketed, arguments, annotated, created, type_reference, tested, tested_name, tested_dim, type_arguments, created_arguments, array_value, nested_annotation, first_name, constant_value, expression_part, nested_type, modifiers, plain_modifiers, static_word, import_rest, enum_rest, param_rest, first_rest, value_and_rest, expression_rest, initialiser, value_end, constant_items, constant_chain, pair, many, nest, Begins}
-use Rattle.decl_grammar.specs.Types.{sign, name, dot_name, name_chain, dim}
+use Rattle.decl_grammar.specs.Types.{sign, name, name_at, dot_name, name_chain, dim}
 use Rattle.decl_grammar.specs.Expressions.{annotation_over, annotated_form, value_or_end, assigned_end}
 use Rattle.decl_grammar.specs.Rule.{rule, WholeAt, BegunAt}
 use Rattle.decl_grammar.proofs.OneToken.{both, within-has}
 use Rattle.decl_grammar.proofs.OpenBrackets.{stops, reference_stops, Leads}
-use Rattle.decl_grammar.proofs.Effects.{in_arguments, level, Levels}
+use Rattle.decl_grammar.proofs.Effects.{in_arguments, level, Levels, Mode, in_brackets, in_constant, in_reference, effect}
 use Rattle.decl_grammar.proofs.EffectLemmas.{form-levels}
 use Rattle.decl_grammar.proofs.Closed.{levels-at}
 use Rattle.decl_grammar.proofs.Crossing.{same, same-value}
-use Rattle.decl_grammar.proofs.TypeEnds.{flat-open}
+use Rattle.decl_grammar.proofs.TypeEnds.{flat, flat-open}
 use Rattle.decl_grammar.proofs.TypeParts.{lists, no-reference}
-use Rattle.decl_grammar.proofs.Planted.{level-name, level-dims}
-use Rattle.decl_grammar.proofs.TypesHeld.{Held, extra, held-more, holds-dims, holds-flat, holds-list, holds-mark, holds-pair, holds-reference, name-flat, none-held}
+use Rattle.decl_grammar.proofs.Plants.{angular}
+use Rattle.decl_grammar.proofs.Planted.{level-dims}
+use Rattle.decl_grammar.proofs.TypesHeld.{Held, extra, held-more, holds-dims, holds-flat, holds-list, holds-mark, holds-pair, holds-reference, none-held}
 use Rattle.decl_grammar.proofs.RowForms.{HeldNests, form-holds, held_part, holds, list-second, reached, stops-there}
 use Rattle.decl_grammar.proofs.RowHolds.{closes-row, rest-holds, value-holds}
 
@@ -33,13 +34,22 @@ rest-held h ih d us n ms l (inl (inl b)) = none-held 0 d us n b.0
 rest-held h ih d us n ms l (inl (inr q)) = absurd (equals-stops d q.0 q.1 ms q.2 (subst (λ (u : List Symbol). Leads u (lists d) ms) q.3 l) q.4.0 q.4.1)
 rest-held h ih d us n ms l (inr b) = ih d us n ms l b
 
-declarator-held : (h : ℕ) → EndHeld h → (d : ℕ) (us : List Symbol) (n : ℕ) (ms : List ℕ) → Leads us (lists d) ms → Begins (WholeAt h) (BegunAt h) (pair name (pair (many dim) value_or_end)) us n → Held 0 d us n
+level-name-at : (b : Mode) → angular b ≡ true → effect b name_at ≡ level
+level-name-at in_arguments e = refl
+level-name-at in_reference e = refl
+level-name-at in_brackets e = absurd cc
+level-name-at in_constant e = absurd cc
+
+name-at-flat : flat name_at ≡ true
+name-at-flat = refl
+
+declarator-held : (h : ℕ) → EndHeld h → (d : ℕ) (us : List Symbol) (n : ℕ) (ms : List ℕ) → Leads us (lists d) ms → Begins (WholeAt h) (BegunAt h) (pair name_at (pair (many dim) value_or_end)) us n → Held 0 d us n
 declarator-held h ih =
-    holds-pair h name (pair (many dim) value_or_end) level-name (holds-flat h name name-flat)
+    holds-pair h name_at (pair (many dim) value_or_end) level-name-at (holds-flat h name_at name-at-flat)
     (holds-pair h (many dim) value_or_end level-dims (holds-dims h) (rest-held h ih))
 
 comma-second : (h : ℕ) → EndHeld h → (d : ℕ) (us : List Symbol) (n : ℕ) (ms : List ℕ) (a c : List Symbol) (x : Symbol) → us ≡ a ++ c → Leads us (lists d) ms → a ≡ x ∷ [] → has (68 ∷ []) x.sort ≡ true
-    → Begins (WholeAt h) (BegunAt h) (pair name (pair (many dim) value_or_end)) c n → Held 0 d us n
+    → Begins (WholeAt h) (BegunAt h) (pair name_at (pair (many dim) value_or_end)) c n → Held 0 d us n
 comma-second h ih zero us n ms a c x s l p k b =
     absurd (no-reference x c [] ms (within-has (68 ∷ []) reference_stops x.sort refl k) (subst (λ (u : List Symbol). Leads (u ++ c) (lists zero) ms) p (subst (λ (u : List Symbol). Leads u (lists zero) ms) s l)))
 comma-second h ih (suc d) us n ms a c x s l p k b =

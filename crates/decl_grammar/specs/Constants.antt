@@ -2,6 +2,7 @@
 use Rattle.std.specs.Prelude.{◌≡◌, ℕ, ◌==◌, ◌&&◌, ◌||◌, nat_le, Bool, false, List, [], ◌∷◌, ◌++◌, Option, None, Some, if◌then◌else◌, codes, map, option_map, option_and_then}
 use Rattle.std.specs.List.{slice_split}
 use Rattle.std.specs.Option.{option_or, option_map_or}
+use Rattle.std.specs.Borrow.{Bor}
 use Rattle.decl_tree.specs.declared.type_text.PrimitiveKind.{PrimitiveKind}
 use Rattle.decl_tree.specs.declared.type_text.PrimitiveKind.TheVariants as primitive
 use Rattle.decl_tree.specs.declared.type_text.Around.{Around}
@@ -43,6 +44,10 @@ dotted_name [] = None
 dotted_name (s ∷ []) = None
 dotted_name (s ∷ n ∷ ss) = if is_dot_name s n then Some n else None
 
+-- a symbol that a function gives, where there is one
+abbrev pub symbol_seen : Option (Bor Symbol) → Option Symbol
+symbol_seen o = option_map (λ s. s.now) o
+
 -- what is behind the first two
 abbrev pub behind_two : List Symbol → List Symbol
 behind_two [] = []
@@ -62,17 +67,17 @@ text_alone t (s ∷ ss) = None
 
 -- the text of a token with a space before it, and nothing for a further part of one
 abbrev pub spaced_one : Symbol → List ℕ
-spaced_one s = if s.further then [] else codes " " ++ s.text.now
+spaced_one s = if s.further then [] else codes " " ++ s.text
 
 -- the texts of the tokens, each with a space before it
 abbrev pub spaced : List Symbol → List ℕ
 spaced [] = []
-spaced (s ∷ ss) = if s.further then spaced ss else codes " " ++ (s.text.now ++ spaced ss)
+spaced (s ∷ ss) = if s.further then spaced ss else codes " " ++ (s.text ++ spaced ss)
 
 -- the texts of the tokens, with a space between any two
 abbrev pub joined : List Symbol → List ℕ
 joined [] = []
-joined (s ∷ ss) = s.text.now ++ spaced ss
+joined (s ∷ ss) = s.text ++ spaced ss
 
 -- a text with names behind it, each with a dot before it
 abbrev pub more_dotted : List ℕ → List (List ℕ) → List ℕ
@@ -85,12 +90,12 @@ more_dotted t (n ∷ ns) = more_dotted ((t ++ codes ".") ++ n) ns
 abbrev pub chain_from : List ℕ → List Symbol → Option (List ℕ)
 chain_from t [] = Some t
 chain_from t (s ∷ []) = None
-chain_from t (s ∷ n ∷ ss) = if is_dot_name s n then chain_from ((t ++ codes ".") ++ n.text.now) ss else None
+chain_from t (s ∷ n ∷ ss) = if is_dot_name s n then chain_from ((t ++ codes ".") ++ n.text) ss else None
 
 -- names, with a dot between any two (JLS 6.5)
 abbrev pub chain_of : List Symbol → Option (List ℕ)
 chain_of [] = None
-chain_of (s ∷ ss) = if is_name s then chain_from s.text.now ss else None
+chain_of (s ∷ ss) = if is_name s then chain_from s.text ss else None
 
 -- the primitive type that the reserved word of this sort is
 abbrev pub primitive_of : ℕ → Option PrimitiveKind
@@ -130,7 +135,7 @@ class_end of items (s ∷ t ∷ ss) = if dim_here (s ∷ t ∷ ss) then class_en
 abbrev pub class_named : List NamedPart → List Symbol → Option TypeText
 class_named parts [] = None
 class_named parts (s ∷ []) = None
-class_named parts (s ∷ n ∷ ss) = if is_dot_name s n then class_named (parts ++ name_part n.text.now ∷ []) ss else class_end (base.Named parts) [] (s ∷ n ∷ ss)
+class_named parts (s ∷ n ∷ ss) = if is_dot_name s n then class_named (parts ++ name_part n.text ∷ []) ss else class_end (base.Named parts) [] (s ∷ n ∷ ss)
 
 abbrev pub class_primitive : Option PrimitiveKind → List Symbol → Option TypeText
 class_primitive None ss = None
@@ -143,20 +148,20 @@ class_void ss = if class_here ss then Some (type_of (base.Primitive primitive.Vo
 -- a class literal (JLS 15.8.2)
 abbrev pub class_of : List Symbol → Option TypeText
 class_of [] = None
-class_of (s ∷ ss) = if is_name s then class_named (name_part s.text.now ∷ []) ss else if is_word 47 s then class_void ss else class_primitive (primitive_of s.sort) ss
+class_of (s ∷ ss) = if is_name s then class_named (name_part s.text ∷ []) ss else if is_word 47 s then class_void ss else class_primitive (primitive_of s.sort) ss
 
 -- ---- values
 
 abbrev pub literal_of : List Symbol → Option ValueText
 literal_of [] = None
-literal_of (s ∷ []) = if is_literal s then Some (value.Literal s.text.now) else None
+literal_of (s ∷ []) = if is_literal s then Some (value.Literal s.text) else None
 literal_of (s ∷ t ∷ ss) = None
 
 -- a numeral with a `-` before it
 abbrev pub negated_of : List Symbol → Option ValueText
 negated_of [] = None
 negated_of (s ∷ []) = None
-negated_of (s ∷ t ∷ []) = if is_operator 29 s && is_numeral t then Some (value.Negated t.text.now) else None
+negated_of (s ∷ t ∷ []) = if is_operator 29 s && is_numeral t then Some (value.Negated t.text) else None
 negated_of (s ∷ t ∷ u ∷ ss) = None
 
 -- a literal, or names that dots join

@@ -6,6 +6,7 @@ use Rattle.decl_tree.specs.declared.annotation.ElementValuePair.{ElementValuePai
 use Rattle.decl_tree.specs.declared.annotation.AnnotationText.{AnnotationText}
 use Rattle.decl_tree.specs.declared.type_text.Around.{Around}
 use Rattle.decl_grammar.specs.declared.written.Declarator.{Declarator}
+use Rattle.decl_grammar.specs.declared.written.NameAt.{NameAt}
 use Rattle.decl_grammar.specs.declared.symbol.Symbol.{Symbol}
 use Rattle.decl_grammar.specs.Symbols.{word, operator, numbers, integer, floating}
 use Rattle.decl_grammar.specs.Reading.{Outcome, done, fault}
@@ -14,7 +15,7 @@ use Rattle.decl_grammar.specs.Constants.{expression_of, joined}
 use Rattle.decl_tree.specs.declared.annotation.ValueText.TheOpen.{ValueText-F}
 use Rattle.decl_tree.specs.declared.annotation.ValueText.TheVariants as value
 use Rattle.decl_grammar.specs.Form.{freedom_in, Stands, Freedom, After, Part, Nest, Behind, Rest, Of, Form, Readers, names, ats, plain_sorts, primitive_sorts, equals, first_names, less_sorts, read, alone, paired, listed, defaulted, assigned, strict, conditional, anywhere, between, name_there, greater, dot, colons, colon_arguments, creation, test, test_name, test_arguments, test_end, one_of, bracketed, arguments, annotated, created, type_reference, tested, tested_name, tested_dim, type_arguments, created_arguments, array_value, nested_annotation, first_name, constant_value, expression_part, nested_type, modifiers, plain_modifiers, static_word, import_rest, enum_rest, param_rest, first_rest, value_and_rest, expression_rest, initialiser, value_end, constant_items, constant_chain, terminal, pair, turn, maybe, many, either, seen, nest, over, attempt}
-use Rattle.decl_grammar.specs.Types.{keyword, sign, behind, before, list_or_none, first_and_rest, name, named_text, name_chain, next_pair, no_pairs, annotation, annotations, no_values, silently, as_written, primitive_type, next_part, dim, type_argument, next_argument, arguments_form}
+use Rattle.decl_grammar.specs.Types.{keyword, sign, behind, before, list_or_none, first_and_rest, name, name_at, named_text, name_chain, next_pair, no_pairs, annotation, annotations, no_values, silently, as_written, primitive_type, next_part, dim, type_argument, next_argument, arguments_form}
 
 -- A row is read together with all that stands behind it, up to the bracket or the `;` that ends it all: while the arguments
 -- of a type may still be a comparison, two readings go on side by side, and the place of a fault is the further one.
@@ -259,7 +260,7 @@ paired_end = either (turn no_pairs (sign 1)) (behind (sign 7) next_pair)
 unfoldable pub listed_more : Form (List ValueText)
 listed_more = either listed_end (behind (sign 7) (either listed_end listed_values))
 
-abbrev pub declarator_of : List ℕ → List Around → Option ValueText → Declarator
+abbrev pub declarator_of : NameAt → List Around → Option ValueText → Declarator
 declarator_of n ds v = record { name = n; dims = ds; constant = v }
 
 abbrev pub no_declarators : Symbol → List Declarator
@@ -272,12 +273,12 @@ without_value ds = (None, ds)
 unfoldable pub value_or_end : Form (Option ValueText × List Declarator)
 value_or_end = either (behind (sign 12) (nest initialiser)) (turn without_value (nest (value_end assigned)))
 
-abbrev pub declarator_first : List ℕ × (List Around × (Option ValueText × List Declarator)) → List Declarator
+abbrev pub declarator_first : NameAt × (List Around × (Option ValueText × List Declarator)) → List Declarator
 declarator_first x = declarator_of x.0 x.1.0 x.1.1.0 ∷ x.1.1.1
 
 -- , Name { [ ] } [= Initialiser] .., or ; (JLS 8.3)
 unfoldable pub assigned_end : Form (List Declarator)
-assigned_end = either (turn no_declarators (sign 6)) (behind (sign 7) (turn declarator_first (pair name (pair (many dim) value_or_end))))
+assigned_end = either (turn no_declarators (sign 6)) (behind (sign 7) (turn declarator_first (pair name_at (pair (many dim) value_or_end))))
 
 abbrev pub end_form : (s : Stands) → Form (Behind s)
 end_form alone = turn silently (sign 1)

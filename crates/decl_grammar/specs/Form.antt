@@ -6,8 +6,8 @@ use Rattle.decl_tree.specs.declared.annotation.ElementValuePair.{ElementValuePai
 use Rattle.decl_tree.specs.declared.annotation.AnnotationText.{AnnotationText}
 use Rattle.decl_tree.specs.declared.type_text.Around.{Around}
 use Rattle.decl_tree.specs.declared.type_text.BaseType.{BaseType}
-use Rattle.decl_tree.specs.declared.member.Param.{Param}
-use Rattle.decl_tree.specs.declared.declaration.Member.{Member}
+use Rattle.decl_grammar.specs.declared.written.ParamAt.{ParamAt}
+use Rattle.decl_grammar.specs.declared.written.MemberAt.{MemberAt}
 use Rattle.decl_tree.specs.declared.compilation.Import.{Import}
 use Rattle.decl_grammar.specs.declared.written.Modifiers.{Modifiers}
 use Rattle.decl_grammar.specs.declared.written.TypeRest.{TypeRest}
@@ -131,7 +131,7 @@ Shape = BaseType × List Around
 
 -- behind the type of a parameter: the brackets there, its end, and the parameters after it and whether the last of them takes any number of arguments
 abbrev pub ParamRest : Type 0
-ParamRest = List Around × (ParamEnd × (List Param × Bool))
+ParamRest = List Around × (ParamEnd × (List ParamAt × Bool))
 
 -- a rest gives an import once the name before it is known
 abbrev pub ImportRest : Type 0
@@ -162,7 +162,7 @@ Of modifiers = Modifiers
 Of plain_modifiers = Modifiers
 Of static_word = Symbol
 Of import_rest = ImportRest
-Of enum_rest = List Member
+Of enum_rest = List MemberAt
 Of param_rest = ParamRest
 Of first_rest = ParamRest
 Of (value_and_rest s) = ValueText × Behind s

@@ -5,21 +5,27 @@ use Rattle.decl_tree.specs.declared.annotation.ValueText.{ValueText}
 use Rattle.decl_tree.specs.declared.annotation.AnnotationText.{AnnotationText}
 use Rattle.decl_tree.specs.declared.type_text.Around.{Around}
 use Rattle.decl_tree.specs.declared.type_text.BaseType.{BaseType}
-use Rattle.decl_tree.specs.declared.member.Param.{Param}
-use Rattle.decl_tree.specs.declared.declaration.Member.{Member}
 use Rattle.decl_tree.specs.declared.compilation.Import.{Import}
 use Rattle.decl_grammar.specs.declared.written.Modifiers.{Modifiers}
 use Rattle.decl_grammar.specs.declared.written.TypeRest.{TypeRest}
 use Rattle.decl_grammar.specs.declared.written.Declarator.{Declarator}
 use Rattle.decl_grammar.specs.declared.written.ParamEnd.{ParamEnd}
+use Rattle.decl_grammar.specs.declared.written.NameAt.{NameAt}
+use Rattle.decl_grammar.specs.declared.written.ParamAt.{ParamAt}
+use Rattle.decl_grammar.specs.declared.written.TypeParamAt.{TypeParamAt}
+use Rattle.decl_grammar.specs.declared.written.MemberAt.{MemberAt}
+use Rattle.decl_grammar.specs.declared.written.TypeAt.{TypeAt}
+use Rattle.decl_grammar.specs.declared.written.Lines.{Lines, roll-Lines}
 use Rattle.decl_grammar.specs.declared.symbol.Symbol.{Symbol}
 use Rattle.decl_grammar.specs.Symbols.{at_interface, operator}
 use Rattle.std.specs.List.{flat_map}
 use Rattle.std.specs.Int.Bits.{bit_or}
 use Rattle.decl_tree.specs.declared.type_text.PrimitiveKind.{PrimitiveKind}
 use Rattle.decl_tree.specs.declared.type_text.NamedPart.{NamedPart}
-use Rattle.decl_tree.specs.declared.member.TypeParam.{TypeParam}
 use Rattle.decl_tree.specs.declared.declaration.TypeDecl.{TypeDecl}
+use Rattle.decl_tree.specs.declared.declaration.Member.{Member}
+use Rattle.decl_tree.specs.declared.member.Param.{Param}
+use Rattle.decl_tree.specs.declared.member.TypeParam.{TypeParam}
 use Rattle.decl_tree.specs.declared.declaration.TypeKind.{TypeKind}
 use Rattle.decl_tree.specs.declared.compilation.ImportKind.{ImportKind}
 use Rattle.decl_grammar.specs.declared.written.Params.{Params}
@@ -38,7 +44,7 @@ use Rattle.decl_tree.specs.declared.type_text.Around.TheVariants as around
 use Rattle.decl_tree.specs.declared.type_text.BaseType.TheVariants as base
 use Rattle.decl_tree.specs.declared.type_text.PrimitiveKind.TheVariants as primitive
 use Rattle.decl_grammar.specs.Form.{ParamRest, ImportRest, Form, defaulted, type_arguments, nested_type, plain_modifiers, static_word, import_rest, enum_rest, param_rest, first_rest, value_and_rest, terminal, pair, turn, maybe, many, either, seen, nest, over}
-use Rattle.decl_grammar.specs.Types.{keyword, sign, behind, before, list_or_none, first_and_rest, name, name_chain, annotation, annotations, one_and_rest, no_values, silently, primitive_type, next_part, dim, base_type, annotated_class, type_params, optional_params, classes, Mark, bit_mark, no_modifiers, with_marks, optional_modifiers, type_modifiers, marked}
+use Rattle.decl_grammar.specs.Types.{keyword, sign, behind, before, list_or_none, first_and_rest, name, name_at, name_chain, annotation, annotations, one_and_rest, no_values, silently, primitive_type, next_part, dim, base_type, annotated_class, type_params, optional_params, classes, Mark, bit_mark, no_modifiers, with_marks, optional_modifiers, type_modifiers, marked}
 use Rattle.decl_grammar.specs.Expressions.{declarator_of, value_or_end}
 
 -- Bodies, the arguments of enum constants and blocks of initialisation are passed over: there brackets stand in pairs, and all else is free.
@@ -52,14 +58,15 @@ unfoldable pub param_modifiers : Form Modifiers
 param_modifiers = turn (with_marks no_modifiers) (many param_modifier)
 
 -- a parameter with this name and these brackets behind it
-abbrev pub param_of : List ℕ → List Around → Modifiers → BaseType → List Around → Param
-param_of n ds m of items = record { name = n; modifiers = m.bits; annotations = m.annotations; of = type_of of (ds ++ items) }
+abbrev pub param_of : NameAt → List Around → Modifiers → BaseType → List Around → ParamAt
+param_of n ds m of items =
+    record { param = record { name = n.name; modifiers = m.bits; annotations = m.annotations; of = type_of of (ds ++ items) }; line = n.line }
 
 -- no parameters, none of which takes any number of arguments
-abbrev pub no_params : List Param × Bool
+abbrev pub no_params : List ParamAt × Bool
 no_params = ([], false)
 
-abbrev pub params_or_none : Option (List Param × Bool) → List Param × Bool
+abbrev pub params_or_none : Option (List ParamAt × Bool) → List ParamAt × Bool
 params_or_none None = no_params
 params_or_none (Some ps) = ps
 
@@ -68,22 +75,22 @@ abbrev pub in_array : ParamRest → ParamRest
 in_array rest = (around.Array ∷ rest.0, rest.1)
 
 -- the end of a parameter, and the parameters behind it
-abbrev pub ended_with : ParamEnd → List Param × Bool → ParamRest
+abbrev pub ended_with : ParamEnd → List ParamAt × Bool → ParamRest
 ended_with e ps = ([], (e, ps))
 
 abbrev pub ended_last : ParamEnd → ParamRest
 ended_last e = ended_with e no_params
 
-abbrev pub end_and_rest : ParamEnd × Option (List Param × Bool) → ParamRest
+abbrev pub end_and_rest : ParamEnd × Option (List ParamAt × Bool) → ParamRest
 end_and_rest v = ended_with v.0 (params_or_none v.1)
 
 -- a parameter before others, from its parts: its type is its base in the brackets behind the name and those before it
-abbrev pub param_ended : ParamEnd → Modifiers → BaseType → List Around → List Param × Bool → List Param × Bool
+abbrev pub param_ended : ParamEnd → Modifiers → BaseType → List Around → List ParamAt × Bool → List ParamAt × Bool
 param_ended (param_end.Named n ds) m of items ps = (param_of n ds m of items ∷ ps.0, ps.1)
 param_ended (param_end.AnyNumber n) m of items ps = (param_of n (around.Array ∷ []) m of items ∷ [], true)
 param_ended param_end.Receiver m of items ps = ps
 
-abbrev pub apply_rest : Modifiers × (BaseType × ParamRest) → List Param × Bool
+abbrev pub apply_rest : Modifiers × (BaseType × ParamRest) → List ParamAt × Bool
 apply_rest v = param_ended v.1.1.1.0 v.0 v.1.0 v.1.1.0 v.1.1.1.1
 
 -- BaseType ParamRest
@@ -91,19 +98,19 @@ abbrev pub based : Form ParamRest → Form (BaseType × ParamRest)
 based rest = pair base_type rest
 
 -- Modifiers BaseType ParamRest
-unfoldable pub params_from : Form (List Param × Bool)
+unfoldable pub params_from : Form (List ParamAt × Bool)
 params_from = turn apply_rest (pair param_modifiers (based (nest param_rest)))
 
 -- , ParamsFrom
-unfoldable pub next_params : Form (List Param × Bool)
+unfoldable pub next_params : Form (List ParamAt × Bool)
 next_params = behind (sign 7) params_from
 
-abbrev pub any_number : List ℕ → ParamEnd
+abbrev pub any_number : NameAt → ParamEnd
 any_number n = param_end.AnyNumber n
 
 -- ... Name
 unfoldable pub varargs : Form ParamEnd
-varargs = turn any_number (behind (sign 9) name)
+varargs = turn any_number (behind (sign 9) name_at)
 
 -- [ ] Rest
 abbrev pub bracket_rest : Form ParamRest → Form ParamRest
@@ -113,12 +120,12 @@ bracket_rest rest = behind (sign 4) (behind (sign 5) (turn in_array rest))
 abbrev pub annotated_rest : Form ParamRest → Form ParamRest
 annotated_rest rest = behind annotation (behind annotations (either (bracket_rest rest) (turn ended_last varargs)))
 
-abbrev pub named_with : List ℕ × List Around → ParamEnd
+abbrev pub named_with : NameAt × List Around → ParamEnd
 named_with v = param_end.Named v.0 v.1
 
 -- Name { [ ] }
 unfoldable pub named_end : Form ParamEnd
-named_end = turn named_with (pair name (many dim))
+named_end = turn named_with (pair name_at (many dim))
 
 -- behind the base of the type of a parameter
 unfoldable pub param_rest_form : Form ParamRest
@@ -150,17 +157,17 @@ unfoldable pub with_dims : Form (Option (List Around))
 with_dims = turn some_brackets some_dims
 
 -- the end of a first parameter from its name and the brackets behind it, none where it is that of the receiver
-abbrev pub end_named : List ℕ → Option (List Around) → ParamEnd
+abbrev pub end_named : NameAt → Option (List Around) → ParamEnd
 end_named n None = param_end.Receiver
 end_named n (Some ds) = param_end.Named n ds
 
 abbrev pub FirstBehind : Type 0
-FirstBehind = Option (List Around) × (List Param × Bool)
+FirstBehind = Option (List Around) × (List ParamAt × Bool)
 
-abbrev pub dims_and_rest : Option (List Around) × Option (List Param × Bool) → FirstBehind
+abbrev pub dims_and_rest : Option (List Around) × Option (List ParamAt × Bool) → FirstBehind
 dims_and_rest v = (v.0, params_or_none v.1)
 
-abbrev pub comma_first : List Param × Bool → FirstBehind
+abbrev pub comma_first : List ParamAt × Bool → FirstBehind
 comma_first ps = (Some [], ps)
 
 abbrev pub alone_or : Option FirstBehind → FirstBehind
@@ -172,18 +179,18 @@ unfoldable pub behind_first_name : Form FirstBehind
 behind_first_name =
     turn alone_or (maybe (either (turn dims_and_rest (pair dot_this (maybe next_params))) (either (turn dims_and_rest (pair with_dims (maybe next_params))) (turn comma_first next_params))))
 
-abbrev pub first_named : List ℕ × FirstBehind → ParamRest
+abbrev pub first_named : NameAt × FirstBehind → ParamRest
 first_named v = ended_with (end_named v.0 v.1.0) v.1.1
 
 -- behind the base of the type of the first parameter, which may be the receiver
 unfoldable pub first_rest_form : Form ParamRest
 first_rest_form =
     either (bracket_rest (nest first_rest)) (either (annotated_rest (nest first_rest)) (either (turn ended_last varargs)
-    (either (turn end_and_rest (pair receiver (maybe next_params))) (turn first_named (pair name behind_first_name)))))
+    (either (turn end_and_rest (pair receiver (maybe next_params))) (turn first_named (pair name_at behind_first_name)))))
 
 -- of the first parameter the annotations stand before what tells whether it is the receiver, which has no `final`
 abbrev pub FirstRest : Type 0
-FirstRest = List AnnotationText → List Param × Bool
+FirstRest = List AnnotationText → List ParamAt × Bool
 
 abbrev pub annotated_only : List AnnotationText → Modifiers
 annotated_only found = record { bits = 0; annotations = found }
@@ -200,16 +207,16 @@ plain_first v found = apply_rest (annotated_only found, v)
 unfoldable pub behind_annotations : Form FirstRest
 behind_annotations = either (turn final_first (behind (keyword 17) (pair (many param_modifier) (based (nest param_rest))))) (turn plain_first (based (nest first_rest)))
 
-abbrev pub first_from : List AnnotationText × FirstRest → List Param × Bool
+abbrev pub first_from : List AnnotationText × FirstRest → List ParamAt × Bool
 first_from x = x.1 x.0
 
-unfoldable pub first_params : Form (List Param × Bool)
+unfoldable pub first_params : Form (List ParamAt × Bool)
 first_params = turn first_from (pair annotations behind_annotations)
 
-abbrev pub params_of : List Param × Bool → Params
+abbrev pub params_of : List ParamAt × Bool → Params
 params_of x = record { params = x.0; varargs = x.1 }
 
-abbrev pub optional_first : Option (List Param × Bool) → Params
+abbrev pub optional_first : Option (List ParamAt × Bool) → Params
 optional_first o = params_of (params_or_none o)
 
 -- ( [FirstParams] )
@@ -262,7 +269,7 @@ field_rest = pair (many dim) value_or_end
 
 -- a member, once its type and its name are known
 abbrev pub Named : Type 0
-Named = TypeText → List ℕ → Unmodified
+Named = TypeText → NameAt → Unmodified
 
 abbrev pub fields_named : List Around × (Option ValueText × List Declarator) → Named
 fields_named v of n = unmodified.Fields of (declarator_of n v.0 v.1.0 ∷ v.1.1)
@@ -282,16 +289,16 @@ rest_form rest_kind.Element = member_rest element_signature
 
 -- behind the first name of a class type, up to the name of the member and what follows it
 abbrev pub Typed : Type 0
-Typed = List ℕ → Unmodified
+Typed = NameAt → Unmodified
 
-abbrev pub typed_as : Option (List TypeText) × (List NamedPart × (List Around × (List ℕ × Named))) → Typed
-typed_as v n = v.1.1.1.1 (type_of (base.Named (named_part_of n v.0 ∷ v.1.0)) v.1.1.0) v.1.1.1.0
+abbrev pub typed_as : Option (List TypeText) × (List NamedPart × (List Around × (NameAt × Named))) → Typed
+typed_as v n = v.1.1.1.1 (type_of (base.Named (named_part_of n.name v.0 ∷ v.1.0)) v.1.1.0) v.1.1.1.0
 
 unfoldable pub typed_member : MemberRest → Form Typed
-typed_member rest = turn typed_as (pair (maybe (nest type_arguments)) (pair (many next_part) (pair (many dim) (pair name (rest_form rest)))))
+typed_member rest = turn typed_as (pair (maybe (nest type_arguments)) (pair (many next_part) (pair (many dim) (pair name_at (rest_form rest)))))
 
 abbrev pub constructed : Signature → Typed
-constructed s n = unmodified.Constructor [] s
+constructed s n = unmodified.Constructor n.line [] s
 
 -- what stands behind a first name: a constructor, whose name that was, or a member of a class type
 unfoldable pub constructed_or : MemberRest → Form Typed
@@ -305,36 +312,36 @@ typed_form false rest = typed_member rest
 abbrev pub void_type : TypeText
 void_type = type_of (base.Primitive primitive.Void) []
 
-abbrev pub void_named : List ℕ × Signature → Unmodified
+abbrev pub void_named : NameAt × Signature → Unmodified
 void_named x = method_named x.1 void_type x.0
 
 -- void Name Signature
 unfoldable pub void_method : Form Unmodified
-void_method = turn void_named (behind (keyword 47) (pair name method_signature))
+void_method = turn void_named (behind (keyword 47) (pair name_at method_signature))
 
 abbrev pub primitive_of_dims : PrimitiveKind × List Around → TypeText
 primitive_of_dims x = type_of (base.Primitive x.0) x.1
 
-abbrev pub primitive_named : TypeText × (List ℕ × Named) → Unmodified
+abbrev pub primitive_named : TypeText × (NameAt × Named) → Unmodified
 primitive_named x = x.1.1 x.0 x.1.0
 
 -- PrimitiveType { [ ] } Name Rest
 unfoldable pub primitive_member : MemberRest → Form Unmodified
-primitive_member rest = turn primitive_named (pair (turn primitive_of_dims (pair primitive_type (many dim))) (pair name (rest_form rest)))
+primitive_member rest = turn primitive_named (pair (turn primitive_of_dims (pair primitive_type (many dim))) (pair name_at (rest_form rest)))
 
-abbrev pub typed_named : List ℕ × Typed → Unmodified
+abbrev pub typed_named : NameAt × Typed → Unmodified
 typed_named x = x.1 x.0
 
 -- Name Rest
 unfoldable pub named_member : Bool → MemberRest → Form Unmodified
-named_member constructors rest = turn typed_named (pair name (typed_form constructors rest))
+named_member constructors rest = turn typed_named (pair name_at (typed_form constructors rest))
 
 -- with other type parameters (JLS 8.4.4, 8.8.4)
-abbrev pub with_type_params : List TypeParam → Unmodified → Unmodified
+abbrev pub with_type_params : List TypeParamAt → Unmodified → Unmodified
 with_type_params ps unmodified.Nothing = unmodified.Nothing
 with_type_params ps (unmodified.Fields of ds) = unmodified.Fields of ds
 with_type_params ps (unmodified.Method qs of n s) = unmodified.Method ps of n s
-with_type_params ps (unmodified.Constructor qs s) = unmodified.Constructor ps s
+with_type_params ps (unmodified.Constructor line qs s) = unmodified.Constructor line ps s
 with_type_params ps (unmodified.Nested rest) = unmodified.Nested rest
 
 -- behind annotations a method comes
@@ -348,7 +355,7 @@ annotated_method = behind annotation (behind annotations generic_method)
 unfoldable pub generic_rest : Bool → Form Unmodified
 generic_rest constructors = either annotated_method (either void_method (either (primitive_member rest_kind.Method) (named_member constructors rest_kind.Method)))
 
-abbrev pub generic_of : List TypeParam × Unmodified → Unmodified
+abbrev pub generic_of : List TypeParamAt × Unmodified → Unmodified
 generic_of x = with_type_params x.0 x.1
 
 -- TypeParams GenericRest
@@ -364,73 +371,113 @@ doc_of raw = option_map doc_text raw
 -- the doc comment before the first of some symbols
 abbrev pub first_doc : List Symbol → Option (List ℕ)
 first_doc [] = None
-first_doc (s ∷ ss) = option_map (λ d. d.now) s.doc
+first_doc (s ∷ ss) = s.doc
+
+abbrev pub plain_type_params : List TypeParamAt → List TypeParam
+plain_type_params ps = map (λ (p : TypeParamAt). p.param) ps
+
+abbrev pub plain_members : List MemberAt → List Member
+plain_members ms = map (λ (x : MemberAt). x.member) ms
 
 -- a declaration with this doc comment
 abbrev pub declaration_of : Option (List ℕ) → Modifiers → TypeRest → TypeDecl
 declaration_of doc m rest = record {
   kind = rest.kind;
-  name = rest.name;
+  name = rest.name.name;
   modifiers = m.bits;
   annotations = m.annotations;
   doc = doc;
-  parameters = rest.parameters;
+  parameters = plain_type_params rest.parameters;
   superclass = rest.superclass;
   interfaces = rest.interfaces;
-  members = rest.members;
+  members = plain_members rest.members;
 }
 
-abbrev pub declared : Option (List ℕ) → Modifiers → TypeRest → TypeDecl
-declared raw m rest = declaration_of (doc_of raw) m rest
+-- the lines of an element with these lines of its children, and of one without children
+abbrev pub lines_with : ℕ → List Lines → Lines
+lines_with n children = roll-Lines (record { line = n; children = children })
+
+abbrev pub line_alone : ℕ → Lines
+line_alone n = lines_with n []
+
+abbrev pub type_param_lines : List TypeParamAt → List Lines
+type_param_lines ps = map (λ (p : TypeParamAt). line_alone p.line) ps
+
+abbrev pub param_lines : List ParamAt → List Lines
+param_lines ps = map (λ (p : ParamAt). line_alone p.line) ps
+
+abbrev pub member_lines : List MemberAt → List Lines
+member_lines ms = map (λ (x : MemberAt). x.lines) ms
+
+-- of a type: its name, its type parameters and its members
+abbrev pub type_lines : TypeRest → Lines
+type_lines rest = lines_with rest.name.line (type_param_lines rest.parameters ++ member_lines rest.members)
+
+-- of a method or a constructor: its name, its type parameters and its parameters
+abbrev pub executable_lines : ℕ → List TypeParamAt → Signature → Lines
+executable_lines n ps s = lines_with n (type_param_lines ps ++ param_lines s.params.params)
+
+-- a type with its doc comment and its lines
+abbrev pub type_with : Option (List ℕ) → Modifiers → TypeRest → TypeAt
+type_with doc m rest = record { declaration = declaration_of doc m rest; lines = type_lines rest }
+
+abbrev pub declared : Option (List ℕ) → Modifiers → TypeRest → TypeAt
+declared raw m rest = type_with (doc_of raw) m rest
 
 -- brackets behind the name are around those of the type
 abbrev pub in_dims : List Around → TypeText → TypeText
 in_dims ds of = type_of (out-TypeText of).base (ds ++ (out-TypeText of).around)
 
-abbrev pub field_of : Option (List ℕ) → Modifiers → TypeText → Declarator → Member
-field_of doc m of d = member.Field (record {
-  name = d.name;
+abbrev pub member_at : Member → Lines → MemberAt
+member_at m lines = record { member = m; lines = lines }
+
+abbrev pub field_of : Option (List ℕ) → Modifiers → TypeText → Declarator → MemberAt
+field_of doc m of d = member_at (member.Field (record {
+  name = d.name.name;
   modifiers = m.bits;
   annotations = m.annotations;
   doc = doc;
   of = in_dims d.dims of;
   constant = d.constant;
-})
+})) (line_alone d.name.line)
 
-abbrev pub method_of : Option (List ℕ) → Modifiers → List TypeParam → TypeText → List ℕ → Signature → Member
-method_of doc m ps of n s = member.Method (record {
-  name = n;
+abbrev pub plain_params : List ParamAt → List Param
+plain_params ps = map (λ (p : ParamAt). p.param) ps
+
+abbrev pub method_of : Option (List ℕ) → Modifiers → List TypeParamAt → TypeText → NameAt → Signature → MemberAt
+method_of doc m ps of n s = member_at (member.Method (record {
+  name = n.name;
   modifiers = m.bits;
   annotations = m.annotations;
   doc = doc;
-  parameters = ps;
+  parameters = plain_type_params ps;
   result = in_dims s.dims of;
-  arguments = s.params.params;
+  arguments = plain_params s.params.params;
   varargs = s.params.varargs;
   thrown = s.thrown;
   default = s.default;
-})
+})) (executable_lines n.line ps s)
 
-abbrev pub constructor_of : Option (List ℕ) → Modifiers → List TypeParam → Signature → Member
-constructor_of doc m ps s = member.Constructor (record {
+abbrev pub constructor_of : Option (List ℕ) → Modifiers → ℕ → List TypeParamAt → Signature → MemberAt
+constructor_of doc m line ps s = member_at (member.Constructor (record {
   modifiers = m.bits;
   annotations = m.annotations;
   doc = doc;
-  parameters = ps;
-  arguments = s.params.params;
+  parameters = plain_type_params ps;
+  arguments = plain_params s.params.params;
   varargs = s.params.varargs;
   thrown = s.thrown;
-})
+})) (executable_lines line ps s)
 
 -- the members that a declaration with this doc comment gives
-abbrev pub members_with : Option (List ℕ) → Modifiers → Unmodified → List Member
+abbrev pub members_with : Option (List ℕ) → Modifiers → Unmodified → List MemberAt
 members_with doc m unmodified.Nothing = []
 members_with doc m (unmodified.Fields of ds) = map (field_of doc m of) ds
 members_with doc m (unmodified.Method ps of n s) = method_of doc m ps of n s ∷ []
-members_with doc m (unmodified.Constructor ps s) = constructor_of doc m ps s ∷ []
-members_with doc m (unmodified.Nested rest) = member.Nested (declaration_of doc m rest) ∷ []
+members_with doc m (unmodified.Constructor line ps s) = constructor_of doc m line ps s ∷ []
+members_with doc m (unmodified.Nested rest) = member_at (member.Nested (declaration_of doc m rest)) (type_lines rest) ∷ []
 
-abbrev pub members_of : Option (List ℕ) → Modifiers → Unmodified → List Member
+abbrev pub members_of : Option (List ℕ) → Modifiers → Unmodified → List MemberAt
 members_of raw m u = members_with (doc_of raw) m u
 
 abbrev pub Modified : Type 0
@@ -460,13 +507,13 @@ class_modified f = either (turn bare f) (either (plain_modified f) (behind (nest
 abbrev pub modified : Form Unmodified → Form Modified
 modified f = pair optional_modifiers f
 
-abbrev pub no_member : {A : Type 0} → A → List Member
+abbrev pub no_member : {A : Type 0} → A → List MemberAt
 no_member v = []
 
-abbrev pub documented_members : Option (List ℕ) × Modified → List Member
+abbrev pub documented_members : Option (List ℕ) × Modified → List MemberAt
 documented_members x = members_of x.0 x.1.0 x.1.1
 
-abbrev pub member_from : Form Modified → Form (List Member)
+abbrev pub member_from : Form Modified → Form (List MemberAt)
 member_from f = turn documented_members (seen first_doc f)
 
 unfoldable pub nested_member : Form Unmodified
@@ -488,25 +535,25 @@ modified_form kind.AnnotationType = modified annotation_unmodified
 modified_form kind.Interface = modified (unmodified_of false)
 
 -- a class has initialisers too
-abbrev pub or_block : TypeKind → Form (List Member) → Form (List Member)
+abbrev pub or_block : TypeKind → Form (List MemberAt) → Form (List MemberAt)
 or_block kind.Enum f = either (turn no_member block) f
 or_block kind.Class f = either (turn no_member block) f
 or_block kind.AnnotationType f = f
 or_block kind.Interface f = f
 
-unfoldable pub member_form : TypeKind → Form (List Member)
+unfoldable pub member_form : TypeKind → Form (List MemberAt)
 member_form k = either (turn no_member (sign 6)) (or_block k (member_from (modified_form k)))
 
-abbrev pub joined_lists : List (List Member) → List Member
+abbrev pub joined_lists : List (List MemberAt) → List MemberAt
 joined_lists ms = flat_map (λ m. m) ms
 
 -- ---- types (JLS 8.1, 8.9, 9.1, 9.6)
 
-abbrev pub rest_of : TypeKind → List ℕ → List TypeParam → Option TypeText → List TypeText → List Member → TypeRest
+abbrev pub rest_of : TypeKind → NameAt → List TypeParamAt → Option TypeText → List TypeText → List MemberAt → TypeRest
 rest_of k n ps above types ms = record { kind = k; name = n; parameters = ps; superclass = above; interfaces = types; members = ms }
 
 -- { Members }
-abbrev pub members_in : TypeKind → Form (List Member)
+abbrev pub members_in : TypeKind → Form (List MemberAt)
 members_in k = behind (sign 2) (before (turn joined_lists (many (member_form k))) (sign 3))
 
 unfoldable pub superclass : Form (Option TypeText)
@@ -521,17 +568,17 @@ extended = turn list_or_none (maybe (behind (keyword 16) classes))
 unfoldable pub class_form : Form TypeRest
 class_form =
     turn (λ x. rest_of kind.Class x.0 x.1.0 x.1.1.0 x.1.1.1.0 x.1.1.1.1)
-    (behind (keyword 8) (pair name (pair optional_params (pair superclass (pair implemented (members_in kind.Class))))))
+    (behind (keyword 8) (pair name_at (pair optional_params (pair superclass (pair implemented (members_in kind.Class))))))
 
 unfoldable pub interface_form : Form TypeRest
 interface_form =
     turn (λ x. rest_of kind.Interface x.0 x.1.0 None x.1.1.0 x.1.1.1)
-    (behind (keyword 27) (pair name (pair optional_params (pair extended (members_in kind.Interface)))))
+    (behind (keyword 27) (pair name_at (pair optional_params (pair extended (members_in kind.Interface)))))
 
 unfoldable pub annotation_form : Form TypeRest
 annotation_form =
     turn (λ x. rest_of kind.AnnotationType x.0 [] None [] x.1)
-    (behind (terminal (at_interface ∷ [])) (behind (keyword 27) (pair name (members_in kind.AnnotationType))))
+    (behind (terminal (at_interface ∷ [])) (behind (keyword 27) (pair name_at (members_in kind.AnnotationType))))
 
 -- whether something in brackets of this sort stands here
 abbrev pub is_there : {A : Type 0} → Option A → Bool
@@ -542,44 +589,45 @@ optional_over sort = turn is_there (maybe (over (sort ∷ [])))
 
 -- the annotations of an enum constant, its name, and whether it has a body
 abbrev pub ConstantPart : Type 0
-ConstantPart = List AnnotationText × (List ℕ × Bool)
+ConstantPart = List AnnotationText × (NameAt × Bool)
 
-abbrev pub constant_part_of : List AnnotationText × (List ℕ × (Bool × Bool)) → ConstantPart
+abbrev pub constant_part_of : List AnnotationText × (NameAt × (Bool × Bool)) → ConstantPart
 constant_part_of x = (x.0, (x.1.0, x.1.1.1))
 
 -- Annotations Name [Arguments] [Body]: arguments and a body are passed over (JLS 8.9.1)
 unfoldable pub constant_part : Form ConstantPart
-constant_part = turn constant_part_of (pair annotations (pair name (pair (optional_over (operator 0)) (optional_over (operator 2)))))
+constant_part = turn constant_part_of (pair annotations (pair name_at (pair (optional_over (operator 0)) (optional_over (operator 2)))))
 
-abbrev pub constant_of : Option (List ℕ) × ConstantPart → Member
-constant_of x = member.Constant (record { name = x.1.1.0; annotations = x.1.0; doc = doc_of x.0; body = x.1.1.1 })
+abbrev pub constant_of : Option (List ℕ) × ConstantPart → MemberAt
+constant_of x =
+    member_at (member.Constant (record { name = x.1.1.0.name; annotations = x.1.0; doc = doc_of x.0; body = x.1.1.1 })) (line_alone x.1.1.0.line)
 
-unfoldable pub constant : Form Member
+unfoldable pub constant : Form MemberAt
 constant = turn constant_of (seen first_doc constant_part)
 
 -- Constant [EnumRest]
-unfoldable pub some_constants : Form (List Member)
+unfoldable pub some_constants : Form (List MemberAt)
 some_constants = turn one_and_rest (pair constant (maybe (nest enum_rest)))
 
 -- , [SomeConstants]: behind the last constant a `,` may stand
-unfoldable pub enum_rest_form : Form (List Member)
+unfoldable pub enum_rest_form : Form (List MemberAt)
 enum_rest_form = behind (sign 7) (turn list_or_none (maybe some_constants))
 
 -- SomeConstants, or a `,` alone
-unfoldable pub constant_list : Form (List Member)
+unfoldable pub constant_list : Form (List MemberAt)
 constant_list = either some_constants (turn no_values (sign 7))
 
-unfoldable pub constants : Form (List Member)
+unfoldable pub constants : Form (List MemberAt)
 constants = turn list_or_none (maybe constant_list)
 
 -- [; Members]
-unfoldable pub enum_members : Form (List Member)
+unfoldable pub enum_members : Form (List MemberAt)
 enum_members = turn list_or_none (maybe (behind (sign 6) (turn joined_lists (many (member_form kind.Enum)))))
 
 unfoldable pub enum_form : Form TypeRest
 enum_form =
     turn (λ x. rest_of kind.Enum x.0 [] None x.1.0 (x.1.1.0 ++ x.1.1.1))
-    (behind (keyword 15) (pair name (pair implemented (behind (sign 2) (pair constants (before enum_members (sign 3)))))))
+    (behind (keyword 15) (pair name_at (pair implemented (behind (sign 2) (pair constants (before enum_members (sign 3)))))))
 
 unfoldable pub type_rest : Form TypeRest
 type_rest = either class_form (either interface_form (either annotation_form enum_form))
@@ -632,13 +680,17 @@ import_static = behind (keyword 37) (turn (λ x. static_import (x.1 x.0)) (pair 
 unfoldable pub import_form : Form Import
 import_form = behind (keyword 24) (before (either import_named import_static) (sign 6))
 
-unfoldable pub package_form : Form (List ℕ)
-package_form = behind (keyword 31) (before name_chain (sign 6))
+-- the name of the package, with the line of the `package`
+abbrev pub package_named : Symbol × List ℕ → NameAt
+package_named x = record { name = x.1; line = x.0.line }
 
-abbrev pub top_declared : Option (List ℕ) × (Modifiers × TypeRest) → Option TypeDecl
+unfoldable pub package_form : Form NameAt
+package_form = turn package_named (pair (keyword 31) (before name_chain (sign 6)))
+
+abbrev pub top_declared : Option (List ℕ) × (Modifiers × TypeRest) → Option TypeAt
 top_declared x = Some (declared x.0 x.1.0 x.1.1)
 
-abbrev pub no_type : Symbol → Option TypeDecl
+abbrev pub no_type : Symbol → Option TypeAt
 no_type s = None
 
 -- Modifiers TypeRest
@@ -646,30 +698,30 @@ unfoldable pub modified_type : Form (Modifiers × TypeRest)
 modified_type = pair type_modifiers type_rest
 
 -- a type with its modifiers, or a `;` (JLS 7.6)
-unfoldable pub top_type : Form (Option TypeDecl)
+unfoldable pub top_type : Form (Option TypeAt)
 top_type = either (turn no_type (sign 6)) (turn top_declared (seen first_doc modified_type))
 
 -- what an ordinary file declares: its package, its imports and its types
 abbrev pub Ordinary : Type 0
-Ordinary = Option (List ℕ) × (List Import × List (Option TypeDecl))
+Ordinary = Option NameAt × (List Import × List (Option TypeAt))
 
 unfoldable pub ordinary : Form Ordinary
 ordinary = pair (maybe package_form) (pair (many import_form) (many top_type))
 
 -- Annotations package Name { . Name } ; (JLS 7.4.1)
-unfoldable pub package_part : Form (List AnnotationText × List ℕ)
+unfoldable pub package_part : Form (List AnnotationText × NameAt)
 package_part = pair annotations package_form
 
 -- the same with its doc comment
-abbrev pub documented_package : Option (List ℕ) × (List AnnotationText × List ℕ) → Option (List ℕ) × (List AnnotationText × List ℕ)
+abbrev pub documented_package : Option (List ℕ) × (List AnnotationText × NameAt) → Option (List ℕ) × (List AnnotationText × NameAt)
 documented_package x = (doc_of x.0, x.1)
 
-unfoldable pub annotated_package : Form (Option (List ℕ) × (List AnnotationText × List ℕ))
+unfoldable pub annotated_package : Form (Option (List ℕ) × (List AnnotationText × NameAt))
 annotated_package = turn documented_package (seen first_doc package_part)
 
 -- what a file `package-info.java` declares
 abbrev pub Info : Type 0
-Info = Option (Option (List ℕ) × (List AnnotationText × List ℕ)) × (List Import × Unit {0})
+Info = Option (Option (List ℕ) × (List AnnotationText × NameAt)) × (List Import × Unit {0})
 
 unfoldable pub semicolon : Form Symbol
 semicolon = sign 6

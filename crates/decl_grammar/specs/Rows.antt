@@ -1,7 +1,7 @@
 -- What functions read, in words: parts with another meaning, rows of parts behind others, lists that may be absent, and rows of expressions.
 use Rattle.std.specs.Prelude.{ℕ, List, Option, Some, None, option_map}
 use Rattle.std.specs.Borrow.{Bor}
-use Rattle.decl_tree.specs.declared.declaration.Member.{Member}
+use Rattle.decl_grammar.specs.declared.written.MemberAt.{MemberAt}
 use Rattle.decl_tree.specs.declared.compilation.Import.{Import}
 use Rattle.decl_grammar.specs.declared.symbol.Symbol.{Symbol}
 use Rattle.decl_grammar.specs.declared.written.Modifiers.{Modifiers}
@@ -34,7 +34,7 @@ abbrev pub list_at : {A : Type 0} → ℕ → Form (List A) → List Symbol → 
 list_at room f ts = turned list_or_none (reads room (maybe f) ts)
 
 -- the enum constants behind commas, behind others
-abbrev pub constants_behind : List Member → ℕ → List Symbol → Outcome (List Member)
+abbrev pub constants_behind : List MemberAt → ℕ → List Symbol → Outcome (List MemberAt)
 constants_behind front room ts = with_front front (list_at room (nest enum_rest) ts)
 
 -- the modifiers that stand here behind others

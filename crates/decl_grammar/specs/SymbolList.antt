@@ -2,7 +2,7 @@
 use Rattle.std.specs.Prelude.{ℕ, ◌+◌, ◌==◌, Bool, true, false, List, [], ◌∷◌, ◌++◌, if◌then◌else◌, nat_le}
 use Rattle.java_tokens.specs.declared.token.TokenKind.{TokenKind}
 use Rattle.java_tokens.specs.declared.token.TokenKind.TheVariants.{Identifier, Reserved, Integer, Floating, Character, Text, TextBlock, Operator, Truth, Null}
-use Rattle.java_tokens.specs.declared.token.Token.{Token}
+use Rattle.java_tokens.specs.Tokens.{Lexeme}
 use Rattle.decl_grammar.specs.declared.symbol.Symbol.{Symbol}
 
 -- a sort of which no form has a symbol; no token has a number beyond its table
@@ -29,31 +29,31 @@ sort_of Truth = 7
 sort_of Null = 8
 
 -- the next token is of this sort
-abbrev pub is_before : ℕ → List Token → Bool
+abbrev pub is_before : ℕ → List Lexeme → Bool
 is_before n [] = false
 is_before n (t ∷ ts) = sort_of t.kind == n
 
 -- the sort of a token before others: a name before `=` is 1, and `@` before `interface` is 9
-abbrev pub sort_before : ℕ → List Token → ℕ
+abbrev pub sort_before : ℕ → List Lexeme → ℕ
 sort_before n ts = if n == 0 then (if is_before 73 ts then 1 else 0) else if n == 71 then (if is_before 37 ts then 9 else 71) else n
 
-abbrev pub symbol_of : ℕ → Bool → Token → Symbol
+abbrev pub symbol_of : ℕ → Bool → Lexeme → Symbol
 symbol_of sort further t = record { sort = sort; further = further; start = t.start; line = t.line; text = t.text; doc = t.doc }
 
 -- `>`, behind others of the same token or not
-abbrev pub closing : Bool → Token → Symbol
+abbrev pub closing : Bool → Lexeme → Symbol
 closing further t = symbol_of 74 further t
 
 -- the symbols of a token of this sort before others
-abbrev pub symbols_at : ℕ → Token → List Token → List Symbol
+abbrev pub symbols_at : ℕ → Lexeme → List Lexeme → List Symbol
 symbols_at n t ts =
     if n == 98 then closing false t ∷ closing true t ∷ []
     else if n == 99 then closing false t ∷ closing true t ∷ closing true t ∷ []
     else symbol_of (sort_before n ts) false t ∷ []
 
-abbrev pub symbols_before : Token → List Token → List Symbol
+abbrev pub symbols_before : Lexeme → List Lexeme → List Symbol
 symbols_before t ts = symbols_at (sort_of t.kind) t ts
 
-abbrev pub symbols_of : List Token → List Symbol
+abbrev pub symbols_of : List Lexeme → List Symbol
 symbols_of [] = []
 symbols_of (t ∷ ts) = symbols_before t ts ++ symbols_of ts

@@ -7,13 +7,14 @@ use Rattle.decl_tree.specs.declared.annotation.AnnotationText.{AnnotationText, r
 use Rattle.decl_tree.specs.declared.type_text.Around.{Around}
 use Rattle.decl_tree.specs.declared.type_text.BaseType.{BaseType}
 use Rattle.decl_grammar.specs.declared.written.Modifiers.{Modifiers}
+use Rattle.decl_grammar.specs.declared.written.NameAt.{NameAt}
+use Rattle.decl_grammar.specs.declared.written.TypeParamAt.{TypeParamAt}
 use Rattle.decl_grammar.specs.declared.symbol.Symbol.{Symbol}
 use Rattle.decl_grammar.specs.Symbols.{named, word, operator}
 use Rattle.std.specs.Option.{option_map_or}
 use Rattle.std.specs.Int.Bits.{bit_or}
 use Rattle.decl_tree.specs.declared.type_text.PrimitiveKind.{PrimitiveKind}
 use Rattle.decl_tree.specs.declared.type_text.NamedPart.{NamedPart}
-use Rattle.decl_tree.specs.declared.member.TypeParam.{TypeParam}
 use Rattle.decl_grammar.specs.Constants.{primitive_of, named_part_of, type_of, more_dotted}
 use Rattle.decl_tree.specs.declared.type_text.Around.TheVariants as around
 use Rattle.decl_tree.specs.declared.type_text.BaseType.TheVariants as base
@@ -52,10 +53,17 @@ comma_item f = behind (sign 7) (maybe f)
 -- ---- names (JLS 3.8, 6.5)
 
 abbrev pub text_of : Symbol → List ℕ
-text_of s = s.text.now
+text_of s = s.text
 
 unfoldable pub name : Form (List ℕ)
 name = turn text_of (terminal names)
+
+-- a name with its line, where it is that of what is declared
+abbrev pub placed_name : Symbol → NameAt
+placed_name s = record { name = text_of s; line = s.line }
+
+abbrev pub name_at : Form NameAt
+name_at = turn placed_name (terminal names)
 
 -- a name that a `=` follows
 unfoldable pub named_text : Form (List ℕ)
@@ -178,6 +186,9 @@ base_type = either (turn base.Primitive primitive_type) (turn base.Named class_t
 abbrev pub type_in : Shape → TypeText
 type_in x = type_of x.0 x.1
 
+unfoldable pub type_form : Form TypeText
+type_form = turn type_in (pair base_type (many dim))
+
 -- ClassType { [ ] }
 unfoldable pub class_array : Form Shape
 class_array = pair (turn base.Named class_type) (many dim)
@@ -242,22 +253,22 @@ next_bound = behind (sign 32) annotated_class
 unfoldable pub bounds : Form (List TypeText)
 bounds = behind (keyword 16) (turn first_and_rest (pair annotated_class (many next_bound)))
 
-abbrev pub type_param_of : List AnnotationText → List ℕ → Option (List TypeText) → TypeParam
-type_param_of marks n bs = record { name = n; annotations = marks; bounds = list_or_none bs }
+abbrev pub type_param_of : List AnnotationText → NameAt → Option (List TypeText) → TypeParamAt
+type_param_of marks n bs = record { param = record { name = n.name; annotations = marks; bounds = list_or_none bs }; line = n.line }
 
 -- JLS 8.1.2
-unfoldable pub type_param : Form TypeParam
-type_param = turn (λ x. type_param_of x.0 x.1.0 x.1.1) (pair annotations (pair name (maybe bounds)))
+unfoldable pub type_param : Form TypeParamAt
+type_param = turn (λ x. type_param_of x.0 x.1.0 x.1.1) (pair annotations (pair name_at (maybe bounds)))
 
 -- , TypeParam
-unfoldable pub next_type_param : Form TypeParam
+unfoldable pub next_type_param : Form TypeParamAt
 next_type_param = behind (sign 7) type_param
 
 -- < TypeParam { , TypeParam } >
-unfoldable pub type_params : Form (List TypeParam)
+unfoldable pub type_params : Form (List TypeParamAt)
 type_params = behind (sign 14) (before (turn first_and_rest (pair type_param (many next_type_param))) (sign 13))
 
-unfoldable pub optional_params : Form (List TypeParam)
+unfoldable pub optional_params : Form (List TypeParamAt)
 optional_params = turn list_or_none (maybe type_params)
 
 -- , Annotations ClassType

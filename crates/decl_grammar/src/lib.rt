@@ -20,8 +20,9 @@ mod written;
 pub use fault::{ParseFault, ReadFault};
 pub use laws::{fronts_begin, one_reading};
 pub use line_place::LinePlace;
-pub use symbol::Symbol;
+pub use symbol::{Symbol, TokenText};
 pub use symbol_list::symbols;
 pub use written::{
-    Declarator, MemberRest, Modifiers, ParamEnd, Params, Signature, TypeRest, Unmodified,
+    Declarator, Lines, MemberAt, MemberRest, Modifiers, NameAt, ParamAt, ParamEnd, Params,
+    Signature, TypeAt, TypeParamAt, TypeRest, Unmodified,
 };

@@ -1,8 +1,9 @@
 // The symbols of a list of tokens.
 ghost use Rattle.std.specs.Prelude.{◌≡◌, ◌++◌, [], ◌∷◌, List, IfOk};
+ghost use Rattle.java_tokens.specs.TokensShown.{shown_doc, shown_token, shown_tokens};
 ghost use Rattle.decl_grammar.specs.SymbolList.{word_sort, operator_sort, sort_of, is_before, sort_before, symbol_of, symbols_before, symbols_of};
 
-use crate::symbol::Symbol;
+use crate::symbol::{Symbol, TokenText};
 use apt_base::NoMemory;
 use java_tokens::{Token, TokenKind};
 use std::alloc::Global;
@@ -41,7 +42,7 @@ fn kind_sort(kind: TokenKind) -> u8
 
 // Whether a token of this sort stands before the others.
 fn is_before_sort(sort: u8, tokens: &[Token<'_>]) -> bool
-    ensures { result ≡ is_before sort tokens.now }
+    ensures { result ≡ is_before sort (shown_tokens tokens.now) }
 {
     match tokens {
         [] => false,
@@ -51,7 +52,7 @@ fn is_before_sort(sort: u8, tokens: &[Token<'_>]) -> bool
 
 // The sort of a token before others.
 fn sort_at(sort: u8, tokens: &[Token<'_>]) -> u8
-    ensures { result ≡ sort_before sort tokens.now }
+    ensures { result ≡ sort_before sort (shown_tokens tokens.now) }
 {
     if sort == 0 {
         return if is_before_sort(73, tokens) { 1 } else { 0 };
@@ -62,17 +63,27 @@ fn sort_at(sort: u8, tokens: &[Token<'_>]) -> u8
     sort
 }
 
+// The doc comment before a token, where there is one.
+fn comment_before<'a>(token: &Token<'a>) -> Option<TokenText<'a>>
+    ensures { result ≡ shown_doc token.now.doc }
+{
+    match token.doc {
+        None => None,
+        Some(doc) => Some(TokenText::new(doc)),
+    }
+}
+
 // A symbol of a token.
 fn symbol_at<'a>(sort: u8, further: bool, token: &Token<'a>) -> Symbol<'a>
-    ensures { result ≡ symbol_of sort further token.now }
+    ensures { result ≡ symbol_of sort further (shown_token token.now) }
 {
     Symbol {
         sort,
         further,
         start: token.start,
         line: token.line,
-        text: token.text,
-        doc: token.doc,
+        text: TokenText::new(token.text),
+        doc: comment_before(token),
     }
 }
 
@@ -82,7 +93,7 @@ fn add_symbols<'a>(
     token: &Token<'a>,
     others: &[Token<'a>],
 ) -> Result<(), NoMemory>
-    ensures { IfOk result (λ u. all.new.items ≡ all.old.items ++ symbols_before token.now others.now) }
+    ensures { IfOk result (λ u. all.new.items ≡ all.old.items ++ symbols_before (shown_token token.now) (shown_tokens others.now)) }
 {
     let sort = kind_sort(token.kind);
     if sort == 98 {
@@ -102,7 +113,7 @@ fn add_symbols<'a>(
 
 /// The symbols of these tokens.
 pub fn symbols<'a>(alloc: Global, tokens: &[Token<'a>]) -> Result<Vec<Symbol<'a>>, NoMemory>
-    ensures { IfOk result (λ v. v.items ≡ symbols_of tokens.now) }
+    ensures { IfOk result (λ v. v.items ≡ symbols_of (shown_tokens tokens.now)) }
 {
     let mut all = Vec::new(alloc);
     let mut rest = tokens;

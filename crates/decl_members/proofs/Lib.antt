@@ -1,1 +1,2 @@
+pub mod ApartLists
 pub mod TypedMembers

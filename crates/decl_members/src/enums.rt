@@ -7,11 +7,11 @@ ghost use Rattle.decl_grammar.specs.Types.{list_or_none, comma_item};
 ghost use Rattle.decl_grammar.specs.Grammar.{optional_over, constant_part, constant, some_constants, constant_list, constants};
 ghost use Rattle.decl_grammar.specs.Rule.{reads};
 
-use apt_base::{List, Name};
-use decl_grammar::{ReadFault, Symbol};
+use apt_base::List;
+use decl_grammar::{Lines, MemberAt, NameAt, ReadFault, Symbol};
 use decl_tree::{AnnotationText, ConstantDecl, Member};
 use decl_values::{
-    annotations_of, begin, doc_before, is_next, one, read_name, read_over, starts_annotation,
+    annotations_of, begin, doc_before, is_next, one, read_name_at, read_over, starts_annotation,
     starts_name,
 };
 use std::alloc::Global;
@@ -40,40 +40,42 @@ fn constant_part_of<'a, 's>(
     alloc: Global,
     room: usize,
     symbols: &'s [Symbol<'a>],
-) -> Result<((List<AnnotationText>, (Name, bool)), &'s [Symbol<'a>]), ReadFault>
+) -> Result<((List<AnnotationText>, (NameAt, bool)), &'s [Symbol<'a>]), ReadFault>
     ensures { Gives (λ x. (x.0, x.1.now)) result (reads room constant_part symbols.now) }
 {
     let (annotations, rest) = annotations_of(alloc, room, symbols)?;
     let annotations = List::from_vec(annotations);
-    let (text, rest) = read_name(room, rest)?;
-    let name = Name::new(alloc, text)?;
+    let (name, rest) = read_name_at(alloc, room, rest)?;
     let (_, rest) = optional_over_of(alloc, room, 61, rest)?;
     let (body, rest) = optional_over_of(alloc, room, 63, rest)?;
     Ok(((annotations, (name, body)), rest))
 }
 
-// An enum constant.
+/// An enum constant.
 #[tactic(auto, unfolding(decl_grammar::specs::Grammar::constant))]
-fn constant_in<'a, 's>(
+pub fn constant_in<'a, 's>(
     alloc: Global,
     room: usize,
     symbols: &'s [Symbol<'a>],
-) -> Result<(Member, &'s [Symbol<'a>]), ReadFault>
+) -> Result<(MemberAt, &'s [Symbol<'a>]), ReadFault>
     ensures { Gives (λ x. (x.0, x.1.now)) result (reads room constant symbols.now) }
 {
     let ((annotations, (name, body)), rest) = constant_part_of(alloc, room, symbols)?;
     let doc = doc_before(alloc, &symbols[..symbols.len() - rest.len()])?;
-    let constant = ConstantDecl {
+    let NameAt { name, line } = name;
+    let member = Member::Constant(ConstantDecl {
         name,
         annotations,
         doc,
         body,
-    };
-    Ok((Member::Constant(constant), rest))
+    });
+    let children = List::new(alloc);
+    let lines = Lines { line, children };
+    Ok((MemberAt { member, lines }, rest))
 }
 
-// Whether an enum constant begins here.
-fn starts_constant(symbols: &[Symbol<'_>]) -> bool
+/// Whether an enum constant begins here.
+pub fn starts_constant(symbols: &[Symbol<'_>]) -> bool
     ensures { result ≡ starts (ats ++ names) symbols.now }
 {
     starts_annotation(symbols) || starts_name(symbols)
@@ -92,7 +94,7 @@ fn comma_constant_of<'a, 's>(
     alloc: Global,
     room: usize,
     symbols: &'s [Symbol<'a>],
-) -> Result<(Option<Member>, &'s [Symbol<'a>]), ReadFault>
+) -> Result<(Option<MemberAt>, &'s [Symbol<'a>]), ReadFault>
     ensures { Gives (λ x. (x.0, x.1.now)) result (reads room (comma_item constant) symbols.now) }
 {
     let (_, rest) = one(symbols, 68)?;
@@ -107,9 +109,9 @@ fn comma_constant_of<'a, 's>(
 fn more_constants_of<'a, 's>(
     alloc: Global,
     room: usize,
-    front: Vec<Member>,
+    front: Vec<MemberAt>,
     symbols: &'s [Symbol<'a>],
-) -> Result<(Vec<Member>, &'s [Symbol<'a>]), ReadFault>
+) -> Result<(Vec<MemberAt>, &'s [Symbol<'a>]), ReadFault>
     ensures { Gives (λ x. (x.0.items, x.1.now)) result (constants_behind front.items room symbols.now) }
 {
     let mut all = front;
@@ -131,7 +133,7 @@ fn some_constants_of<'a, 's>(
     alloc: Global,
     room: usize,
     symbols: &'s [Symbol<'a>],
-) -> Result<(Vec<Member>, &'s [Symbol<'a>]), ReadFault>
+) -> Result<(Vec<MemberAt>, &'s [Symbol<'a>]), ReadFault>
     ensures { Gives (λ x. (x.0.items, x.1.now)) result (reads room some_constants symbols.now) }
 {
     let (first, rest) = constant_in(alloc, room, symbols)?;
@@ -146,7 +148,7 @@ fn constant_list_of<'a, 's>(
     alloc: Global,
     room: usize,
     symbols: &'s [Symbol<'a>],
-) -> Result<(Vec<Member>, &'s [Symbol<'a>]), ReadFault>
+) -> Result<(Vec<MemberAt>, &'s [Symbol<'a>]), ReadFault>
     ensures { Gives (λ x. (x.0.items, x.1.now)) result (reads room constant_list symbols.now) }
 {
     if starts_constant(symbols) {
@@ -162,7 +164,7 @@ pub fn constants_of<'a, 's>(
     alloc: Global,
     room: usize,
     symbols: &'s [Symbol<'a>],
-) -> Result<(Vec<Member>, &'s [Symbol<'a>]), ReadFault>
+) -> Result<(Vec<MemberAt>, &'s [Symbol<'a>]), ReadFault>
     ensures { Gives (λ x. (x.0.items, x.1.now)) result (reads room constants symbols.now) }
 {
     if starts_constants(symbols) {

@@ -11,7 +11,7 @@ mod made_members;
 mod members;
 mod supertypes;
 
-pub use enums::constants_of;
-pub use made_members::{add_members, with_doc};
+pub use enums::{constant_in, constants_of, starts_constant};
+pub use made_members::{add_members, type_at};
 pub use members::{generic_member_of, named_member_of, primitive_member_of, void_method_of};
 pub use supertypes::{extended_of, implemented_of, superclass_of};

@@ -6,13 +6,13 @@ ghost use Rattle.decl_grammar.specs.Grammar.{typed_member, constructed_or, typed
 ghost use Rattle.decl_grammar.specs.Rule.{reads};
 ghost use Rattle.decl_members.specs.NamedMembers.{typed_at, constructed_at};
 
-use apt_base::{List, Name};
-use decl_grammar::{MemberRest, ReadFault, Symbol, Unmodified};
-use decl_tree::{BaseType, NamedPart, PrimitiveKind, TypeParam, TypeText};
+use apt_base::List;
+use decl_grammar::{MemberRest, NameAt, ReadFault, Symbol, TypeParamAt, Unmodified};
+use decl_tree::{BaseType, NamedPart, PrimitiveKind, TypeText};
 use decl_types::{constructor_signature_of, member_rest_of, method_signature_of, type_params_of};
 use decl_values::{
     annotation_of, annotations_of, dims_of, is_next, more_parts_of, one, optional_arguments_of,
-    primitive_type_of, read_name, starts_annotation, starts_name, starts_primitive,
+    primitive_type_of, read_name_at, starts_annotation, starts_name, starts_primitive,
 };
 use std::alloc::Global;
 
@@ -22,21 +22,20 @@ fn typed_member_of<'a, 's>(
     alloc: Global,
     room: usize,
     kind: MemberRest,
-    first: &str,
+    first: NameAt,
     symbols: &'s [Symbol<'a>],
 ) -> Result<(Unmodified, &'s [Symbol<'a>]), ReadFault>
-    ensures { Gives (λ x. (x.0, x.1.now)) result (typed_at first.now room kind symbols.now) }
+    ensures { Gives (λ x. (x.0, x.1.now)) result (typed_at first room kind symbols.now) }
 {
     let (arguments, rest) = optional_arguments_of(alloc, room, symbols)?;
-    let name = Name::new(alloc, first)?;
+    let NameAt { name, .. } = first;
     let mut front = Vec::new(alloc);
     front.push(NamedPart { name, arguments })?;
     let (parts, rest) = more_parts_of(alloc, room, front, rest)?;
     let base = BaseType::Named(List::from_vec(parts));
     let (dims, rest) = dims_of(alloc, room, rest)?;
     let around = List::from_vec(dims);
-    let (text, rest) = read_name(room, rest)?;
-    let name = Name::new(alloc, text)?;
+    let (name, rest) = read_name_at(alloc, room, rest)?;
     member_rest_of(alloc, room, kind, TypeText { around, base }, name, rest)
 }
 
@@ -46,15 +45,18 @@ fn constructed_or_of<'a, 's>(
     alloc: Global,
     room: usize,
     kind: MemberRest,
-    first: &str,
+    first: NameAt,
     symbols: &'s [Symbol<'a>],
 ) -> Result<(Unmodified, &'s [Symbol<'a>]), ReadFault>
-    ensures { Gives (λ x. (x.0, x.1.now)) result (constructed_at first.now room kind symbols.now) }
+    ensures { Gives (λ x. (x.0, x.1.now)) result (constructed_at first room kind symbols.now) }
 {
     if is_next(symbols, 61) {
         let (signature, rest) = constructor_signature_of(alloc, room, symbols)?;
         let parameters = List::new(alloc);
-        return Ok((Unmodified::Constructor(parameters, signature), rest));
+        return Ok((
+            Unmodified::Constructor(first.line, parameters, signature),
+            rest,
+        ));
     }
     typed_member_of(alloc, room, kind, first, symbols)
 }
@@ -70,7 +72,7 @@ pub fn named_member_of<'a, 's>(
 ) -> Result<(Unmodified, &'s [Symbol<'a>]), ReadFault>
     ensures { Gives (λ x. (x.0, x.1.now)) result (reads room (named_member constructors kind) symbols.now) }
 {
-    let (first, rest) = read_name(room, symbols)?;
+    let (first, rest) = read_name_at(alloc, room, symbols)?;
     if constructors {
         return constructed_or_of(alloc, room, kind, first, rest);
     }
@@ -87,8 +89,7 @@ pub fn void_method_of<'a, 's>(
     ensures { Gives (λ x. (x.0, x.1.now)) result (reads room void_method symbols.now) }
 {
     let (_, rest) = one(symbols, 57)?;
-    let (text, rest) = read_name(room, rest)?;
-    let name = Name::new(alloc, text)?;
+    let (name, rest) = read_name_at(alloc, room, rest)?;
     let (signature, rest) = method_signature_of(alloc, room, rest)?;
     let base = BaseType::Primitive(PrimitiveKind::Void);
     let around = List::new(alloc);
@@ -113,8 +114,7 @@ pub fn primitive_member_of<'a, 's>(
     let base = BaseType::Primitive(primitive);
     let (dims, rest) = dims_of(alloc, room, rest)?;
     let around = List::from_vec(dims);
-    let (text, rest) = read_name(room, rest)?;
-    let name = Name::new(alloc, text)?;
+    let (name, rest) = read_name_at(alloc, room, rest)?;
     member_rest_of(alloc, room, kind, TypeText { around, base }, name, rest)
 }
 
@@ -173,7 +173,7 @@ fn generic_rest_of<'a, 's>(
 }
 
 // The same member with other type parameters.
-fn with_params(parameters: List<TypeParam>, unmodified: Unmodified) -> Unmodified
+fn with_params(parameters: List<TypeParamAt>, unmodified: Unmodified) -> Unmodified
     ensures { result ≡ with_type_params parameters unmodified }
 {
     match unmodified {
@@ -182,7 +182,9 @@ fn with_params(parameters: List<TypeParam>, unmodified: Unmodified) -> Unmodifie
         Unmodified::Method(_, of, name, signature) => {
             Unmodified::Method(parameters, of, name, signature)
         }
-        Unmodified::Constructor(_, signature) => Unmodified::Constructor(parameters, signature),
+        Unmodified::Constructor(line, _, signature) => {
+            Unmodified::Constructor(line, parameters, signature)
+        }
         Unmodified::Nested(rest) => Unmodified::Nested(rest),
     }
 }

@@ -16,14 +16,16 @@ use std::alloc::Global;
 
 // What follows the `@` of an annotation.
 #[tactic(auto, unfolding(decl_grammar::specs::Reading::one_at))]
-fn read_at<'a, 's>(symbols: &'s [Symbol<'a>]) -> Result<(Symbol<'a>, &'s [Symbol<'a>]), ReadFault>
-    ensures { Gives (λ x. (x.0, x.1.now)) result (one_at ats symbols.now) }
+fn read_at<'a, 's>(
+    symbols: &'s [Symbol<'a>],
+) -> Result<(&'s Symbol<'a>, &'s [Symbol<'a>]), ReadFault>
+    ensures { Gives (λ x. (x.0.now, x.1.now)) result (one_at ats symbols.now) }
 {
     match symbols {
         [] => Err(ReadFault::Bad(0)),
         [symbol, rest @ ..] => {
             if is_at(symbol.sort) {
-                return Ok((*symbol, rest));
+                return Ok((symbol, rest));
             }
             Err(ReadFault::Bad(symbols.len()))
         }
@@ -66,14 +68,14 @@ fn more_annotations_over_of<'a, 's>(
 #[tactic(auto, unfolding(decl_grammar::specs::Reading::one_at))]
 fn read_type_start<'a, 's>(
     symbols: &'s [Symbol<'a>],
-) -> Result<(Symbol<'a>, &'s [Symbol<'a>]), ReadFault>
-    ensures { Gives (λ x. (x.0, x.1.now)) result (one_at (names ++ primitive_sorts) symbols.now) }
+) -> Result<(&'s Symbol<'a>, &'s [Symbol<'a>]), ReadFault>
+    ensures { Gives (λ x. (x.0.now, x.1.now)) result (one_at (names ++ primitive_sorts) symbols.now) }
 {
     match symbols {
         [] => Err(ReadFault::Bad(0)),
         [symbol, rest @ ..] => {
             if starts_type(symbols) {
-                return Ok((*symbol, rest));
+                return Ok((symbol, rest));
             }
             Err(ReadFault::Bad(symbols.len()))
         }

@@ -149,9 +149,9 @@ pub fn doc_before<'a>(alloc: Global, symbols: &[Symbol<'a>]) -> Result<Option<Na
 {
     match symbols {
         [] => Ok(None),
-        [symbol, ..] => match symbol.doc {
+        [symbol, ..] => match &symbol.doc {
             None => Ok(None),
-            Some(comment) => match text_of(alloc, comment) {
+            Some(comment) => match text_of(alloc, comment.as_str()) {
                 Ok(text) => Ok(Some(text)),
                 Err(_) => Err(ReadFault::Memory),
             },

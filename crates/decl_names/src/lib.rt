@@ -16,7 +16,7 @@ mod steps;
 pub use annotations_over::annotated_start_of;
 pub use docs::doc_before;
 pub use imports::imports_of;
-pub use names::{is_name_sort, read_chain, read_name, starts_name};
+pub use names::{is_name_sort, read_chain, read_name, read_name_at, starts_name};
 pub use skipping::read_over;
 pub use sorts::{
     is_at, is_literal_sort, is_plain, is_primitive, is_square_or_at, starts_annotation,

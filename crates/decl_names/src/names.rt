@@ -4,12 +4,12 @@ ghost use Rattle.decl_grammar.specs.Reading.{Gives, has, one_at, starts};
 ghost use Rattle.decl_grammar.specs.Form.{names, many, turned};
 ghost use Rattle.decl_grammar.specs.Constants.{more_dotted};
 ghost use Rattle.decl_grammar.specs.Rows.{names_behind};
-ghost use Rattle.decl_grammar.specs.Types.{name, dot_name, name_chain};
+ghost use Rattle.decl_grammar.specs.Types.{name, name_at, dot_name, name_chain};
 ghost use Rattle.decl_grammar.specs.Rule.{reads};
 
 use crate::steps::{begin, is_next, one};
 use apt_base::Name;
-use decl_grammar::{ReadFault, Symbol};
+use decl_grammar::{NameAt, ReadFault, Symbol};
 use std::alloc::Global;
 
 /// Whether a name has this sort.
@@ -41,7 +41,30 @@ pub fn read_name<'a, 's>(
         [] => Err(ReadFault::Bad(0)),
         [symbol, rest @ ..] => {
             if symbol.sort == 0 || symbol.sort == 1 {
-                Ok((symbol.text, rest))
+                Ok((symbol.text.as_str(), rest))
+            } else {
+                Err(ReadFault::Bad(symbols.len()))
+            }
+        }
+    }
+}
+
+/// A name with its line.
+#[tactic(auto, unfolding(decl_grammar::specs::Reading::one_at))]
+pub fn read_name_at<'a, 's>(
+    alloc: Global,
+    room: usize,
+    symbols: &'s [Symbol<'a>],
+) -> Result<(NameAt, &'s [Symbol<'a>]), ReadFault>
+    ensures { Gives (λ x. (x.0, x.1.now)) result (reads room name_at symbols.now) }
+{
+    match symbols {
+        [] => Err(ReadFault::Bad(0)),
+        [symbol, rest @ ..] => {
+            if symbol.sort == 0 || symbol.sort == 1 {
+                let name = Name::new(alloc, symbol.text.as_str())?;
+                let line = symbol.line;
+                Ok((NameAt { name, line }, rest))
             } else {
                 Err(ReadFault::Bad(symbols.len()))
             }

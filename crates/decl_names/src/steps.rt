@@ -20,14 +20,14 @@ pub fn is_next(symbols: &[Symbol<'_>], sort: u8) -> bool
 pub fn one<'a, 's>(
     symbols: &'s [Symbol<'a>],
     sort: u8,
-) -> Result<(Symbol<'a>, &'s [Symbol<'a>]), ReadFault>
-    ensures { Gives (λ x. (x.0, x.1.now)) result (one_at (sort ∷ []) symbols.now) }
+) -> Result<(&'s Symbol<'a>, &'s [Symbol<'a>]), ReadFault>
+    ensures { Gives (λ x. (x.0.now, x.1.now)) result (one_at (sort ∷ []) symbols.now) }
 {
     match symbols {
         [] => Err(ReadFault::Bad(0)),
         [symbol, rest @ ..] => {
             if symbol.sort == sort {
-                Ok((*symbol, rest))
+                Ok((symbol, rest))
             } else {
                 Err(ReadFault::Bad(symbols.len()))
             }

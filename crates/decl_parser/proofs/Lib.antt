@@ -1,3 +1,9 @@
 pub mod UnitRows
+pub mod LineRows
+pub mod NameParts
+pub mod NameFits
 pub mod Places
 pub mod MemberReads
+pub mod OneAnswer
+pub mod ShownChars
+pub mod FileAnswers

@@ -1,4 +1,6 @@
 pub mod MemberRows
 pub mod FileShown
-pub mod Units
+pub mod NamesShown
+pub mod Lines
+pub mod LinesShown
 pub mod Parsed

@@ -1,6 +1,6 @@
 -- What functions read of members with their modifiers, in words: members behind others.
 use Rattle.std.specs.Prelude.{ℕ, true, List, [], ◌∷◌, ◌++◌}
-use Rattle.decl_tree.specs.declared.declaration.Member.{Member}
+use Rattle.decl_grammar.specs.declared.written.MemberAt.{MemberAt}
 use Rattle.decl_tree.specs.declared.declaration.TypeKind.{TypeKind}
 use Rattle.decl_grammar.specs.declared.symbol.Symbol.{Symbol}
 use Rattle.decl_grammar.specs.declared.written.Modifiers.{Modifiers}
@@ -20,19 +20,19 @@ abbrev pub modified_of_class : Form (Modifiers × Unmodified)
 modified_of_class = class_modified (unmodified_of true)
 
 -- what a member with its modifiers gives, behind other members
-abbrev pub declared_behind : List Member → ℕ → TypeKind → List Symbol → Outcome (List Member)
+abbrev pub declared_behind : List MemberAt → ℕ → TypeKind → List Symbol → Outcome (List MemberAt)
 declared_behind front room kind ts = with_front front (reads room (member_from (modified_form kind)) ts)
 
 -- what a member gives, behind other members
-abbrev pub member_behind : List Member → ℕ → TypeKind → List Symbol → Outcome (List Member)
+abbrev pub member_behind : List MemberAt → ℕ → TypeKind → List Symbol → Outcome (List MemberAt)
 member_behind front room kind ts = with_front front (reads room (member_form kind) ts)
 
 -- what the members that stand here give, behind other members
-abbrev pub members_behind : List Member → ℕ → TypeKind → List Symbol → Outcome (List Member)
+abbrev pub members_behind : List MemberAt → ℕ → TypeKind → List Symbol → Outcome (List MemberAt)
 members_behind front room kind ts = turned (with_members front) (reads room (many (member_form kind)) ts)
 
 -- the members of an enum behind its constants
-abbrev pub enum_behind : List Member → ℕ → List Symbol → Outcome (List Member)
+abbrev pub enum_behind : List MemberAt → ℕ → List Symbol → Outcome (List MemberAt)
 enum_behind front room ts = with_front front (reads room enum_members ts)
 
 -- the sorts of symbol that begin a top-level type, or a `;`

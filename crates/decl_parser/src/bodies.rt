@@ -8,11 +8,11 @@ ghost use Rattle.decl_types.specs.Members.{has_blocks};
 ghost use Rattle.decl_parser.specs.MemberRows.{enum_behind, plain_of_class, modified_of_class, declared_behind, member_behind, members_behind};
 
 use crate::declarations::nested_type_of;
-use decl_grammar::{MemberRest, Modifiers, ReadFault, Symbol, Unmodified};
+use decl_grammar::{MemberAt, MemberRest, Modifiers, ReadFault, Symbol, Unmodified};
 use decl_members::{
     add_members, generic_member_of, named_member_of, primitive_member_of, void_method_of,
 };
-use decl_tree::{Member, TypeKind};
+use decl_tree::TypeKind;
 use decl_types::{
     none, optional_modifiers_of, plain_modifiers_of, starts_member, starts_plain_modifier,
     starts_type_word, starts_unmodified, static_word_of,
@@ -196,9 +196,9 @@ fn documented_of<'a, 's>(
     alloc: Global,
     room: usize,
     kind: TypeKind,
-    front: Vec<Member>,
+    front: Vec<MemberAt>,
     symbols: &'s [Symbol<'a>],
-) -> Result<(Vec<Member>, &'s [Symbol<'a>]), ReadFault>
+) -> Result<(Vec<MemberAt>, &'s [Symbol<'a>]), ReadFault>
     ensures { Gives (λ x. (x.0.items, x.1.now)) result (declared_behind front.items room kind symbols.now) }
 {
     let ((modifiers, member), rest) = modified_of(alloc, room, kind, symbols)?;
@@ -207,8 +207,8 @@ fn documented_of<'a, 's>(
     Ok((all, rest))
 }
 
-// Whether a type of this kind may have an initialiser here.
-fn is_initialiser(kind: TypeKind, symbols: &[Symbol<'_>]) -> bool
+/// Whether a type of this kind may have an initialiser here.
+pub fn is_initialiser(kind: TypeKind, symbols: &[Symbol<'_>]) -> bool
     ensures { result ≡ (has_blocks kind && starts (63 ∷ []) symbols.now) }
 {
     match kind {
@@ -219,15 +219,15 @@ fn is_initialiser(kind: TypeKind, symbols: &[Symbol<'_>]) -> bool
     }
 }
 
-// What a member gives, put behind other members: nothing for a `;` and for an initialiser.
+/// What a member gives, put behind other members: nothing for a `;` and for an initialiser.
 #[cycle(declarations)]
-fn member_of<'a, 's>(
+pub fn member_of<'a, 's>(
     alloc: Global,
     room: usize,
     kind: TypeKind,
-    front: Vec<Member>,
+    front: Vec<MemberAt>,
     symbols: &'s [Symbol<'a>],
-) -> Result<(Vec<Member>, &'s [Symbol<'a>]), ReadFault>
+) -> Result<(Vec<MemberAt>, &'s [Symbol<'a>]), ReadFault>
     ensures { Gives (λ x. (x.0.items, x.1.now)) result (member_behind front.items room kind symbols.now) }
 {
     if is_next(symbols, 67) {
@@ -247,9 +247,9 @@ fn more_members_of<'a, 's>(
     alloc: Global,
     room: usize,
     kind: TypeKind,
-    front: Vec<Member>,
+    front: Vec<MemberAt>,
     symbols: &'s [Symbol<'a>],
-) -> Result<(Vec<Member>, &'s [Symbol<'a>]), ReadFault>
+) -> Result<(Vec<MemberAt>, &'s [Symbol<'a>]), ReadFault>
     ensures { Gives (λ x. (x.0.items, x.1.now)) result (members_behind front.items room kind symbols.now) }
 {
     let mut all = front;
@@ -269,7 +269,7 @@ pub fn members_of<'a, 's>(
     room: usize,
     kind: TypeKind,
     symbols: &'s [Symbol<'a>],
-) -> Result<(Vec<Member>, &'s [Symbol<'a>]), ReadFault>
+) -> Result<(Vec<MemberAt>, &'s [Symbol<'a>]), ReadFault>
     ensures { Gives (λ x. (x.0.items, x.1.now)) result (reads room (members_in kind) symbols.now) }
 {
     let (_, rest) = one(symbols, 63)?;
@@ -285,9 +285,9 @@ pub fn members_of<'a, 's>(
 pub fn more_enum_members_of<'a, 's>(
     alloc: Global,
     room: usize,
-    front: Vec<Member>,
+    front: Vec<MemberAt>,
     symbols: &'s [Symbol<'a>],
-) -> Result<(Vec<Member>, &'s [Symbol<'a>]), ReadFault>
+) -> Result<(Vec<MemberAt>, &'s [Symbol<'a>]), ReadFault>
     ensures { Gives (λ x. (x.0.items, x.1.now)) result (enum_behind front.items room symbols.now) }
 {
     if is_next(symbols, 67) {

@@ -6,12 +6,12 @@ ghost use Rattle.decl_grammar.specs.Grammar.{superclass, class_form, interface_f
 ghost use Rattle.decl_grammar.specs.Rule.{reads, read_nest};
 
 use crate::bodies::{members_of, more_enum_members_of};
-use apt_base::{List, Name};
+use apt_base::List;
 use decl_grammar::{ReadFault, Symbol, TypeRest};
 use decl_members::{constants_of, extended_of, implemented_of, superclass_of};
 use decl_tree::TypeKind;
 use decl_types::{optional_params_of, starts_type_word};
-use decl_values::{is_next, one, read_name, shut};
+use decl_values::{is_next, one, read_name_at, shut};
 use std::alloc::Global;
 
 /// A member type behind its modifiers, where so much may be open in it.
@@ -40,8 +40,7 @@ fn class_of<'a, 's>(
     ensures { Gives (λ x. (x.0, x.1.now)) result (reads room class_form symbols.now) }
 {
     let (_, rest) = one(symbols, 18)?;
-    let (text, rest) = read_name(room, rest)?;
-    let name = Name::new(alloc, text)?;
+    let (name, rest) = read_name_at(alloc, room, rest)?;
     let (parameters, rest) = optional_params_of(alloc, room, rest)?;
     let parameters = List::from_vec(parameters);
     let (superclass, rest) = superclass_of(alloc, room, rest)?;
@@ -74,8 +73,7 @@ fn interface_of<'a, 's>(
     ensures { Gives (λ x. (x.0, x.1.now)) result (reads room interface_form symbols.now) }
 {
     let (_, rest) = one(symbols, 37)?;
-    let (text, rest) = read_name(room, rest)?;
-    let name = Name::new(alloc, text)?;
+    let (name, rest) = read_name_at(alloc, room, rest)?;
     let (parameters, rest) = optional_params_of(alloc, room, rest)?;
     let parameters = List::from_vec(parameters);
     let (interfaces, rest) = extended_of(alloc, room, rest)?;
@@ -109,8 +107,7 @@ fn annotation_interface_of<'a, 's>(
 {
     let (_, rest) = one(symbols, 9)?;
     let (_, rest) = one(rest, 37)?;
-    let (text, rest) = read_name(room, rest)?;
-    let name = Name::new(alloc, text)?;
+    let (name, rest) = read_name_at(alloc, room, rest)?;
     let parameters = List::new(alloc);
     let interfaces = List::new(alloc);
     let (members, rest) = members_of(alloc, room, TypeKind::AnnotationType, rest)?;
@@ -141,8 +138,7 @@ fn enum_of<'a, 's>(
     ensures { Gives (λ x. (x.0, x.1.now)) result (reads room enum_form symbols.now) }
 {
     let (_, rest) = one(symbols, 25)?;
-    let (text, rest) = read_name(room, rest)?;
-    let name = Name::new(alloc, text)?;
+    let (name, rest) = read_name_at(alloc, room, rest)?;
     let parameters = List::new(alloc);
     let (interfaces, rest) = implemented_of(alloc, room, rest)?;
     let interfaces = List::from_vec(interfaces);

@@ -8,9 +8,9 @@ ghost use Rattle.decl_parser.specs.FileShown.{ordinary_view};
 ghost use Rattle.decl_grammar.specs.File.{IsPhrase, IsShallow, phrase_at, Found, Missed, BadAt, DeepAt};
 
 use crate::top_types::top_types_of;
-use apt_base::{List, Name};
-use decl_grammar::{ParseFault, ReadFault, Symbol};
-use decl_tree::{Import, TypeDecl};
+use apt_base::List;
+use decl_grammar::{NameAt, ParseFault, ReadFault, Symbol, TypeAt};
+use decl_tree::Import;
 use decl_types::package_of;
 use decl_values::{begin, imports_of, is_next, one};
 use std::alloc::Global;
@@ -19,20 +19,20 @@ use std::alloc::Global;
 #[derive(Drop)]
 pub struct OrdinaryFile {
     /// The name of its package, and none where it is in the unnamed one (JLS 7.4.2).
-    pub package: Option<Name>,
+    pub package: Option<NameAt>,
     /// The imports, in the order in which they are written.
     pub imports: List<Import>,
     /// The types, in the order in which they are written.
-    pub types: List<Option<TypeDecl>>,
+    pub types: List<Option<TypeAt>>,
 }
 
-// A package declaration, where there is one.
+/// A package declaration, where there is one.
 #[tactic(auto, using(decl_grammar::proofs::Firsts::package_form_first))]
-fn optional_package_of<'a, 's>(
+pub fn optional_package_of<'a, 's>(
     alloc: Global,
     room: usize,
     symbols: &'s [Symbol<'a>],
-) -> Result<(Option<Name>, &'s [Symbol<'a>]), ReadFault>
+) -> Result<(Option<NameAt>, &'s [Symbol<'a>]), ReadFault>
     ensures { Gives (λ x. (x.0, x.1.now)) result (reads room (maybe package_form) symbols.now) }
 {
     if is_next(symbols, 41) {

@@ -9,8 +9,8 @@ ghost use Rattle.decl_parser.specs.FileShown.{package_view, package_seen, packag
 ghost use Rattle.decl_grammar.specs.File.{IsPhrase, IsShallow, phrase_at, Found, Missed, BadAt, DeepAt};
 
 use crate::info_file::{InfoFile, PackageText};
-use apt_base::{List, Name};
-use decl_grammar::{ParseFault, ReadFault, Symbol};
+use apt_base::List;
+use decl_grammar::{NameAt, ParseFault, ReadFault, Symbol};
 use decl_tree::AnnotationText;
 use decl_types::package_of;
 use decl_values::{annotations_of, begin, doc_before, imports_of, is_next, one, starts_annotation};
@@ -22,7 +22,7 @@ fn package_part_of<'a, 's>(
     alloc: Global,
     room: usize,
     symbols: &'s [Symbol<'a>],
-) -> Result<((List<AnnotationText>, Name), &'s [Symbol<'a>]), ReadFault>
+) -> Result<((List<AnnotationText>, NameAt), &'s [Symbol<'a>]), ReadFault>
     ensures { Gives (λ x. (x.0, x.1.now)) result (reads room package_part symbols.now) }
 {
     let (annotations, rest) = annotations_of(alloc, room, symbols)?;
@@ -80,8 +80,8 @@ fn optional_package_of<'a, 's>(
 fn semicolon_of<'a, 's>(
     room: usize,
     symbols: &'s [Symbol<'a>],
-) -> Result<(Symbol<'a>, &'s [Symbol<'a>]), ReadFault>
-    ensures { Gives (λ x. (x.0, x.1.now)) result (reads room semicolon symbols.now) }
+) -> Result<(&'s Symbol<'a>, &'s [Symbol<'a>]), ReadFault>
+    ensures { Gives (λ x. (x.0.now, x.1.now)) result (reads room semicolon symbols.now) }
 {
     one(symbols, 67)
 }

@@ -1,5 +1,6 @@
 // What a file `package-info.java` declares.
 use apt_base::{List, Name};
+use decl_grammar::NameAt;
 use decl_tree::{AnnotationText, Import};
 
 /// A package declaration with its annotations and the text of its doc comment.
@@ -9,8 +10,8 @@ pub struct PackageText {
     pub doc: Option<Name>,
     /// Its annotations, in the order in which they are written.
     pub annotations: List<AnnotationText>,
-    /// The name of the package.
-    pub name: Name,
+    /// The name of the package, with the line of the `package`.
+    pub name: NameAt,
 }
 
 /// What a file `package-info.java` declares.

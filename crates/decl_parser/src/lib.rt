@@ -1,11 +1,10 @@
-//! The readers of ordinary compilation units (JLS 7.3), and of files `package-info.java` (JLS 7.4.1).
+//! The reader of files of declarations (JLS 7.3, 7.4.1): `parse` gives the units of a file, or the place of its first fault, or the limit that it passes first, exactly, and `line_of` the line of
+//! an element of these units.
 //!
-//! The grammar and its laws are those of `decl_grammar`, and the readers of what types and their members are made of those of `decl_values`,
-//! `decl_types` and `decl_members`. `units_of_tokens` reads the units of a file out of its tokens, and `package_info_units` the unit of a file
-//! `package-info.java`: each is exact, and says the place of the first fault, or that more than 200 nested types, lists of
-//! type arguments and values are open before it.
+//! The grammar and its laws are those of `decl_grammar`, and the readers of what types and their members are made of those of `decl_values`, `decl_types` and `decl_members`. What a file comes to is
+//! `AnswersFile` of `specs/Parsed`. Which names are too long and which child lists are is in `decl_limits`, and the lines of elements are in `specs/Lines`.
 //!
-//! Not here yet: the limits of children and of names, so that a package's name of more than 1,024 bytes is read, and the lines of elements.
+//! Depth is tested as the symbols are read. Children are counted behind that, over the symbols before the fault (`decl_children`), and names last, in a file that has a reading.
 #![tactic(auto)]
 
 mod bodies;
@@ -13,9 +12,14 @@ mod declarations;
 mod file;
 mod info;
 mod info_file;
+mod laws;
+mod lines;
+mod naming;
 mod parsing;
 mod top_types;
 mod units;
 
-pub use decl_grammar::{Symbol, fronts_begin, one_reading, symbols};
-pub use parsing::{FileFault, package_info_units, units_of_tokens};
+pub use decl_grammar::{Lines, Symbol, fronts_begin, one_reading, symbols};
+pub use laws::one_answer;
+pub use lines::line_of;
+pub use parsing::{FileFault as ParseFault, Parsed, parse};

@@ -1,31 +1,43 @@
-// Reads the units of a file out of its tokens.
-ghost use Rattle.std.specs.Prelude.{◌≡◌, List, Ok, IfOk};
-ghost use Rattle.decl_parser.specs.FileShown.{info_view};
+// Reads files: their units with the lines of the elements, or why there are none.
+ghost use Rattle.std.specs.Prelude.{◌≡◌, ◌≤◌, ℕ, Err, length, take};
+ghost use Rattle.decl_parser.specs.FileShown.{info_view, ordinary_view};
+ghost use Rattle.java_tokens.specs.TokensShown.{shown_tokens};
 ghost use Rattle.decl_grammar.specs.Grammar.{ordinary, package_info};
-ghost use Rattle.decl_grammar.specs.File.{IsShallow};
+ghost use Rattle.decl_grammar.specs.File.{BeginsPhrase};
 ghost use Rattle.decl_grammar.specs.SymbolList.{symbols_of};
-ghost use Rattle.decl_parser.specs.Units.{units_of, info_units};
-ghost use Rattle.decl_parser.specs.Parsed.{limit, offset_at, FoundUnits, OnlyUnits, BadPlace, IsDeep};
+ghost use Rattle.decl_limits.specs.Texts.{AreTexts};
+ghost use Rattle.decl_limits.specs.Limits.{IsWhole, AreLegal, IsLegalInfo};
+ghost use Rattle.decl_parser.specs.Parsed.{offset_at, is_info, fault_of, HasFaultAt, IsDeepAt, GivesNamed, GivesNamedInfo, UnlessCrowded, AnswersOrdinary, AnswersInfo, AnswersSymbols, AnswersChars, AnswersFile};
 
-use crate::file::parse_ordinary;
+use crate::file::{OrdinaryFile, parse_ordinary};
 use crate::info::parse_info;
 use crate::info_file::InfoFile;
-use crate::units::{info_unit, ordinary_units};
-use apt_base::{List, NoMemory, What};
-use decl_grammar::{ParseFault, Symbol, symbols};
-use decl_tree::UnitText;
-use java_tokens::Token;
+use crate::naming::{is_file_named, is_info_named};
+use crate::units::{info_declared, ordinary_declared};
+use apt_base::{List, What};
+use decl_children::is_crowded;
+use decl_grammar::{Lines, ParseFault, Symbol, symbols};
+use decl_tree::Unit;
+use java_tokens::{Chars, TextFault, Token, read_chars, tokens};
 use std::alloc::Global;
 
 // The most nested types, lists of type arguments and values that may be open at a token.
 const ROOM: usize = 200;
 
-/// Why tokens are no file.
+/// The units of a file, and for each the lines of its elements, in the same order.
+#[derive(Drop)]
+pub struct Parsed {
+    pub units: List<Unit>,
+    pub lines: List<Lines>,
+}
+
+/// Why a file gives no units.
 #[derive(Clone, Copy, Debug, PartialEq, Eq)]
 pub enum FileFault {
-    /// The tokens begin no compilation unit from this offset on: that of the first token that, together with those before it, begins none, or the length of the file where all tokens together begin one.
+    /// No file begins so, from this offset on: that of the first character that can't be read, of the first token that is none, or of the first token that begins no compilation unit
+    /// with those before it; or the length of the file where all tokens together begin one.
     Bad { place: u32 },
-    /// At a token before such a place more is open than is allowed.
+    /// It passes this limit first: Depth, Children or Name.
     TooLarge { what: What },
     /// Memory ran out.
     Memory,
@@ -41,115 +53,210 @@ fn place_of(symbols: &[Symbol<'_>], number: usize, end: u32) -> u32
     }
 }
 
-// The units of the symbols of an ordinary compilation unit.
-fn units_of_symbols(
+// The symbols before the one with this number.
+fn front_of<'a, 's>(symbols: &'s [Symbol<'a>], number: usize) -> &'s [Symbol<'a>]
+    ensures { result.now ≡ take number symbols.now }
+{
+    if number < symbols.len() {
+        return &symbols[..number];
+    }
+    symbols
+}
+
+// A fault, unless a child list is too long in the symbols before it.
+fn unless_crowded(alloc: Global, before: &[Symbol<'_>], fault: FileFault) -> FileFault
+    requires { (n : ℕ) × BeginsPhrase ordinary before.now n }
+    ensures { UnlessCrowded before.now fault result }
+{
+    match is_crowded(alloc, before) {
+        Ok(true) => FileFault::TooLarge {
+            what: What::Children,
+        },
+        Ok(false) => fault,
+        Err(_) => FileFault::Memory,
+    }
+}
+
+// What the first fault of the symbols of an ordinary compilation unit comes to.
+fn bad_ordinary(alloc: Global, symbols: &[Symbol<'_>], number: usize, end: u32) -> FileFault
+    requires { HasFaultAt ordinary number symbols.now }
+    ensures { AnswersOrdinary end symbols.now (Err result) }
+{
+    let place = place_of(symbols, number, end);
+    unless_crowded(alloc, front_of(symbols, number), FileFault::Bad { place })
+}
+
+// What too much that is open in them comes to.
+fn deep_ordinary(alloc: Global, symbols: &[Symbol<'_>], number: usize, end: u32) -> FileFault
+    requires { IsDeepAt ordinary number symbols.now }
+    ensures { AnswersOrdinary end symbols.now (Err result) }
+{
+    let fault = FileFault::TooLarge { what: What::Depth };
+    unless_crowded(alloc, front_of(symbols, number), fault)
+}
+
+// The units of a file that was read, unless a name in it is too long.
+fn named_units(alloc: Global, file: OrdinaryFile) -> Result<Parsed, FileFault>
+    requires { AreLegal (ordinary_view file) }
+    ensures { GivesNamed (ordinary_view file) result }
+{
+    let named = is_file_named(&file);
+    if !named {
+        return Err(FileFault::TooLarge { what: What::Name });
+    }
+    match ordinary_declared(alloc, file) {
+        Ok((units, lines)) => Ok(Parsed { units, lines }),
+        Err(_) => Err(FileFault::Memory),
+    }
+}
+
+// What an ordinary compilation unit that was read comes to.
+fn whole_ordinary(
     alloc: Global,
     symbols: &[Symbol<'_>],
+    file: OrdinaryFile,
     end: u32,
-) -> Result<List<UnitText>, FileFault>
-    ensures found { FoundUnits ordinary units_of symbols.now result }
-    ensures only { OnlyUnits ordinary units_of symbols.now result }
-    ensures shallow { IfOk result (λ us. IsShallow ordinary limit symbols.now) }
-    ensures bad { BadPlace ordinary end symbols.now result }
-    ensures deep { IsDeep ordinary symbols.now result }
+) -> Result<Parsed, FileFault>
+    requires texts { AreTexts symbols.now }
+    requires whole { IsWhole ordinary symbols.now (ordinary_view file) }
+    ensures { AnswersOrdinary end symbols.now result }
+{
+    match is_crowded(alloc, symbols) {
+        Ok(true) => Err(FileFault::TooLarge {
+            what: What::Children,
+        }),
+        Ok(false) => named_units(alloc, file),
+        Err(_) => Err(FileFault::Memory),
+    }
+}
+
+// What the symbols of an ordinary compilation unit come to.
+fn ordinary_of_symbols(alloc: Global, symbols: &[Symbol<'_>], end: u32) -> Result<Parsed, FileFault>
+    requires { AreTexts symbols.now }
+    ensures { AnswersOrdinary end symbols.now result }
 {
     match parse_ordinary(alloc, ROOM, symbols) {
-        Ok(file) => match ordinary_units(alloc, file) {
-            Ok(units) => Ok(units),
-            Err(_) => Err(FileFault::Memory),
-        },
-        Err(ParseFault::Bad { place }) => Err(FileFault::Bad {
-            place: place_of(symbols, place, end),
-        }),
-        Err(ParseFault::Deep { .. }) => Err(FileFault::TooLarge { what: What::Depth }),
+        Ok(file) => whole_ordinary(alloc, symbols, file, end),
+        Err(ParseFault::Bad { place }) => Err(bad_ordinary(alloc, symbols, place, end)),
+        Err(ParseFault::Deep { place }) => Err(deep_ordinary(alloc, symbols, place, end)),
         Err(ParseFault::Memory) => Err(FileFault::Memory),
     }
 }
 
-/// The units of an ordinary compilation unit (JLS 7.3), from the tokens of the file and its length in bytes.
-///
-/// A package's name of more than 1,024 bytes and a list of more than 65,535 children are not refused yet.
-pub fn units_of_tokens(
-    alloc: Global,
-    tokens: &[Token<'_>],
-    end: u32,
-) -> Result<List<UnitText>, FileFault>
-    // What is read is in the grammar, and its units are these.
-    ensures found { FoundUnits ordinary units_of (symbols_of tokens.now) result }
-
-    // What is in the grammar is read, unless it is too deep or memory runs out.
-    ensures only { OnlyUnits ordinary units_of (symbols_of tokens.now) result }
-
-    // At no symbol of what is read is more open than is allowed.
-    ensures shallow { IfOk result (λ us. IsShallow ordinary limit (symbols_of tokens.now)) }
-
-    // The place of the first fault, and that too much is open before one.
-    ensures bad { BadPlace ordinary end (symbols_of tokens.now) result }
-    ensures deep { IsDeep ordinary (symbols_of tokens.now) result }
+// The unit of a file `package-info.java` that was read, unless the name of its package is too long.
+fn named_info(alloc: Global, file: InfoFile) -> Result<Parsed, FileFault>
+    requires { IsLegalInfo (info_view file) }
+    ensures { GivesNamedInfo (info_view file) result }
 {
-    match symbols(alloc, tokens) {
-        Ok(list) => units_of_symbols(alloc, list.as_slice(), end),
+    let named = is_info_named(&file);
+    if !named {
+        return Err(FileFault::TooLarge { what: What::Name });
+    }
+    match info_declared(alloc, file) {
+        Ok((units, lines)) => Ok(Parsed { units, lines }),
         Err(_) => Err(FileFault::Memory),
     }
 }
 
-// The unit of a file `package-info.java` as the only one.
-fn only_unit(alloc: Global, file: InfoFile) -> Result<List<UnitText>, NoMemory>
-    ensures { IfOk result (λ us. us ≡ info_units (info_view file)) }
+// What the first fault of the symbols of a file `package-info.java` comes to.
+fn bad_info(symbols: &[Symbol<'_>], number: usize, end: u32) -> FileFault
+    requires { HasFaultAt package_info number symbols.now }
+    ensures { AnswersInfo end symbols.now (Err result) }
 {
-    let mut all = List::new(alloc);
-    all.push(info_unit(alloc, file)?)?;
-    Ok(all)
+    FileFault::Bad {
+        place: place_of(symbols, number, end),
+    }
 }
 
-// The unit of the symbols of a file `package-info.java`.
-fn info_of_symbols(
-    alloc: Global,
-    symbols: &[Symbol<'_>],
-    end: u32,
-) -> Result<List<UnitText>, FileFault>
-    ensures found { FoundUnits package_info info_units symbols.now result }
-    ensures only { OnlyUnits package_info info_units symbols.now result }
-    ensures shallow { IfOk result (λ us. IsShallow package_info limit symbols.now) }
-    ensures bad { BadPlace package_info end symbols.now result }
-    ensures deep { IsDeep package_info symbols.now result }
+// What too much that is open in them comes to.
+fn deep_info(symbols: &[Symbol<'_>], number: usize, end: u32) -> FileFault
+    requires { IsDeepAt package_info number symbols.now }
+    ensures { AnswersInfo end symbols.now (Err result) }
+{
+    FileFault::TooLarge { what: What::Depth }
+}
+
+// What the symbols of a file `package-info.java` come to.
+fn info_of_symbols(alloc: Global, symbols: &[Symbol<'_>], end: u32) -> Result<Parsed, FileFault>
+    requires { AreTexts symbols.now }
+    ensures { AnswersInfo end symbols.now result }
 {
     match parse_info(alloc, ROOM, symbols) {
-        Ok(file) => match only_unit(alloc, file) {
-            Ok(units) => Ok(units),
-            Err(_) => Err(FileFault::Memory),
-        },
-        Err(ParseFault::Bad { place }) => Err(FileFault::Bad {
-            place: place_of(symbols, place, end),
-        }),
-        Err(ParseFault::Deep { .. }) => Err(FileFault::TooLarge { what: What::Depth }),
+        Ok(file) => named_info(alloc, file),
+        Err(ParseFault::Bad { place }) => Err(bad_info(symbols, place, end)),
+        Err(ParseFault::Deep { place }) => Err(deep_info(symbols, place, end)),
         Err(ParseFault::Memory) => Err(FileFault::Memory),
     }
 }
 
-/// The unit of a file `package-info.java` (JLS 7.4.1), from the tokens of the file and its length in bytes.
-///
-/// A package's name of more than 1,024 bytes is not refused yet.
-pub fn package_info_units(
-    alloc: Global,
-    tokens: &[Token<'_>],
-    end: u32,
-) -> Result<List<UnitText>, FileFault>
-    // What is read is in the grammar, and its unit is this one.
-    ensures found { FoundUnits package_info info_units (symbols_of tokens.now) result }
-
-    // What is in the grammar is read, unless it is too deep or memory runs out.
-    ensures only { OnlyUnits package_info info_units (symbols_of tokens.now) result }
-
-    // At no symbol of what is read is more open than is allowed.
-    ensures shallow { IfOk result (λ us. IsShallow package_info limit (symbols_of tokens.now)) }
-
-    // The place of the first fault, and that too much is open before one.
-    ensures bad { BadPlace package_info end (symbols_of tokens.now) result }
-    ensures deep { IsDeep package_info (symbols_of tokens.now) result }
+// Whether a path is that of a file `package-info.java`.
+fn is_info_path(path: &str) -> bool
+    ensures { result ≡ is_info path.now }
 {
-    match symbols(alloc, tokens) {
-        Ok(list) => info_of_symbols(alloc, list.as_slice(), end),
+    if path == "package-info.java" {
+        return true;
+    }
+    path.as_bytes().ends_with(b"/package-info.java")
+}
+
+// What the symbols of a file come to.
+fn of_symbols(
+    alloc: Global,
+    info: bool,
+    symbols: &[Symbol<'_>],
+    end: u32,
+) -> Result<Parsed, FileFault>
+    requires { AreTexts symbols.now }
+    ensures { AnswersSymbols info end symbols.now result }
+{
+    if info {
+        return info_of_symbols(alloc, symbols, end);
+    }
+    ordinary_of_symbols(alloc, symbols, end)
+}
+
+// What the tokens of a file come to.
+fn of_tokens(alloc: Global, info: bool, list: &[Token<'_>], end: u32) -> Result<Parsed, FileFault>
+    requires { AreTexts (symbols_of (shown_tokens list.now)) }
+    ensures { AnswersSymbols info end (symbols_of (shown_tokens list.now)) result }
+{
+    match symbols(alloc, list) {
+        Ok(all) => of_symbols(alloc, info, all.as_slice(), end),
         Err(_) => Err(FileFault::Memory),
+    }
+}
+
+// A fault of characters or tokens.
+fn text_fault(fault: TextFault) -> FileFault
+    ensures { result ≡ fault_of fault }
+{
+    match fault {
+        TextFault::Bad { place } => FileFault::Bad { place },
+        TextFault::Memory => FileFault::Memory,
+    }
+}
+
+// What the characters of a file come to.
+fn of_chars(alloc: Global, info: bool, chars: &Chars, end: u32) -> Result<Parsed, FileFault>
+    ensures { AnswersChars info end chars.now result }
+{
+    match tokens(alloc, chars) {
+        Ok(list) => of_tokens(alloc, info, list.as_slice(), end),
+        Err(fault) => Err(text_fault(fault)),
+    }
+}
+
+/// The units of a file (JLS 7.3), or of a file `package-info.java` (JLS 7.4.1) where the path says so; or `Bad` with the offset of its first fault; or `TooLarge` with the limit that it passes
+/// first: Depth where more than 200 nested types, lists of type arguments and values are open at a token, Children where a child list has more than 65,535 items at one, both in the order of the tokens
+/// and before the first fault alone, and Name, in a file that has a reading, where the canonical name of its package or of a type has more than 1,024 bytes. `Memory` comes for want of memory alone.
+pub fn parse(alloc: Global, path: &str, bytes: &[u8]) -> Result<Parsed, FileFault>
+    requires { length bytes.now ≤ 8_388_608 }
+    ensures { AnswersFile path.now bytes.now result }
+{
+    let end = bytes.len() as u32;
+    let info = is_info_path(path);
+    match read_chars(alloc, bytes) {
+        Ok(chars) => of_chars(alloc, info, &chars, end),
+        Err(fault) => Err(text_fault(fault)),
     }
 }

@@ -8,9 +8,8 @@ ghost use Rattle.decl_grammar.specs.Grammar.{type_rest, modified_type, top_type}
 ghost use Rattle.decl_grammar.specs.Rule.{reads};
 
 use crate::declarations::type_rest_of;
-use decl_grammar::{Modifiers, ReadFault, Symbol, TypeRest};
-use decl_members::with_doc;
-use decl_tree::TypeDecl;
+use decl_grammar::{Modifiers, ReadFault, Symbol, TypeAt, TypeRest};
+use decl_members::type_at;
 use decl_types::{starts_modifier, starts_type_word, type_modifiers_of};
 use decl_values::{begin, doc_before, is_next, one};
 use std::alloc::Global;
@@ -35,7 +34,7 @@ fn top_type_of<'a, 's>(
     alloc: Global,
     room: usize,
     symbols: &'s [Symbol<'a>],
-) -> Result<(Option<TypeDecl>, &'s [Symbol<'a>]), ReadFault>
+) -> Result<(Option<TypeAt>, &'s [Symbol<'a>]), ReadFault>
     ensures { Gives (λ x. (x.0, x.1.now)) result (reads room top_type symbols.now) }
 {
     if is_next(symbols, 67) {
@@ -44,7 +43,8 @@ fn top_type_of<'a, 's>(
     }
     let ((modifiers, declaration), rest) = modified_type_of(alloc, room, symbols)?;
     let doc = doc_before(alloc, &symbols[..symbols.len() - rest.len()])?;
-    Ok((Some(with_doc(doc, modifiers, declaration)), rest))
+    let made = type_at(alloc, doc, modifiers, declaration)?;
+    Ok((Some(made), rest))
 }
 
 // Whether a type begins here, or its modifiers.
@@ -65,9 +65,9 @@ fn starts_top_type(symbols: &[Symbol<'_>]) -> bool
 fn more_top_types_of<'a, 's>(
     alloc: Global,
     room: usize,
-    front: Vec<Option<TypeDecl>>,
+    front: Vec<Option<TypeAt>>,
     symbols: &'s [Symbol<'a>],
-) -> Result<(Vec<Option<TypeDecl>>, &'s [Symbol<'a>]), ReadFault>
+) -> Result<(Vec<Option<TypeAt>>, &'s [Symbol<'a>]), ReadFault>
     ensures { Gives (λ x. (x.0.items, x.1.now)) result (row_behind front.items room top_type symbols.now) }
 {
     let mut all = front;
@@ -86,7 +86,7 @@ pub fn top_types_of<'a, 's>(
     alloc: Global,
     room: usize,
     symbols: &'s [Symbol<'a>],
-) -> Result<(Vec<Option<TypeDecl>>, &'s [Symbol<'a>]), ReadFault>
+) -> Result<(Vec<Option<TypeAt>>, &'s [Symbol<'a>]), ReadFault>
     ensures { Gives (λ x. (x.0.items, x.1.now)) result (reads room (many top_type) symbols.now) }
 {
     let front = Vec::new(alloc);

@@ -4,3 +4,4 @@ pub mod ParamSteps
 pub mod MemberFirsts
 pub mod MemberFolds
 pub mod ParamRows
+mod MemberRests

@@ -1,5 +1,5 @@
 -- The sorts of symbol that begin members and what stands in them.
-use Rattle.std.proofs.Common.{◌≡◌, Bool, true, false, List, [], ◌∷◌, ◌++◌, refl}
+use Rattle.std.proofs.Common.{◌≡◌, Bool, true, false, [], ◌∷◌, refl}
 use Rattle.decl_tree.specs.declared.declaration.TypeKind.{TypeKind}
 use Rattle.decl_tree.specs.declared.declaration.TypeKind.TheVariants as kind
 use Rattle.decl_grammar.specs.declared.written.MemberRest.{MemberRest}
@@ -7,7 +7,7 @@ use Rattle.decl_grammar.specs.declared.written.MemberRest.TheVariants as rest_ki
 use Rattle.decl_grammar.specs.Form.{first, nullable, names, ats, first_of, nested_type, primitive_sorts}
 use Rattle.decl_grammar.specs.Types.{name, annotation, primitive_type, type_params, optional_modifiers}
 use Rattle.decl_grammar.specs.Grammar.{params, method_signature, constructor_signature, element_signature, void_method, primitive_member, named_member, annotated_method, generic, nested_member, unmodified_of, annotation_unmodified, plain_modified, modified_form, member_form}
-use Rattle.decl_types.specs.Members.{unmodified_firsts, element_firsts, modified_firsts, member_firsts, plain_firsts}
+use Rattle.decl_types.specs.Members.{unmodified_firsts, modified_firsts, member_firsts, plain_firsts}
 
 pub method_signature_first : first method_signature ≡ 61 ∷ []
 unfolding method_signature params

@@ -1,7 +1,6 @@
 -- Members are gathered one by one, and what is read of a part is that of the whole.
-use Rattle.std.proofs.Common.{◌≡◌, List, [], ◌∷◌, ◌++◌, refl, sym, append_assoc}
+use Rattle.std.proofs.Common.{◌≡◌, List, [], ◌++◌, refl, sym, append_assoc}
 use Rattle.std.proofs.lemmas.List.{append-nil}
-use Rattle.decl_tree.specs.declared.declaration.Member.{Member}
 use Rattle.decl_grammar.specs.Reading.{Outcome, done, fault, deep}
 use Rattle.decl_grammar.specs.Form.{turned}
 use Rattle.decl_grammar.specs.Grammar.{joined_lists}

@@ -1,8 +1,8 @@
 -- The sorts of symbol that begin the steps and the forms of parameters.
-use Rattle.std.proofs.Common.{◌≡◌, true, false, List, [], ◌∷◌, ◌++◌, refl}
+use Rattle.std.proofs.Common.{◌≡◌, false, [], ◌∷◌, ◌++◌, refl}
 use Rattle.decl_grammar.specs.Form.{first, nullable, names, ats, primitive_sorts}
 use Rattle.decl_grammar.specs.Types.{annotation, annotations, name, dim, primitive_type, base_type, class_type, named_part}
-use Rattle.decl_grammar.specs.Grammar.{some_dims, varargs, named_end, receiver, dot_this, with_dims, params_from, next_params, behind_annotations, first_params}
+use Rattle.decl_grammar.specs.Grammar.{some_dims, varargs, named_end, receiver, dot_this, with_dims, next_params, behind_annotations, first_params}
 use Rattle.decl_types.specs.Params.{bracket_step, varargs_step, annotated_step, param_step, first_end, first_step}
 
 pub bracket_step_first : first bracket_step ≡ 65 ∷ []

@@ -1,11 +1,10 @@
 -- How parameters are gathered.
-use Rattle.std.proofs.Common.{◌≡◌, ℕ, ◌+◌, ◌<◌, ◌≤◌, Bool, true, false, cond, List, [], ◌∷◌, ◌++◌, length, Option, Some, None, Result, Ok, Err, refl, sym, ap, ◌∙◌, arith, append_assoc}
+use Rattle.std.proofs.Common.{◌≡◌, ℕ, ◌+◌, ◌≤◌, Bool, true, false, cond, List, [], ◌∷◌, ◌++◌, length, Option, Some, None, Result, Ok, Err, refl, sym, ap, ◌∙◌, arith, append_assoc}
 use Rattle.std.proofs.lemmas.List.{append-nil}
 use Rattle.decl_tree.specs.declared.type_text.Around.{Around}
-use Rattle.decl_tree.specs.declared.type_text.Around.TheVariants as around
 use Rattle.decl_tree.specs.declared.type_text.BaseType.{BaseType}
 use Rattle.decl_tree.specs.declared.annotation.AnnotationText.{AnnotationText}
-use Rattle.decl_tree.specs.declared.member.Param.{Param}
+use Rattle.decl_grammar.specs.declared.written.ParamAt.{ParamAt}
 use Rattle.decl_grammar.specs.declared.symbol.Symbol.{Symbol}
 use Rattle.decl_grammar.specs.declared.fault.ReadFault.{ReadFault}
 use Rattle.decl_grammar.specs.declared.fault.ReadFault.TheVariants as faults
@@ -13,10 +12,10 @@ use Rattle.decl_grammar.specs.declared.written.Modifiers.{Modifiers}
 use Rattle.decl_grammar.specs.declared.written.ParamEnd.{ParamEnd}
 use Rattle.decl_grammar.specs.declared.written.ParamEnd.TheVariants as param_end
 use Rattle.decl_grammar.specs.Reading.{starts, Outcome, done, fault, deep, ◌>>=◌, Fails, one_at}
-use Rattle.decl_grammar.specs.Form.{param_rest, first_rest, ParamRest, Form, maybe, many, nest, turned}
-use Rattle.decl_grammar.specs.Types.{Mark, keyword, behind, annotations, base_type, with_marks}
+use Rattle.decl_grammar.specs.Form.{param_rest, first_rest, ParamRest, maybe, many, nest, turned}
+use Rattle.decl_grammar.specs.Types.{Mark, annotations, with_marks}
 use Rattle.decl_grammar.specs.Grammar.{based, param_modifier, param_modifiers, params_from, next_params, params_or_none, apply_rest, FirstRest, final_and, final_first, plain_first, annotated_only, behind_annotations, first_from, first_params}
-use Rattle.decl_grammar.specs.Rule.{read_nest, reads}
+use Rattle.decl_grammar.specs.Rule.{reads}
 use Rattle.decl_types.specs.Params.{end_then, with_items, finished, one_or_none, params_behind, later_params, param_then, apply_to, found_to, ReadsParam}
 use Rattle.decl_grammar.proofs.Progress.{word-shorter}
 use Rattle.decl_types.proofs.ParamFirsts.{next_params_first}
@@ -34,7 +33,7 @@ fails-as e o p same f = rw same f
 
 -- ---- a parameter behind its modifiers
 
-abbrev pub based_read : Modifiers → Outcome BaseType → (List Symbol → Outcome ParamRest) → Outcome (List Param × Bool)
+abbrev pub based_read : Modifiers → Outcome BaseType → (List Symbol → Outcome ParamRest) → Outcome (List ParamAt × Bool)
 based_read m o inner = turned (apply_to m) (o >>= λ b r. inner r >>= λ x a. done (b, x) a)
 
 based-joined : (room : ℕ) (m : Modifiers) (of : BaseType) (ds : List Around) (e : ParamEnd) (after : List Symbol)
@@ -42,22 +41,22 @@ based-joined : (room : ℕ) (m : Modifiers) (of : BaseType) (ds : List Around) (
 based-joined room m of ds (param_end.AnyNumber n) after = rw (append-nil ds) refl
 based-joined room m of ds (param_end.Named n bs) after = go (reads room (maybe next_params) after)
   where
-    go : (o : Outcome (Option (List Param × Bool))) → turned (apply_to m) (turned (with_items ds) (o >>= λ v z. done ([], (param_end.Named n bs, params_or_none v)) z) >>= λ x a. done (of, x) a) ≡ turned (params_behind (one_or_none (finished m of ds (param_end.Named n bs)).0)) (turned params_or_none o)
+    go : (o : Outcome (Option (List ParamAt × Bool))) → turned (apply_to m) (turned (with_items ds) (o >>= λ v z. done ([], (param_end.Named n bs, params_or_none v)) z) >>= λ x a. done (of, x) a) ≡ turned (params_behind (one_or_none (finished m of ds (param_end.Named n bs)).0)) (turned params_or_none o)
     go (done v z) = rw (append-nil ds) refl
     go (fault at) = refl
     go (deep at) = refl
 based-joined room m of ds param_end.Receiver after = go (reads room (maybe next_params) after)
   where
-    go : (o : Outcome (Option (List Param × Bool))) → turned (apply_to m) (turned (with_items ds) (o >>= λ v z. done ([], (param_end.Receiver, params_or_none v)) z) >>= λ x a. done (of, x) a) ≡ turned (params_behind []) (turned params_or_none o)
+    go : (o : Outcome (Option (List ParamAt × Bool))) → turned (apply_to m) (turned (with_items ds) (o >>= λ v z. done ([], (param_end.Receiver, params_or_none v)) z) >>= λ x a. done (of, x) a) ≡ turned (params_behind []) (turned params_or_none o)
     go (done v z) = refl
     go (fault at) = refl
     go (deep at) = refl
 
-pub based-ends : (room : ℕ) (inner : List Symbol → Outcome ParamRest) (m : Modifiers) (o : Outcome BaseType) (of : BaseType) (rest : List Symbol) (ds : List Around) (e : ParamEnd) (after : List Symbol) (p : Option Param × Bool)
+pub based-ends : (room : ℕ) (inner : List Symbol → Outcome ParamRest) (m : Modifiers) (o : Outcome BaseType) (of : BaseType) (rest : List Symbol) (ds : List Around) (e : ParamEnd) (after : List Symbol) (p : Option ParamAt × Bool)
     → o ≡ done of rest → inner rest ≡ turned (with_items ds) (end_then room e after) → p ≡ finished m of ds e → based_read m o inner ≡ param_then room p.0 p.1 after
 based-ends room inner m o of rest ds e after p based ended is =
     ap (λ (r : Outcome BaseType). based_read m r inner) based
-    ∙ (ap (λ (r : Outcome ParamRest). turned (apply_to m) (r >>= λ x a. done (of, x) a)) ended ∙ (based-joined room m of ds e after ∙ ap (λ (q : Option Param × Bool). param_then room q.0 q.1 after) (sym is)))
+    ∙ (ap (λ (r : Outcome ParamRest). turned (apply_to m) (r >>= λ x a. done (of, x) a)) ended ∙ (based-joined room m of ds e after ∙ ap (λ (q : Option ParamAt × Bool). param_then room q.0 q.1 after) (sym is)))
 
 pub based-fails : (inner : List Symbol → Outcome ParamRest) (m : Modifiers) (o : Outcome BaseType) (e : ReadFault) → Fails e o → Fails e (based_read m o inner)
 based-fails inner m o e p = turned_fails (apply_to m) e _ (bind-fails (λ b r. inner r >>= λ x a. done (b, x) a) e o p)
@@ -69,7 +68,7 @@ based-end-fails inner m o of rest e based p =
 
 -- ---- the same result for a whole of which this is a part
 
-pub param-moved : {X : Type 0} (view : X → (Option Param × Bool) × List Symbol) (r : Result X ReadFault) (room : ℕ) (us ts : List Symbol) (part total : Outcome (List Param × Bool)) → part ≡ total → length us ≤ length ts
+pub param-moved : {X : Type 0} (view : X → (Option ParamAt × Bool) × List Symbol) (r : Result X ReadFault) (room : ℕ) (us ts : List Symbol) (part total : Outcome (List ParamAt × Bool)) → part ≡ total → length us ≤ length ts
     → ReadsParam view r room us part → ReadsParam view r room ts total
 param-moved view (Ok x) room us ts part total same le p = (sym same ∙ p.0, omega (arith, p.1))
 param-moved view (Err e) room us ts part total same le p = fails-as e total part (sym same) p
@@ -146,10 +145,10 @@ final-shut room ts found e s p =
 
 -- ---- parameters behind commas
 
-abbrev some_of : List Param × Bool → Option (List Param × Bool)
+abbrev some_of : List ParamAt × Bool → Option (List ParamAt × Bool)
 some_of ps = Some ps
 
-optional-read : (o : Outcome (List Param × Bool)) → turned params_or_none (turned some_of o) ≡ o
+optional-read : (o : Outcome (List ParamAt × Bool)) → turned params_or_none (turned some_of o) ≡ o
 optional-read (done ps rest) = refl
 optional-read (fault at) = refl
 optional-read (deep at) = refl
@@ -158,43 +157,43 @@ later-opens : (room : ℕ) (ts : List Symbol) → starts (68 ∷ []) ts ≡ true
 later-opens room ts s =
     ap (λ (c : Bool). turned params_or_none (cond c (turned some_of (reads room next_params ts)) (done None ts))) (ap (λ (ks : List ℕ). starts ks ts) next_params_first ∙ s) ∙ optional-read (reads room next_params ts)
 
-behind-twice : (front more : List Param) (o : Outcome (List Param × Bool)) → turned (params_behind (front ++ more)) o ≡ turned (params_behind front) (turned (params_behind more) o)
-behind-twice front more (done ps rest) = ap (λ (all : List Param). done (all, ps.1) rest) (append_assoc front more ps.0)
+behind-twice : (front more : List ParamAt) (o : Outcome (List ParamAt × Bool)) → turned (params_behind (front ++ more)) o ≡ turned (params_behind front) (turned (params_behind more) o)
+behind-twice front more (done ps rest) = ap (λ (all : List ParamAt). done (all, ps.1) rest) (append_assoc front more ps.0)
 behind-twice front more (fault at) = refl
 behind-twice front more (deep at) = refl
 
 -- one parameter more
-pub params-goes : (room : ℕ) (front next : List Param) (ts after : List Symbol) (p : Option Param) (last : Bool) (total : Outcome (List Param × Bool)) → starts (68 ∷ []) ts ≡ true → reads room next_params ts ≡ param_then room p last after → last ≡ false
+pub params-goes : (room : ℕ) (front next : List ParamAt) (ts after : List Symbol) (p : Option ParamAt) (last : Bool) (total : Outcome (List ParamAt × Bool)) → starts (68 ∷ []) ts ≡ true → reads room next_params ts ≡ param_then room p last after → last ≡ false
     → next ≡ front ++ one_or_none p → turned (params_behind front) (later_params room ts) ≡ total → turned (params_behind next) (later_params room after) ≡ total
 params-goes room front next ts after p last total s e more is so_far =
-    ap (λ (all : List Param). turned (params_behind all) (later_params room after)) is
+    ap (λ (all : List ParamAt). turned (params_behind all) (later_params room after)) is
     ∙ (behind-twice front (one_or_none p) (later_params room after)
     ∙ (sym (ap (turned (params_behind front)) (later-opens room ts s ∙ (e ∙ ap (λ (b : Bool). param_then room p b after) more))) ∙ so_far))
 
 -- the last parameter
-pub params-last : (room : ℕ) (front next : List Param) (ts after : List Symbol) (p : Option Param) (last : Bool) (total : Outcome (List Param × Bool)) → starts (68 ∷ []) ts ≡ true → reads room next_params ts ≡ param_then room p last after → last ≡ true
+pub params-last : (room : ℕ) (front next : List ParamAt) (ts after : List Symbol) (p : Option ParamAt) (last : Bool) (total : Outcome (List ParamAt × Bool)) → starts (68 ∷ []) ts ≡ true → reads room next_params ts ≡ param_then room p last after → last ≡ true
     → next ≡ front ++ one_or_none p → turned (params_behind front) (later_params room ts) ≡ total → total ≡ done (next, true) after
 params-last room front next ts after p last total s e none is so_far =
-    sym so_far ∙ (ap (turned (params_behind front)) (later-opens room ts s ∙ (e ∙ ap (λ (b : Bool). param_then room p b after) none)) ∙ ap (λ (all : List Param). done (all, true) after) (sym is))
+    sym so_far ∙ (ap (turned (params_behind front)) (later-opens room ts s ∙ (e ∙ ap (λ (b : Bool). param_then room p b after) none)) ∙ ap (λ (all : List ParamAt). done (all, true) after) (sym is))
 
-pub params-fails : (room : ℕ) (front : List Param) (ts : List Symbol) (e : ReadFault) (total : Outcome (List Param × Bool)) → starts (68 ∷ []) ts ≡ true → Fails e (reads room next_params ts) → turned (params_behind front) (later_params room ts) ≡ total → Fails e total
+pub params-fails : (room : ℕ) (front : List ParamAt) (ts : List Symbol) (e : ReadFault) (total : Outcome (List ParamAt × Bool)) → starts (68 ∷ []) ts ≡ true → Fails e (reads room next_params ts) → turned (params_behind front) (later_params room ts) ≡ total → Fails e total
 params-fails room front ts e total s p so_far =
     fails-as e total (turned (params_behind front) (reads room next_params ts)) (sym so_far ∙ ap (turned (params_behind front)) (later-opens room ts s)) (turned_fails (params_behind front) e (reads room next_params ts) p)
 
 -- no further comma
-pub params-stops : (room : ℕ) (front : List Param) (ts : List Symbol) (total : Outcome (List Param × Bool)) → starts (68 ∷ []) ts ≡ false → turned (params_behind front) (later_params room ts) ≡ total → total ≡ done (front, false) ts
+pub params-stops : (room : ℕ) (front : List ParamAt) (ts : List Symbol) (total : Outcome (List ParamAt × Bool)) → starts (68 ∷ []) ts ≡ false → turned (params_behind front) (later_params room ts) ≡ total → total ≡ done (front, false) ts
 params-stops room front ts total s so_far =
     sym so_far
     ∙ (ap (λ (c : Bool). turned (params_behind front) (turned params_or_none (cond c (turned some_of (reads room next_params ts)) (done None ts)))) (ap (λ (ks : List ℕ). starts ks ts) next_params_first ∙ s)
-    ∙ ap (λ (all : List Param). done (all, false) ts) (append-nil front))
+    ∙ ap (λ (all : List ParamAt). done (all, false) ts) (append-nil front))
 
 -- ---- all of them
 
-pub some-last : (room : ℕ) (next : List Param) (ts after : List Symbol) (p : Option Param) (last : Bool) → reads room first_params ts ≡ param_then room p last after → last ≡ true → next ≡ [] ++ one_or_none p → reads room first_params ts ≡ done (next, true) after
-some-last room next ts after p last e none is = e ∙ (ap (λ (b : Bool). param_then room p b after) none ∙ ap (λ (all : List Param). done (all, true) after) (sym is))
+pub some-last : (room : ℕ) (next : List ParamAt) (ts after : List Symbol) (p : Option ParamAt) (last : Bool) → reads room first_params ts ≡ param_then room p last after → last ≡ true → next ≡ [] ++ one_or_none p → reads room first_params ts ≡ done (next, true) after
+some-last room next ts after p last e none is = e ∙ (ap (λ (b : Bool). param_then room p b after) none ∙ ap (λ (all : List ParamAt). done (all, true) after) (sym is))
 
-pub some-more : (room : ℕ) (next : List Param) (ts after : List Symbol) (p : Option Param) (last : Bool) → reads room first_params ts ≡ param_then room p last after → last ≡ false → next ≡ [] ++ one_or_none p → reads room first_params ts ≡ turned (params_behind next) (later_params room after)
-some-more room next ts after p last e more is = e ∙ (ap (λ (b : Bool). param_then room p b after) more ∙ ap (λ (all : List Param). turned (params_behind all) (later_params room after)) (sym is))
+pub some-more : (room : ℕ) (next : List ParamAt) (ts after : List Symbol) (p : Option ParamAt) (last : Bool) → reads room first_params ts ≡ param_then room p last after → last ≡ false → next ≡ [] ++ one_or_none p → reads room first_params ts ≡ turned (params_behind next) (later_params room after)
+some-more room next ts after p last e more is = e ∙ (ap (λ (b : Bool). param_then room p b after) more ∙ ap (λ (all : List ParamAt). turned (params_behind all) (later_params room after)) (sym is))
 
 -- what is behind a symbol is fewer
 pub one-fewer : (ks : List ℕ) (ts : List Symbol) (x : Symbol) (rest : List Symbol) → one_at ks ts ≡ done x rest → length rest + 1 ≤ length ts

@@ -1,25 +1,25 @@
 -- What stands behind the type of a parameter is a step, and then what stands behind it.
-use Rattle.std.proofs.Common.{◌≡◌, ℕ, ◌+◌, ◌<◌, ◌≤◌, Bool, true, false, cond, List, [], ◌∷◌, ◌++◌, length, Option, Some, None, refl, sym, ap, ◌∙◌, arith, append_assoc}
+use Rattle.std.proofs.Common.{◌≡◌, ℕ, ◌<◌, Bool, true, false, cond, List, [], ◌∷◌, ◌++◌, length, Option, Some, None, refl, sym, ap, ◌∙◌, append_assoc}
 use Rattle.std.specs.Prelude.{◌||◌}
 use Rattle.decl_tree.specs.declared.type_text.Around.{Around}
 use Rattle.decl_tree.specs.declared.type_text.Around.TheVariants as around
-use Rattle.decl_tree.specs.declared.type_text.BaseType.{BaseType}
-use Rattle.decl_tree.specs.declared.member.Param.{Param}
+use Rattle.decl_grammar.specs.declared.written.ParamAt.{ParamAt}
 use Rattle.decl_grammar.specs.declared.symbol.Symbol.{Symbol}
 use Rattle.decl_grammar.specs.declared.fault.ReadFault.{ReadFault}
 use Rattle.decl_grammar.specs.declared.fault.ReadFault.TheVariants as faults
 use Rattle.decl_grammar.specs.declared.written.ParamEnd.{ParamEnd}
+use Rattle.decl_grammar.specs.declared.written.NameAt.{NameAt}
 use Rattle.decl_grammar.specs.declared.written.ParamEnd.TheVariants as param_end
 use Rattle.decl_grammar.specs.Reading.{starts, Outcome, done, fault, deep, ◌>>=◌, Fails, one_at}
-use Rattle.decl_grammar.specs.Form.{Nest, param_rest, first_rest, ats, ParamRest, Form, terminal, pair, turn, maybe, many, either, nest, first, nullable, turned}
-use Rattle.decl_grammar.specs.Types.{sign, behind, name, dim, annotation, annotations}
-use Rattle.decl_grammar.specs.Grammar.{bracket_rest, annotated_rest, varargs, named_with, named_end, receiver, receiver_end, dot_this, with_dims, some_dims, dims_and_rest, comma_first, alone_or, FirstBehind, behind_first_name, first_named, end_named, ended_with, ended_last, end_and_rest, in_array, params_or_none, next_params, param_rest_form, first_rest_form}
+use Rattle.decl_grammar.specs.Form.{Nest, param_rest, first_rest, ParamRest, Form, terminal, pair, turn, maybe, many, either, nest, first, turned}
+use Rattle.decl_grammar.specs.Types.{sign, behind, name_at, dim, annotation, annotations}
+use Rattle.decl_grammar.specs.Grammar.{bracket_rest, annotated_rest, varargs, named_with, named_end, receiver, receiver_end, dot_this, with_dims, some_dims, dims_and_rest, comma_first, alone_or, FirstBehind, behind_first_name, first_named, end_named, ended_last, end_and_rest, in_array, next_params, param_rest_form, first_rest_form}
 use Rattle.decl_grammar.specs.Rule.{read_nest, reads}
-use Rattle.decl_types.specs.Params.{no_end, some_end, bracket_step, varargs_step, annotated_step, param_step, dims_or_none, first_end_of, first_end, first_step, end_then, with_items}
+use Rattle.decl_types.specs.Params.{no_end, some_end, bracket_step, varargs_step, annotated_step, param_step, first_end_of, first_end, first_step, end_then, with_items}
 use Rattle.decl_grammar.proofs.OneToken.{starts-append}
 use Rattle.decl_grammar.proofs.Nests.{free-is}
 use Rattle.decl_grammar.proofs.Loop.{falls}
-use Rattle.decl_types.proofs.ParamFirsts.{dot_this_first, with_dims_first, next_params_first, param_step_full, first_step_full}
+use Rattle.decl_types.proofs.ParamFirsts.{param_step_full, first_step_full}
 
 -- reading one form is reading another, and then this
 abbrev Then : {S A : Type 0} → ℕ → Form S → (S → List Symbol → Outcome A) → Form A → Type 0
@@ -92,9 +92,9 @@ bracket-then room m rest =
 
 varargs-then : (room : ℕ) (inner : List Symbol → Outcome ParamRest) → Then room varargs_step (step_then room inner) (turn ended_last varargs)
 unfolding varargs_step varargs
-varargs-then room inner ts = go (reads room (behind (sign 9) name) ts)
+varargs-then room inner ts = go (reads room (behind (sign 9) name_at) ts)
   where
-    go : (o : Outcome (List ℕ)) → turned ended_last (turned (λ n. param_end.AnyNumber n) o) ≡ (turned some_end (turned (λ n. param_end.AnyNumber n) o) >>= step_then room inner)
+    go : (o : Outcome NameAt) → turned ended_last (turned (λ n. param_end.AnyNumber n) o) ≡ (turned some_end (turned (λ n. param_end.AnyNumber n) o) >>= step_then room inner)
     go (done n rest) = refl
     go (fault at) = refl
     go (deep at) = refl
@@ -109,7 +109,7 @@ annotated-then room m rest =
 
 named-then : (room : ℕ) (inner : List Symbol → Outcome ParamRest) → Then room (turn some_end named_end) (step_then room inner) (turn end_and_rest (pair named_end (maybe next_params)))
 unfolding named_end
-named-then room inner = rest-then room (pair name (many dim)) named_with some_end (maybe next_params) end_and_rest (step_then room inner) (λ x rest. refl)
+named-then room inner = rest-then room (pair name_at (many dim)) named_with some_end (maybe next_params) end_and_rest (step_then room inner) (λ x rest. refl)
 
 receiver-then : (room : ℕ) (inner : List Symbol → Outcome ParamRest) → Then room (turn some_end receiver) (step_then room inner) (turn end_and_rest (pair receiver (maybe next_params)))
 unfolding receiver
@@ -133,12 +133,12 @@ param-steps room ts =
 abbrev end_read : ℕ → ParamEnd → List Symbol → Outcome ParamRest
 end_read room e ts = reads room (maybe next_params) ts >>= λ o rest. done (end_and_rest (e, o)) rest
 
-end-named-then : (room : ℕ) (n : List ℕ) (d : Option (List Around)) (ts : List Symbol) → end_then room (end_named n d) ts ≡ end_read room (end_named n d) ts
+end-named-then : (room : ℕ) (n : NameAt) (d : Option (List Around)) (ts : List Symbol) → end_then room (end_named n d) ts ≡ end_read room (end_named n d) ts
 end-named-then room n None ts = refl
 end-named-then room n (Some ds) ts = refl
 
 -- behind the name: the brackets or the `this`, and the parameters behind them
-abbrev behind_read : Outcome (Option (List Around)) → Outcome (Option (List Around)) → (List Symbol → Outcome (Option (List Param × Bool))) → Outcome (List Param × Bool) → Bool → Bool → Bool → List Symbol → Outcome FirstBehind
+abbrev behind_read : Outcome (Option (List Around)) → Outcome (Option (List Around)) → (List Symbol → Outcome (Option (List ParamAt × Bool))) → Outcome (List ParamAt × Bool) → Bool → Bool → Bool → List Symbol → Outcome FirstBehind
 behind_read a b next p c1 c2 c3 ts =
     turned alone_or (cond (c1 || (c2 || c3)) (turned (λ x. Some x) (cond c1 (turned dims_and_rest (a >>= λ x r. next r >>= λ y z. done (x, y) z)) (cond c2 (turned dims_and_rest (b >>= λ x r. next r >>= λ y z. done (x, y) z)) (turned comma_first p)))) (done None ts))
 
@@ -148,12 +148,12 @@ end_step a b c1 c2 ts = cond (c1 || c2) (turned (λ x. Some x) (cond c1 a b)) (d
 abbrev paired : {A B : Type 0} → A → Outcome B → Outcome (A × B)
 paired x o = o >>= λ y z. done (x, y) z
 
-first-name-read : (room : ℕ) (n : List ℕ) (a b : Outcome (Option (List Around))) (p : Outcome (List Param × Bool)) (c1 c2 c3 : Bool) (ts : List Symbol)
+first-name-read : (room : ℕ) (n : NameAt) (a b : Outcome (Option (List Around))) (p : Outcome (List ParamAt × Bool)) (c1 c2 c3 : Bool) (ts : List Symbol)
     → reads room (maybe next_params) ts ≡ cond c3 (turned (λ x. Some x) p) (done None ts)
     → turned first_named (paired n (behind_read a b (reads room (maybe next_params)) p c1 c2 c3 ts)) ≡ (turned first_end_of (paired n (end_step a b c1 c2 ts)) >>= end_then room)
 first-name-read room n a b p true c2 c3 ts e = go a
   where
-    later : (d : Option (List Around)) (o : Outcome (Option (List Param × Bool))) → turned first_named (paired n (turned alone_or (turned (λ x. Some x) (turned dims_and_rest (paired d o))))) ≡ (o >>= λ v z. done (end_and_rest (end_named n d, v)) z)
+    later : (d : Option (List Around)) (o : Outcome (Option (List ParamAt × Bool))) → turned first_named (paired n (turned alone_or (turned (λ x. Some x) (turned dims_and_rest (paired d o))))) ≡ (o >>= λ v z. done (end_and_rest (end_named n d, v)) z)
     later d (done v z) = refl
     later d (fault at) = refl
     later d (deep at) = refl
@@ -164,7 +164,7 @@ first-name-read room n a b p true c2 c3 ts e = go a
     go (deep at) = refl
 first-name-read room n a b p false true c3 ts e = go b
   where
-    later : (d : Option (List Around)) (o : Outcome (Option (List Param × Bool))) → turned first_named (paired n (turned alone_or (turned (λ x. Some x) (turned dims_and_rest (paired d o))))) ≡ (o >>= λ v z. done (end_and_rest (end_named n d, v)) z)
+    later : (d : Option (List Around)) (o : Outcome (Option (List ParamAt × Bool))) → turned first_named (paired n (turned alone_or (turned (λ x. Some x) (turned dims_and_rest (paired d o))))) ≡ (o >>= λ v z. done (end_and_rest (end_named n d, v)) z)
     later d (done v z) = refl
     later d (fault at) = refl
     later d (deep at) = refl
@@ -173,24 +173,24 @@ first-name-read room n a b p false true c3 ts e = go b
     go (done d r) = later d (reads room (maybe next_params) r) ∙ sym (end-named-then room n d r)
     go (fault at) = refl
     go (deep at) = refl
-first-name-read room n a b p false false true ts e = go p ∙ ap (λ (o : Outcome (Option (List Param × Bool))). o >>= λ v z. done (end_and_rest (param_end.Named n [], v)) z) (sym e)
+first-name-read room n a b p false false true ts e = go p ∙ ap (λ (o : Outcome (Option (List ParamAt × Bool))). o >>= λ v z. done (end_and_rest (param_end.Named n [], v)) z) (sym e)
   where
-    go : (p : Outcome (List Param × Bool)) → turned first_named (paired n (turned alone_or (turned (λ x. Some x) (turned comma_first p)))) ≡ (turned (λ x. Some x) p >>= λ v z. done (end_and_rest (param_end.Named n [], v)) z)
+    go : (p : Outcome (List ParamAt × Bool)) → turned first_named (paired n (turned alone_or (turned (λ x. Some x) (turned comma_first p)))) ≡ (turned (λ x. Some x) p >>= λ v z. done (end_and_rest (param_end.Named n [], v)) z)
     go (done v z) = refl
     go (fault at) = refl
     go (deep at) = refl
-first-name-read room n a b p false false false ts e = ap (λ (o : Outcome (Option (List Param × Bool))). o >>= λ v z. done (end_and_rest (param_end.Named n [], v)) z) (sym e)
+first-name-read room n a b p false false false ts e = ap (λ (o : Outcome (Option (List ParamAt × Bool))). o >>= λ v z. done (end_and_rest (param_end.Named n [], v)) z) (sym e)
 
-first-name-then : (room : ℕ) (inner : List Symbol → Outcome ParamRest) → Then room (turn some_end first_end) (step_then room inner) (turn first_named (pair name behind_first_name))
+first-name-then : (room : ℕ) (inner : List Symbol → Outcome ParamRest) → Then room (turn some_end first_end) (step_then room inner) (turn first_named (pair name_at behind_first_name))
 unfolding first_end behind_first_name dot_this with_dims some_dims dim next_params one_at annotations
-first-name-then room inner ts = go (reads room name ts)
+first-name-then room inner ts = go (reads room name_at ts)
   where
     some_then : (o : Outcome ParamEnd) → (turned some_end o >>= step_then room inner) ≡ (o >>= end_then room)
     some_then (done e rest) = refl
     some_then (fault at) = refl
     some_then (deep at) = refl
 
-    behind : (n : List ℕ) (rest : List Symbol) → turned first_named (paired n (reads room behind_first_name rest)) ≡ (turned first_end_of (paired n (reads room (maybe (either dot_this with_dims)) rest)) >>= end_then room)
+    behind : (n : NameAt) (rest : List Symbol) → turned first_named (paired n (reads room behind_first_name rest)) ≡ (turned first_end_of (paired n (reads room (maybe (either dot_this with_dims)) rest)) >>= end_then room)
     behind n rest =
         let a = reads room dot_this rest in
         let b = reads room with_dims rest in
@@ -204,7 +204,7 @@ first-name-then room inner ts = go (reads room name ts)
         ∙ (first-name-read room n a b p c1 c2 c3 rest refl
         ∙ ap (λ (c : Bool). turned first_end_of (paired n (cond c (turned (λ x. Some x) (cond c1 a b)) (done None rest))) >>= end_then room) (sym (starts-append (first dot_this) (first with_dims) rest)))
 
-    go : (o : Outcome (List ℕ)) → turned first_named (o >>= λ n rest. reads room behind_first_name rest >>= λ y z. done (n, y) z) ≡ (turned some_end (turned first_end_of (o >>= λ n rest. reads room (maybe (either dot_this with_dims)) rest >>= λ y z. done (n, y) z)) >>= step_then room inner)
+    go : (o : Outcome NameAt) → turned first_named (o >>= λ n rest. reads room behind_first_name rest >>= λ y z. done (n, y) z) ≡ (turned some_end (turned first_end_of (o >>= λ n rest. reads room (maybe (either dot_this with_dims)) rest >>= λ y z. done (n, y) z)) >>= step_then room inner)
     go (done n rest) = behind n rest ∙ sym (some_then (turned first_end_of (paired n (reads room (maybe (either dot_this with_dims)) rest))))
     go (fault at) = refl
     go (deep at) = refl
@@ -219,7 +219,7 @@ first-steps room ts =
     let f = nest first_rest in
     let k = step_then room (reads room f) in
     let s4 = either (turn some_end receiver) (turn some_end first_end) in
-    let f4 = either (turn end_and_rest (pair receiver (maybe next_params))) (turn first_named (pair name behind_first_name)) in
+    let f4 = either (turn end_and_rest (pair receiver (maybe next_params))) (turn first_named (pair name_at behind_first_name)) in
     free-is first_rest refl room ts
     ∙ either-then room bracket_step (either annotated_step (either varargs_step s4)) (bracket_rest f) (either (annotated_rest f) (either (turn ended_last varargs) f4)) k refl
     (bracket-then room first_rest f)
@@ -227,7 +227,7 @@ first-steps room ts =
     (annotated-then room first_rest f)
     (either-then room varargs_step s4 (turn ended_last varargs) f4 k refl
     (varargs-then room (reads room f))
-    (either-then room (turn some_end receiver) (turn some_end first_end) (turn end_and_rest (pair receiver (maybe next_params))) (turn first_named (pair name behind_first_name)) k receiver-begins
+    (either-then room (turn some_end receiver) (turn some_end first_end) (turn end_and_rest (pair receiver (maybe next_params))) (turn first_named (pair name_at behind_first_name)) k receiver-begins
     (receiver-then room (reads room f)) (first-name-then room (reads room f))))) ts
 
 -- ---- a loop over steps

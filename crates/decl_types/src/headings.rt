@@ -8,10 +8,12 @@ ghost use Rattle.decl_grammar.specs.Types.{list_or_none, annotated_class, next_b
 ghost use Rattle.decl_grammar.specs.Grammar.{single_or, import_step, import_named, import_static, import_form, package_form, with_dot};
 ghost use Rattle.decl_grammar.specs.Rule.{reads, read_nest};
 
-use apt_base::{List, Name};
-use decl_grammar::{ReadFault, Symbol};
+use apt_base::List;
+use decl_grammar::{NameAt, ReadFault, Symbol, TypeParamAt};
 use decl_tree::{Import, ImportKind, TypeParam, TypeText};
-use decl_values::{annotated_class_of, annotations_of, begin, is_next, one, read_chain, read_name};
+use decl_values::{
+    annotated_class_of, annotations_of, begin, is_next, one, read_chain, read_name_at,
+};
 use std::alloc::Global;
 
 // A `&` and a further bound.
@@ -77,29 +79,27 @@ fn optional_bounds_of<'a, 's>(
     Ok((Vec::new(alloc), symbols))
 }
 
-// A type parameter.
+/// A type parameter.
 #[tactic(auto, unfolding(decl_grammar::specs::Types::type_param))]
-fn type_param_of<'a, 's>(
+pub fn type_param_of<'a, 's>(
     alloc: Global,
     room: usize,
     symbols: &'s [Symbol<'a>],
-) -> Result<(TypeParam, &'s [Symbol<'a>]), ReadFault>
+) -> Result<(TypeParamAt, &'s [Symbol<'a>]), ReadFault>
     ensures { Gives (λ x. (x.0, x.1.now)) result (reads room type_param symbols.now) }
 {
     let (annotations, rest) = annotations_of(alloc, room, symbols)?;
     let annotations = List::from_vec(annotations);
-    let (text, rest) = read_name(room, rest)?;
-    let name = Name::new(alloc, text)?;
+    let (name, rest) = read_name_at(alloc, room, rest)?;
     let (bounds, rest) = optional_bounds_of(alloc, room, rest)?;
     let bounds = List::from_vec(bounds);
-    Ok((
-        TypeParam {
-            name,
-            annotations,
-            bounds,
-        },
-        rest,
-    ))
+    let NameAt { name, line } = name;
+    let param = TypeParam {
+        name,
+        annotations,
+        bounds,
+    };
+    Ok((TypeParamAt { param, line }, rest))
 }
 
 // A comma and a type parameter.
@@ -108,7 +108,7 @@ fn next_type_param_of<'a, 's>(
     alloc: Global,
     room: usize,
     symbols: &'s [Symbol<'a>],
-) -> Result<(TypeParam, &'s [Symbol<'a>]), ReadFault>
+) -> Result<(TypeParamAt, &'s [Symbol<'a>]), ReadFault>
     ensures { Gives (λ x. (x.0, x.1.now)) result (reads room next_type_param symbols.now) }
 {
     let (_, rest) = one(symbols, 68)?;
@@ -119,9 +119,9 @@ fn next_type_param_of<'a, 's>(
 fn more_type_params_of<'a, 's>(
     alloc: Global,
     room: usize,
-    front: Vec<TypeParam>,
+    front: Vec<TypeParamAt>,
     symbols: &'s [Symbol<'a>],
-) -> Result<(Vec<TypeParam>, &'s [Symbol<'a>]), ReadFault>
+) -> Result<(Vec<TypeParamAt>, &'s [Symbol<'a>]), ReadFault>
     ensures { Gives (λ x. (x.0.items, x.1.now)) result (type_params_behind front.items room symbols.now) }
 {
     let mut all = front;
@@ -140,7 +140,7 @@ pub fn type_params_of<'a, 's>(
     alloc: Global,
     room: usize,
     symbols: &'s [Symbol<'a>],
-) -> Result<(Vec<TypeParam>, &'s [Symbol<'a>]), ReadFault>
+) -> Result<(Vec<TypeParamAt>, &'s [Symbol<'a>]), ReadFault>
     ensures { Gives (λ x. (x.0.items, x.1.now)) result (reads room type_params symbols.now) }
 {
     let (_, rest) = one(symbols, 75)?;
@@ -158,7 +158,7 @@ pub fn optional_params_of<'a, 's>(
     alloc: Global,
     room: usize,
     symbols: &'s [Symbol<'a>],
-) -> Result<(Vec<TypeParam>, &'s [Symbol<'a>]), ReadFault>
+) -> Result<(Vec<TypeParamAt>, &'s [Symbol<'a>]), ReadFault>
     ensures { Gives (λ x. (x.0.items, x.1.now)) result (reads room optional_params symbols.now) }
 {
     if is_next(symbols, 75) {
@@ -214,17 +214,18 @@ pub fn classes_of<'a, 's>(
     more_classes_of(alloc, room, front, rest)
 }
 
-/// A package declaration (JLS 7.4).
+/// A package declaration (JLS 7.4): its name, with the line of the `package`.
 #[tactic(auto, unfolding(decl_grammar::specs::Grammar::package_form))]
 pub fn package_of<'a, 's>(
     alloc: Global,
     room: usize,
     symbols: &'s [Symbol<'a>],
-) -> Result<(Name, &'s [Symbol<'a>]), ReadFault>
+) -> Result<(NameAt, &'s [Symbol<'a>]), ReadFault>
     ensures { Gives (λ x. (x.0, x.1.now)) result (reads room package_form symbols.now) }
 {
-    let (_, rest) = one(symbols, 41)?;
+    let (word, rest) = one(symbols, 41)?;
     let (name, rest) = read_chain(alloc, room, rest)?;
     let (_, rest) = one(rest, 67)?;
-    Ok((name, rest))
+    let line = word.line;
+    Ok((NameAt { name, line }, rest))
 }

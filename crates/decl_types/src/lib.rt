@@ -13,10 +13,11 @@ mod params;
 mod signatures;
 mod starting;
 
-pub use headings::{classes_of, optional_params_of, package_of, type_params_of};
+pub use headings::{classes_of, optional_params_of, package_of, type_param_of, type_params_of};
 pub use modifiers::{
-    none, optional_modifiers_of, plain_modifiers_of, starts_modifier, starts_plain_modifier,
-    static_word_of, type_modifiers_of,
+    none, optional_modifiers_of, param_modifiers_of, plain_modifiers_of, starts_modifier,
+    starts_plain_modifier, static_word_of, type_modifiers_of,
 };
+pub use params::{first_param_of, first_step_of, next_param_of, param_step_of, starts_params};
 pub use signatures::{constructor_signature_of, member_rest_of, method_signature_of};
 pub use starting::{starts_member, starts_type_word, starts_unmodified};

@@ -323,8 +323,8 @@ pub fn plain_modifiers_of<'a, 's>(
 fn word_in<'a, 's>(
     room: usize,
     symbols: &'s [Symbol<'a>],
-) -> Result<(Symbol<'a>, &'s [Symbol<'a>]), ReadFault>
-    ensures { Gives (λ x. (x.0, x.1.now)) result (reads room (keyword 37) symbols.now) }
+) -> Result<(&'s Symbol<'a>, &'s [Symbol<'a>]), ReadFault>
+    ensures { Gives (λ x. (x.0.now, x.1.now)) result (reads room (keyword 37) symbols.now) }
 {
     one(symbols, 47)
 }
@@ -333,8 +333,8 @@ fn word_in<'a, 's>(
 pub fn static_word_of<'a, 's>(
     room: usize,
     symbols: &'s [Symbol<'a>],
-) -> Result<(Symbol<'a>, &'s [Symbol<'a>]), ReadFault>
-    ensures { Gives (λ x. (x.0, x.1.now)) result (read_nest room static_word symbols.now) }
+) -> Result<(&'s Symbol<'a>, &'s [Symbol<'a>]), ReadFault>
+    ensures { Gives (λ x. (x.0.now, x.1.now)) result (read_nest room static_word symbols.now) }
 {
     if room > 0 {
         return word_in(room - 1, symbols);

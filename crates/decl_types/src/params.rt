@@ -9,12 +9,12 @@ ghost use Rattle.decl_types.specs.Params.{some_end, one_or_none, bracket_step, v
 
 use crate::modifiers::{more_param_modifiers_of, param_modifiers_of};
 use crate::starting::is_primitive_or_name;
-use apt_base::{List, Name};
-use decl_grammar::{Modifiers, ParamEnd, Params, ReadFault, Symbol};
+use apt_base::List;
+use decl_grammar::{Modifiers, NameAt, ParamAt, ParamEnd, Params, ReadFault, Symbol};
 use decl_tree::{AnnotationText, Around, BaseType, Param, TypeText};
 use decl_values::{
     annotation_of, annotations_of, base_type_of, begin, dim_of, dims_of, is_at, is_next,
-    more_dims_of, one, read_name, starts_annotation, starts_dim,
+    more_dims_of, one, read_name_at, starts_annotation, starts_dim,
 };
 use std::alloc::Global;
 
@@ -41,8 +41,7 @@ fn varargs_step_of<'a, 's>(
     ensures { Gives (λ x. (x.0, x.1.now)) result (reads room varargs_step symbols.now) }
 {
     let (_, rest) = one(symbols, 70)?;
-    let (text, rest) = read_name(room, rest)?;
-    let name = Name::new(alloc, text)?;
+    let (name, rest) = read_name_at(alloc, room, rest)?;
     Ok((Some(ParamEnd::AnyNumber(name)), rest))
 }
 
@@ -84,15 +83,14 @@ fn named_end_of<'a, 's>(
 ) -> Result<(ParamEnd, &'s [Symbol<'a>]), ReadFault>
     ensures { Gives (λ x. (x.0, x.1.now)) result (reads room named_end symbols.now) }
 {
-    let (text, rest) = read_name(room, symbols)?;
-    let name = Name::new(alloc, text)?;
+    let (name, rest) = read_name_at(alloc, room, symbols)?;
     let (dims, rest) = dims_of(alloc, room, rest)?;
     Ok((ParamEnd::Named(name, List::from_vec(dims)), rest))
 }
 
-// A step behind the base of the type of a parameter.
+/// A step behind the base of the type of a parameter.
 #[tactic(auto, using(crate::proofs::ParamFirsts::bracket_step_first, crate::proofs::ParamFirsts::annotated_step_first, crate::proofs::ParamFirsts::varargs_step_first), unfolding(crate::specs::Params::param_step))]
-fn param_step_of<'a, 's>(
+pub fn param_step_of<'a, 's>(
     alloc: Global,
     room: usize,
     symbols: &'s [Symbol<'a>],
@@ -149,8 +147,7 @@ fn first_end_of<'a, 's>(
 ) -> Result<(ParamEnd, &'s [Symbol<'a>]), ReadFault>
     ensures { Gives (λ x. (x.0, x.1.now)) result (reads room first_end symbols.now) }
 {
-    let (text, rest) = read_name(room, symbols)?;
-    let name = Name::new(alloc, text)?;
+    let (name, rest) = read_name_at(alloc, room, symbols)?;
     if is_next(rest, 69) {
         let rest = dot_this_of(room, rest)?;
         return Ok((ParamEnd::Receiver, rest));
@@ -191,9 +188,9 @@ fn this_or_name_of<'a, 's>(
     Ok((Some(end), rest))
 }
 
-// A step behind the base of the type of a first parameter.
+/// A step behind the base of the type of a first parameter.
 #[tactic(auto, using(crate::proofs::ParamFirsts::bracket_step_first, crate::proofs::ParamFirsts::annotated_step_first, crate::proofs::ParamFirsts::varargs_step_first), unfolding(crate::specs::Params::first_step))]
-fn first_step_of<'a, 's>(
+pub fn first_step_of<'a, 's>(
     alloc: Global,
     room: usize,
     symbols: &'s [Symbol<'a>],
@@ -254,12 +251,12 @@ fn first_param_end_of<'a, 's>(
 
 // A parameter from its parts.
 fn param_from_parts(
-    name: Name,
+    name: NameAt,
     dims: Vec<Around>,
     modifiers: Modifiers,
     base: BaseType,
     around: Vec<Around>,
-) -> Result<Param, ReadFault>
+) -> Result<ParamAt, ReadFault>
     ensures { UnlessMemory result (λ p. p ≡ param_of name dims.items modifiers base around.items) }
 {
     let Modifiers { bits, annotations } = modifiers;
@@ -268,12 +265,14 @@ fn param_from_parts(
     let around = List::from_vec(items);
     let of = TypeText { around, base };
     let modifiers = bits;
-    Ok(Param {
+    let NameAt { name, line } = name;
+    let param = Param {
         name,
         modifiers,
         annotations,
         of,
-    })
+    };
+    Ok(ParamAt { param, line })
 }
 
 // A parameter from its parts, where it is no receiver, and whether it takes any number of arguments.
@@ -283,7 +282,7 @@ fn finish_param(
     base: BaseType,
     around: Vec<Around>,
     end: ParamEnd,
-) -> Result<(Option<Param>, bool), ReadFault>
+) -> Result<(Option<ParamAt>, bool), ReadFault>
     ensures { UnlessMemory result (λ x. x ≡ finished modifiers base around.items end) }
 {
     match end {
@@ -307,7 +306,7 @@ fn based_param_of<'a, 's>(
     room: usize,
     modifiers: Modifiers,
     symbols: &'s [Symbol<'a>],
-) -> Result<((Option<Param>, bool), &'s [Symbol<'a>]), ReadFault>
+) -> Result<((Option<ParamAt>, bool), &'s [Symbol<'a>]), ReadFault>
     ensures { ReadsBased (λ x. (x.0, x.1.now)) result room modifiers (nest param_rest) symbols.now }
 {
     let (base, rest) = base_type_of(alloc, room, symbols)?;
@@ -322,7 +321,7 @@ fn based_first_of<'a, 's>(
     room: usize,
     modifiers: Modifiers,
     symbols: &'s [Symbol<'a>],
-) -> Result<((Option<Param>, bool), &'s [Symbol<'a>]), ReadFault>
+) -> Result<((Option<ParamAt>, bool), &'s [Symbol<'a>]), ReadFault>
     ensures { ReadsBased (λ x. (x.0, x.1.now)) result room modifiers (nest first_rest) symbols.now }
 {
     let (base, rest) = base_type_of(alloc, room, symbols)?;
@@ -331,12 +330,12 @@ fn based_first_of<'a, 's>(
     Ok((param, rest))
 }
 
-// A comma and a parameter.
-fn next_param_of<'a, 's>(
+/// A comma and a parameter, and whether that takes any number of arguments.
+pub fn next_param_of<'a, 's>(
     alloc: Global,
     room: usize,
     symbols: &'s [Symbol<'a>],
-) -> Result<((Option<Param>, bool), &'s [Symbol<'a>]), ReadFault>
+) -> Result<((Option<ParamAt>, bool), &'s [Symbol<'a>]), ReadFault>
     ensures { ReadsParam (λ x. (x.0, x.1.now)) result room symbols.now (reads room next_params symbols.now) }
 {
     let (_, rest) = one(symbols, 68)?;
@@ -348,9 +347,9 @@ fn next_param_of<'a, 's>(
 fn more_params_of<'a, 's>(
     alloc: Global,
     room: usize,
-    front: Vec<Param>,
+    front: Vec<ParamAt>,
     symbols: &'s [Symbol<'a>],
-) -> Result<((Vec<Param>, bool), &'s [Symbol<'a>]), ReadFault>
+) -> Result<((Vec<ParamAt>, bool), &'s [Symbol<'a>]), ReadFault>
     ensures { Gives (λ x. ((x.0.0.items, x.0.1), x.1.now)) result (more_params front.items room symbols.now) }
 {
     let mut all = front;
@@ -367,7 +366,7 @@ fn more_params_of<'a, 's>(
 }
 
 // Puts a parameter behind others, where there is one.
-fn add_param(all: &mut Vec<Param>, param: Option<Param>) -> Result<(), ReadFault>
+fn add_param(all: &mut Vec<ParamAt>, param: Option<ParamAt>) -> Result<(), ReadFault>
     ensures { UnlessMemory result (λ u. all.new.items ≡ all.old.items ++ one_or_none param) }
 {
     match param {
@@ -385,7 +384,7 @@ fn first_behind_of<'a, 's>(
     room: usize,
     annotations: List<AnnotationText>,
     symbols: &'s [Symbol<'a>],
-) -> Result<((Option<Param>, bool), &'s [Symbol<'a>]), ReadFault>
+) -> Result<((Option<ParamAt>, bool), &'s [Symbol<'a>]), ReadFault>
     ensures { ReadsFound (λ x. (x.0, x.1.now)) result room annotations symbols.now }
 {
     if is_next(symbols, 27) {
@@ -404,12 +403,12 @@ fn first_behind_of<'a, 's>(
     based_first_of(alloc, room, modifiers, symbols)
 }
 
-// A first parameter, or the receiver.
-fn first_param_of<'a, 's>(
+/// A first parameter, or none where it is the receiver, and whether it takes any number of arguments.
+pub fn first_param_of<'a, 's>(
     alloc: Global,
     room: usize,
     symbols: &'s [Symbol<'a>],
-) -> Result<((Option<Param>, bool), &'s [Symbol<'a>]), ReadFault>
+) -> Result<((Option<ParamAt>, bool), &'s [Symbol<'a>]), ReadFault>
     ensures { ReadsParam (λ x. (x.0, x.1.now)) result room symbols.now (reads room first_params symbols.now) }
 {
     let (annotations, rest) = annotations_of(alloc, room, symbols)?;
@@ -422,7 +421,7 @@ fn some_params_of<'a, 's>(
     alloc: Global,
     room: usize,
     symbols: &'s [Symbol<'a>],
-) -> Result<((Vec<Param>, bool), &'s [Symbol<'a>]), ReadFault>
+) -> Result<((Vec<ParamAt>, bool), &'s [Symbol<'a>]), ReadFault>
     ensures { Gives (λ x. ((x.0.0.items, x.0.1), x.1.now)) result (reads room first_params symbols.now) }
 {
     let ((first, last), rest) = first_param_of(alloc, room, symbols)?;
@@ -450,8 +449,8 @@ fn begins_params(sort: u8) -> bool
     is_at(sort) || is_final_or_type(sort)
 }
 
-// Whether a first parameter begins here.
-fn starts_params(symbols: &[Symbol<'_>]) -> bool
+/// Whether a parameter, the first one or a further one, may begin here.
+pub fn starts_params(symbols: &[Symbol<'_>]) -> bool
     ensures { result ≡ starts (ats ++ ((27 ∷ []) ++ (primitive_sorts ++ names))) symbols.now }
 {
     match symbols {

@@ -9,8 +9,10 @@ ghost use Rattle.decl_types.specs.Members.{declarators_at, fields_at, method_at,
 
 use crate::headings::classes_of;
 use crate::params::params_of;
-use apt_base::{List, Name};
-use decl_grammar::{Declarator, MemberRest, Params, ReadFault, Signature, Symbol, Unmodified};
+use apt_base::List;
+use decl_grammar::{
+    Declarator, MemberRest, NameAt, Params, ReadFault, Signature, Symbol, Unmodified,
+};
 use decl_tree::{TypeText, ValueText};
 use decl_values::{default_of, dims_of, fields_of, is_next, one, read_over};
 use std::alloc::Global;
@@ -153,7 +155,7 @@ fn element_signature_of<'a, 's>(
 fn field_rest_of<'a, 's>(
     alloc: Global,
     room: usize,
-    name: Name,
+    name: NameAt,
     symbols: &'s [Symbol<'a>],
 ) -> Result<(Vec<Declarator>, &'s [Symbol<'a>]), ReadFault>
     ensures { Gives (λ x. (x.0.items, x.1.now)) result (declarators_at name room symbols.now) }
@@ -168,7 +170,7 @@ fn fields_rest_of<'a, 's>(
     alloc: Global,
     room: usize,
     of: TypeText,
-    name: Name,
+    name: NameAt,
     symbols: &'s [Symbol<'a>],
 ) -> Result<(Unmodified, &'s [Symbol<'a>]), ReadFault>
     ensures { Gives (λ x. (x.0, x.1.now)) result (fields_at of name room symbols.now) }
@@ -182,7 +184,7 @@ fn method_of<'a, 's>(
     alloc: Global,
     room: usize,
     of: TypeText,
-    name: Name,
+    name: NameAt,
     symbols: &'s [Symbol<'a>],
 ) -> Result<(Unmodified, &'s [Symbol<'a>]), ReadFault>
     ensures { Gives (λ x. (x.0, x.1.now)) result (method_at of name room method_signature symbols.now) }
@@ -197,7 +199,7 @@ fn element_of<'a, 's>(
     alloc: Global,
     room: usize,
     of: TypeText,
-    name: Name,
+    name: NameAt,
     symbols: &'s [Symbol<'a>],
 ) -> Result<(Unmodified, &'s [Symbol<'a>]), ReadFault>
     ensures { Gives (λ x. (x.0, x.1.now)) result (method_at of name room element_signature symbols.now) }
@@ -214,7 +216,7 @@ pub fn member_rest_of<'a, 's>(
     room: usize,
     kind: MemberRest,
     of: TypeText,
-    name: Name,
+    name: NameAt,
     symbols: &'s [Symbol<'a>],
 ) -> Result<(Unmodified, &'s [Symbol<'a>]), ReadFault>
     ensures { Gives (λ x. (x.0, x.1.now)) result (rest_at of name room kind symbols.now) }

@@ -10,9 +10,10 @@ use Rattle.decl_grammar.specs.declared.symbol.Symbol.{Symbol}
 use Rattle.decl_grammar.specs.declared.fault.ReadFault.{ReadFault}
 use Rattle.decl_grammar.specs.declared.fault.ReadFault.TheVariants as faults
 use Rattle.decl_grammar.specs.declared.written.Declarator.{Declarator}
+use Rattle.decl_grammar.specs.declared.written.NameAt.{NameAt}
 use Rattle.decl_grammar.specs.Reading.{has, starts, Outcome, done, fault, deep, ◌>>=◌, one_at, read_of, Fails}
 use Rattle.decl_grammar.specs.Form.{Rest, assigned, value_end, initialiser, constant_value, many, nest, turned, attempted, failed_at}
-use Rattle.decl_grammar.specs.Types.{name, dim, as_written}
+use Rattle.decl_grammar.specs.Types.{name_at, dim, as_written}
 use Rattle.decl_grammar.specs.Expressions.{kept, kept_alone, initialised, constant_alone, initialiser_form, assigned_end, value_or_end, without_value, declarator_of, declarator_first, no_declarators}
 use Rattle.decl_grammar.specs.Rule.{read_nest, reads}
 use Rattle.decl_grammar.specs.Rows.{failed_upto}
@@ -231,10 +232,10 @@ unassigned-read room ts end s re fe = record { fewer = omega (arith, ap (λ (u :
 
 -- ---- rows of fields
 
-abbrev field_first : List ℕ → List Around → Option ValueText × List Declarator → List Declarator
+abbrev field_first : NameAt → List Around → Option ValueText × List Declarator → List Declarator
 field_first n ds v = declarator_of n ds v.0 ∷ v.1
 
-field-before : (room : ℕ) (n : List ℕ) (ds : List Around) (ts : List Symbol) (c : Option ValueText) (end : End) (r : ReadUpTo room place.Assigned (value_or_end_read room ts) ts c end)
+field-before : (room : ℕ) (n : NameAt) (ds : List Around) (ts : List Symbol) (c : Option ValueText) (end : End) (r : ReadUpTo room place.Assigned (value_or_end_read room ts) ts c end)
     → Before (fields_from room n ds ts) (declarator_of n ds c) r.far (read_nest room (value_end assigned) end.rest.now)
 field-before room n ds ts c end r =
     ap (turned (field_first n ds)) r.same
@@ -245,7 +246,7 @@ field-before room n ds ts c end r =
     joined (fault at) = refl
     joined (deep at) = refl
 
-abbrev declared_behind : ℕ → Outcome (Option (List ℕ × List Around)) → Outcome (List Declarator)
+abbrev declared_behind : ℕ → Outcome (Option (NameAt × List Around)) → Outcome (List Declarator)
 declared_behind room (done None rest) = done [] rest
 declared_behind room (done (Some x) rest) = fields_from room x.0 x.1 rest
 declared_behind room (fault at) = fault at
@@ -260,20 +261,20 @@ declared-is room ts = free-is (value_end assigned) refl room ts ∙ go (starts (
     closing (fault at) = refl
     closing (deep at) = refl
 
-    valued : (s : Symbol) (n : List ℕ) (ds : List Around) (o : Outcome (Option ValueText × List Declarator))
+    valued : (s : Symbol) (n : NameAt) (ds : List Around) (o : Outcome (Option ValueText × List Declarator))
         → turned behind_symbol (turned declarator_first ((o >>= λ y a. done (ds, y) a) >>= λ y a. done (n, y) a) >>= λ y a. done (s, y) a) ≡ turned (field_first n ds) o
     valued s n ds (done y a) = refl
     valued s n ds (fault at) = refl
     valued s n ds (deep at) = refl
 
-    dimmed : (s : Symbol) (n : List ℕ) (o : Outcome (List Around))
+    dimmed : (s : Symbol) (n : NameAt) (o : Outcome (List Around))
         → turned behind_symbol (turned declarator_first ((o >>= λ ds b. reads room value_or_end b >>= λ y a. done (ds, y) a) >>= λ y a. done (n, y) a) >>= λ y a. done (s, y) a)
         ≡ declared_behind room (o >>= λ ds after. done (Some (n, ds)) after)
     dimmed s n (done ds b) = valued s n ds (reads room value_or_end b)
     dimmed s n (fault at) = refl
     dimmed s n (deep at) = refl
 
-    named : (s : Symbol) (o : Outcome (List ℕ))
+    named : (s : Symbol) (o : Outcome NameAt)
         → turned behind_symbol (turned declarator_first (o >>= λ n b. (reads room (many dim) b >>= λ ds d. reads room value_or_end d >>= λ y a. done (ds, y) a) >>= λ y a. done (n, y) a) >>= λ y a. done (s, y) a)
         ≡ declared_behind room (o >>= λ n behind. reads room (many dim) behind >>= λ ds after. done (Some (n, ds)) after)
     named s (done n b) = dimmed s n (reads room (many dim) b)
@@ -281,19 +282,19 @@ declared-is room ts = free-is (value_end assigned) refl room ts ∙ go (starts (
     named s (deep at) = refl
 
     comma : (o : Outcome Symbol)
-        → turned behind_symbol (o >>= λ s rest. turned declarator_first (reads room name rest >>= λ n b. (reads room (many dim) b >>= λ ds d. reads room value_or_end d >>= λ y a. done (ds, y) a) >>= λ y a. done (n, y) a) >>= λ y a. done (s, y) a)
-        ≡ declared_behind room (o >>= λ s rest. reads room name rest >>= λ n behind. reads room (many dim) behind >>= λ ds after. done (Some (n, ds)) after)
-    comma (done s rest) = named s (reads room name rest)
+        → turned behind_symbol (o >>= λ s rest. turned declarator_first (reads room name_at rest >>= λ n b. (reads room (many dim) b >>= λ ds d. reads room value_or_end d >>= λ y a. done (ds, y) a) >>= λ y a. done (n, y) a) >>= λ y a. done (s, y) a)
+        ≡ declared_behind room (o >>= λ s rest. reads room name_at rest >>= λ n behind. reads room (many dim) behind >>= λ ds after. done (Some (n, ds)) after)
+    comma (done s rest) = named s (reads room name_at rest)
     comma (fault at) = refl
     comma (deep at) = refl
 
     go : (c : Bool) (p q : Outcome Symbol)
-        → cond c (turned no_declarators p) (turned behind_symbol (q >>= λ s rest. turned declarator_first (reads room name rest >>= λ n b. (reads room (many dim) b >>= λ ds d. reads room value_or_end d >>= λ y a. done (ds, y) a) >>= λ y a. done (n, y) a) >>= λ y a. done (s, y) a))
-        ≡ declared_behind room (cond c (p >>= λ s rest. done None rest) (q >>= λ s rest. reads room name rest >>= λ n behind. reads room (many dim) behind >>= λ ds after. done (Some (n, ds)) after))
+        → cond c (turned no_declarators p) (turned behind_symbol (q >>= λ s rest. turned declarator_first (reads room name_at rest >>= λ n b. (reads room (many dim) b >>= λ ds d. reads room value_or_end d >>= λ y a. done (ds, y) a) >>= λ y a. done (n, y) a) >>= λ y a. done (s, y) a))
+        ≡ declared_behind room (cond c (p >>= λ s rest. done None rest) (q >>= λ s rest. reads room name_at rest >>= λ n behind. reads room (many dim) behind >>= λ ds after. done (Some (n, ds)) after))
     go true p q = closing p
     go false p q = comma q
 
-pub field-read : (room : ℕ) (far : Option ℕ) (n : List ℕ) (ds : List Around) (ts rest : List Symbol) (c : Option ValueText) (end final : End) (next : Option (List ℕ × List Around)) (r : ReadUpTo room place.Assigned (value_or_end_read room ts) ts c end)
+pub field-read : (room : ℕ) (far : Option ℕ) (n : NameAt) (ds : List Around) (ts rest : List Symbol) (c : Option ValueText) (end final : End) (next : Option (NameAt × List Around)) (r : ReadUpTo room place.Assigned (value_or_end_read room ts) ts c end)
     → declared_step room end.rest.now ≡ done next rest → final.rest.now ≡ rest → final.far ≡ furthest_of far end.far → ItemRead (fields_from room n ds ts) far (declarator_of n ds c) (fields_later room next final.rest.now) final
 field-read room far n ds ts rest c end final None r s re fe =
     item-last (fields_from room n ds ts) (declarator_of n ds c) r.far final.rest.now
@@ -304,15 +305,15 @@ field-read room far n ds ts rest c end final (Some x) r s re fe = λ total front
     (field-before room n ds ts c end r ∙ ap (λ (o : Outcome (List Declarator)). failed_upto r.far (turned (λ xs. declarator_of n ds c ∷ xs) o)) (declared-is room end.rest.now ∙ (ap (declared_behind room) s ∙ ap (fields_from room x.0 x.1) (sym re))))
     total front so)
 
-pub field-fails : (room : ℕ) (far : Option ℕ) (n : List ℕ) (ds : List Around) (ts : List Symbol) (e : ReadFault) → Fails e (value_or_end_read room ts) → ItemFails (fields_from room n ds ts) far (fallen_of far e)
+pub field-fails : (room : ℕ) (far : Option ℕ) (n : NameAt) (ds : List Around) (ts : List Symbol) (e : ReadFault) → Fails e (value_or_end_read room ts) → ItemFails (fields_from room n ds ts) far (fallen_of far e)
 field-fails room far n ds ts e f = item-errs (fields_from room n ds ts) far e (turned_fails (field_first n ds) e (value_or_end_read room ts) f)
 
-declared-behind-fails : (room : ℕ) (e : ReadFault) (o : Outcome (Option (List ℕ × List Around))) → Fails e o → Fails e (declared_behind room o)
+declared-behind-fails : (room : ℕ) (e : ReadFault) (o : Outcome (Option (NameAt × List Around))) → Fails e o → Fails e (declared_behind room o)
 declared-behind-fails room faults.Memory o f = tt
 declared-behind-fails room (faults.Bad m) o f = (f.0, ap (declared_behind room) f.1, f.2)
 declared-behind-fails room (faults.Deep m) o f = (f.0, ap (declared_behind room) f.1, f.2)
 
-pub field-ends : (room : ℕ) (far : Option ℕ) (n : List ℕ) (ds : List Around) (ts : List Symbol) (c : Option ValueText) (end : End) (e : ReadFault) (r : ReadUpTo room place.Assigned (value_or_end_read room ts) ts c end)
+pub field-ends : (room : ℕ) (far : Option ℕ) (n : NameAt) (ds : List Around) (ts : List Symbol) (c : Option ValueText) (end : End) (e : ReadFault) (r : ReadUpTo room place.Assigned (value_or_end_read room ts) ts c end)
     → Fails e (declared_step room end.rest.now) → ItemFails (fields_from room n ds ts) far (fallen_of (furthest_of far end.far) e)
 field-ends room far n ds ts c end e r f =
     item-ends (fields_from room n ds ts) (read_nest room (value_end assigned) end.rest.now) (declarator_of n ds c) far end.far r.far e r.kept (field-before room n ds ts c end r)

@@ -13,9 +13,10 @@ use Rattle.decl_grammar.specs.declared.symbol.Symbol.{Symbol}
 use Rattle.decl_grammar.specs.declared.fault.ReadFault.{ReadFault}
 use Rattle.decl_grammar.specs.declared.fault.ReadFault.TheVariants as faults
 use Rattle.decl_grammar.specs.declared.written.Declarator.{Declarator}
+use Rattle.decl_grammar.specs.declared.written.NameAt.{NameAt}
 use Rattle.decl_grammar.specs.Reading.{starts, Outcome, done, fault, ◌>>=◌, one_at, Fails}
 use Rattle.decl_grammar.specs.Form.{Rest, Behind, Form, names, ats, primitive_sorts, paired, defaulted, expression_part, value_and_rest, value_end, initialiser, constant_value, pair, turn, many, either, turned, with_front}
-use Rattle.decl_grammar.specs.Types.{silently, sign, behind, name, next_argument, dim, pair_of}
+use Rattle.decl_grammar.specs.Types.{silently, sign, behind, name, name_at, next_argument, dim, pair_of}
 use Rattle.decl_grammar.specs.Expressions.{part_form, created_part, next_created_part, array_of, value_there, listed_end, listed_values, declarator_of, value_or_end}
 use Rattle.decl_grammar.specs.Rule.{reads, read_nest}
 use Rattle.decl_grammar.specs.Rows.{row_behind, failed_upto, row_from}
@@ -165,10 +166,10 @@ paired_step room ts =
     else (one_at (68 ∷ []) ts >>= λ s rest. reads room name rest >>= λ n behind. one_at (73 ∷ []) behind >>= λ z after. done (Some n) after)
 
 -- behind a field: the name of the next one and the brackets behind it, where there is one
-abbrev pub declared_step : ℕ → List Symbol → Outcome (Option (List ℕ × List Around))
+abbrev pub declared_step : ℕ → List Symbol → Outcome (Option (NameAt × List Around))
 declared_step room ts =
     if starts (67 ∷ []) ts then (one_at (67 ∷ []) ts >>= λ s rest. done None rest)
-    else (one_at (68 ∷ []) ts >>= λ s rest. reads room name rest >>= λ n behind. reads room (many dim) behind >>= λ ds after. done (Some (n, ds)) after)
+    else (one_at (68 ∷ []) ts >>= λ s rest. reads room name_at rest >>= λ n behind. reads room (many dim) behind >>= λ ds after. done (Some (n, ds)) after)
 
 -- ---- rows
 
@@ -214,10 +215,10 @@ PairedItem room far ts (Ok x) = (n : List ℕ) → ItemRead (pairs_from room n t
 PairedItem room far ts (Err e) = (n : List ℕ) → ItemFails (pairs_from room n ts) far e
 
 -- a field under any name and with any brackets, and the name of the next one with its brackets
-abbrev pub fields_later : ℕ → Option (List ℕ × List Around) → List Symbol → Option (Outcome (List Declarator))
+abbrev pub fields_later : ℕ → Option (NameAt × List Around) → List Symbol → Option (Outcome (List Declarator))
 fields_later room None ts = None
 fields_later room (Some x) ts = Some (fields_from room x.0 x.1 ts)
 
-abbrev pub FieldItem : ℕ → Option ℕ → List Symbol → Result (Option ValueText × (Option (List ℕ × List Around) × End)) ReadFault → Type 0
-FieldItem room far ts (Ok x) = (n : List ℕ) (ds : List Around) → ItemRead (fields_from room n ds ts) far (declarator_of n ds x.0) (fields_later room x.1.0 x.1.1.rest.now) x.1.1
-FieldItem room far ts (Err e) = (n : List ℕ) (ds : List Around) → ItemFails (fields_from room n ds ts) far e
+abbrev pub FieldItem : ℕ → Option ℕ → List Symbol → Result (Option ValueText × (Option (NameAt × List Around) × End)) ReadFault → Type 0
+FieldItem room far ts (Ok x) = (n : NameAt) (ds : List Around) → ItemRead (fields_from room n ds ts) far (declarator_of n ds x.0) (fields_later room x.1.0 x.1.1.rest.now) x.1.1
+FieldItem room far ts (Err e) = (n : NameAt) (ds : List Around) → ItemFails (fields_from room n ds ts) far e

@@ -28,7 +28,7 @@ fn named_text_of<'a, 's>(
     ensures { Gives (λ x. (x.0.now, x.1.now)) result (reads room named_text symbols.now) }
 {
     let (name, rest) = one(symbols, 1)?;
-    Ok((name.text, rest))
+    Ok((name.text.as_str(), rest))
 }
 
 // The name of a first pair, which might still be a value.
@@ -78,7 +78,10 @@ fn paired_item_of<'a, 's>(
         Ok((value, end)) => {
             let far = furthest(far, end.far);
             match paired_step_of(alloc, room, end.rest) {
-                Ok((next, rest)) => Ok((value, (next, End { rest, far }))),
+                Ok(step) => {
+                    let (next, rest) = step;
+                    Ok((value, (next, End { rest, far })))
+                }
                 Err(fault) => Err(fallen(far, fault)),
             }
         }

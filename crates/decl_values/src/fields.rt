@@ -9,9 +9,9 @@ use crate::constant_forms::constant_of;
 use crate::reached::End;
 use crate::rows::{ended_of, fallen, furthest};
 use crate::types::dims_of;
-use apt_base::{List, Name};
-use decl_grammar::{Declarator, ReadFault, Symbol};
-use decl_names::{begin, is_next, one, read_name};
+use apt_base::List;
+use decl_grammar::{Declarator, NameAt, ReadFault, Symbol};
+use decl_names::{begin, is_next, one, read_name_at};
 use decl_tree::{Around, ValueText};
 use decl_turns::Place;
 use std::alloc::Global;
@@ -63,7 +63,8 @@ fn initialiser_of<'a, 's>(
     ensures { EndsWith room places.Assigned (initialiser_read room symbols.now) symbols.now result }
 {
     match constant_of(alloc, room, symbols) {
-        Ok((value, rest)) => {
+        Ok(read) => {
+            let (value, rest) = read;
             if is_next(rest, 67) {
                 return Ok((Some(value), End { rest, far: None }));
             }
@@ -101,7 +102,7 @@ fn declared_step_of<'a, 's>(
     alloc: Global,
     room: usize,
     symbols: &'s [Symbol<'a>],
-) -> Result<(Option<(Name, List<Around>)>, &'s [Symbol<'a>]), ReadFault>
+) -> Result<(Option<(NameAt, List<Around>)>, &'s [Symbol<'a>]), ReadFault>
     ensures { Gives (λ x. (x.0, x.1.now)) result (declared_step room symbols.now) }
 {
     if is_next(symbols, 67) {
@@ -109,8 +110,7 @@ fn declared_step_of<'a, 's>(
         return Ok((None, rest));
     }
     let (_, rest) = one(symbols, 68)?;
-    let (text, rest) = read_name(room, rest)?;
-    let name = Name::new(alloc, text)?;
+    let (name, rest) = read_name_at(alloc, room, rest)?;
     let (dims, rest) = dims_of(alloc, room, rest)?;
     let dims = List::from_vec(dims);
     Ok((Some((name, dims)), rest))
@@ -125,7 +125,7 @@ fn field_item_of<'a, 's>(
 ) -> Result<
     (
         Option<ValueText>,
-        (Option<(Name, List<Around>)>, End<'a, 's>),
+        (Option<(NameAt, List<Around>)>, End<'a, 's>),
     ),
     ReadFault,
 >
@@ -136,7 +136,10 @@ fn field_item_of<'a, 's>(
         Ok((constant, end)) => {
             let far = furthest(far, end.far);
             match declared_step_of(alloc, room, end.rest) {
-                Ok((next, rest)) => Ok((constant, (next, End { rest, far }))),
+                Ok(step) => {
+                    let (next, rest) = step;
+                    Ok((constant, (next, End { rest, far })))
+                }
                 Err(fault) => Err(fallen(far, fault)),
             }
         }
@@ -148,7 +151,7 @@ fn field_item_of<'a, 's>(
 pub fn fields_of<'a, 's>(
     alloc: Global,
     room: usize,
-    first: Name,
+    first: NameAt,
     brackets: List<Around>,
     symbols: &'s [Symbol<'a>],
 ) -> Result<(Vec<Declarator>, &'s [Symbol<'a>]), ReadFault>

@@ -26,9 +26,10 @@ pub use annotations::{annotation_of, annotations_of};
 pub use decl_constants::primitive_type_of;
 pub use decl_names::{
     begin, doc_before, imports_of, is_at, is_name_sort, is_next, is_primitive, one, read_chain,
-    read_name, read_over, shut, starts_annotation, starts_name, starts_primitive,
+    read_name, read_name_at, read_over, shut, starts_annotation, starts_name, starts_primitive,
 };
 pub use fields::fields_of;
+pub use pieces::piece_of;
 pub use type_arguments::{optional_arguments_of, type_arguments_of};
 pub use types::{
     annotated_class_of, base_type_of, dim_of, dims_of, modifier_annotation_of, more_dims_of,

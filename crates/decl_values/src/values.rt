@@ -99,7 +99,10 @@ pub fn default_of<'a, 's>(
 {
     let (value, end) = value_of(alloc, room, Place::Defaulted, symbols)?;
     match one(end.rest, 67) {
-        Ok((_, rest)) => Ok((value, rest)),
+        Ok(read) => {
+            let (_, rest) = read;
+            Ok((value, rest))
+        }
         Err(fault) => Err(fallen(end.far, fault)),
     }
 }
@@ -115,7 +118,10 @@ pub fn lone_value_of<'a, 's>(
 {
     let (value, end) = value_of(alloc, room, Place::Alone, symbols)?;
     match one(end.rest, 62) {
-        Ok((_, rest)) => Ok((value, rest)),
+        Ok(read) => {
+            let (_, rest) = read;
+            Ok((value, rest))
+        }
         Err(fault) => Err(fallen(end.far, fault)),
     }
 }
@@ -155,7 +161,10 @@ fn listed_item_of<'a, 's>(
         Ok((value, end)) => {
             let far = furthest(far, end.far);
             match listed_step_of(end.rest) {
-                Ok((more, rest)) => Ok((value, (more, End { rest, far }))),
+                Ok(step) => {
+                    let (more, rest) = step;
+                    Ok((value, (more, End { rest, far })))
+                }
                 Err(fault) => Err(fallen(far, fault)),
             }
         }

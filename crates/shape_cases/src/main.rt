@@ -11,8 +11,10 @@
 //! | `arguments NUMBER` | as `shape`, of a class with a field whose type has that number of lists of type arguments, each inside the one before |
 //! | `brackets NUMBER` | the same, with that number of pairs of brackets |
 //! | `wildcards NUMBER` | the same, with `? extends` that number of times |
-//! | `file TEXT` | the units of the ordinary compilation unit that the text is, in words; or `bad` and the offset of its first fault, or `deep` |
+//! | `file TEXT` | the units of the ordinary compilation unit that the text is, in words; or `bad` and the offset of its first fault, or the limit that it passes first: `deep`, `children` or `name` |
 //! | `info TEXT` | the same of a file `package-info.java` |
+//! | `limits TEXT`, `info_limits TEXT` | the same, of the units only how many there are |
+//! | `lines TEXT`, `info_lines TEXT` | of each unit its name, the line of its type or its package, and the path and the line of each element in it |
 //!
 //! In words, a list is the number of its items and the items, and a part that may be left out is `none`, or `some` and the part.
 #![tactic(auto)]
@@ -47,6 +49,10 @@ impl Calls for Shapes {
             "type" => field_type(alloc, hex_bytes(alloc, word)?.as_slice()),
             "file" => parsed::file(alloc, false, word),
             "info" => parsed::file(alloc, true, word),
+            "limits" => parsed::limits(alloc, false, word),
+            "info_limits" => parsed::limits(alloc, true, word),
+            "lines" => parsed::lines(alloc, false, word),
+            "info_lines" => parsed::lines(alloc, true, word),
             _ => {
                 let bytes = made::bytes(alloc, call, word.parse::<u32>()?)?;
                 shape_word(alloc, bytes.as_slice())

@@ -265,13 +265,13 @@ pub values::expression_value_of-returns : goal.values::expression_value_of-retur
 values::expression_value_of-returns t c = ended-value c.args.room c.args.place c.args.symbols.now c.in_ok-value.value c.in_ok-end.end c.in_ok-end.ensures c.in_ok-value.ensures
 
 pub values::lone_value_of-returns-in-Ok : goal.values::lone_value_of-returns-in-Ok
-values::lone_value_of-returns-in-Ok t c = lone-read c.args.room c.args.symbols.now c.in-Ok.rest.now c.in_ok-value.value c.in_ok-value.end _ c.in_ok-value.ensures c.in-Ok.ensures
+values::lone_value_of-returns-in-Ok t c = lone-read c.args.room c.args.symbols.now c.in-Ok.read.1.now c.in_ok-value.value c.in_ok-value.end _ c.in_ok-value.ensures c.in-Ok.ensures
 
 pub values::lone_value_of-returns-in-Err : goal.values::lone_value_of-returns-in-Err
 values::lone_value_of-returns-in-Err t c = rw c.fallen.ensures (lone-fails c.args.room c.args.symbols.now c.in_ok-value.value c.in_ok-value.end c.in-Err.fault c.in_ok-value.ensures c.in-Err.ensures)
 
 pub values::listed_item_of-returns-in-Ok-listed_step_of-clause-item : goal.values::listed_item_of-returns-in-Ok-listed_step_of-clause-item
-values::listed_item_of-returns-in-Ok-listed_step_of-clause-item t c = listed-read c.args.room c.args.far c.args.symbols.now c.in-Ok-listed_step_of.rest.now c.in-Ok.value c.in-Ok.end _ c.in-Ok-listed_step_of.more c.in-Ok.ensures c.in-Ok-listed_step_of.ensures refl c.furthest-far.ensures
+values::listed_item_of-returns-in-Ok-listed_step_of-clause-item t c = listed-read c.args.room c.args.far c.args.symbols.now c.in-Ok-listed_step_of.step.1.now c.in-Ok.value c.in-Ok.end _ c.in-Ok-listed_step_of.step.0 c.in-Ok.ensures c.in-Ok-listed_step_of.ensures refl c.furthest-far.ensures
 
 pub values::listed_item_of-returns-in-Err-listed_step_of-clause-item : goal.values::listed_item_of-returns-in-Err-listed_step_of-clause-item
 values::listed_item_of-returns-in-Err-listed_step_of-clause-item t c = rw (c.fallen.ensures, c.furthest-far.ensures) (listed-ends c.args.room c.args.far c.args.symbols.now c.in-Ok.value c.in-Ok.end c.in-Err-listed_step_of.fault c.in-Ok.ensures c.in-Err-listed_step_of.ensures)
@@ -298,7 +298,7 @@ values::array_in-array_meaning-requires t c =
     omega (arith, one-smaller (63 ∷ []) c.args.symbols.now _ c.in_ok-rest.rest.now c.in_ok-rest.ensures, fewer c.args.room array_rest c.in_ok-rest.rest.now _ c.in_ok-values.rest.now c.in_ok-values.ensures)
 
 pub annotations::paired_item_of-returns-in-Ok-paired_step_of-clause-item : goal.annotations::paired_item_of-returns-in-Ok-paired_step_of-clause-item
-annotations::paired_item_of-returns-in-Ok-paired_step_of-clause-item t c = λ n. paired-read c.args.room c.args.far n c.args.symbols.now c.in-Ok-paired_step_of.rest.now c.in-Ok.value c.in-Ok.end _ c.in-Ok-paired_step_of.next c.in-Ok.ensures c.in-Ok-paired_step_of.ensures refl c.furthest-far.ensures
+annotations::paired_item_of-returns-in-Ok-paired_step_of-clause-item t c = λ n. paired-read c.args.room c.args.far n c.args.symbols.now c.in-Ok-paired_step_of.step.1.now c.in-Ok.value c.in-Ok.end _ c.in-Ok-paired_step_of.step.0 c.in-Ok.ensures c.in-Ok-paired_step_of.ensures refl c.furthest-far.ensures
 
 pub annotations::paired_item_of-returns-in-Err-paired_step_of-clause-item : goal.annotations::paired_item_of-returns-in-Err-paired_step_of-clause-item
 annotations::paired_item_of-returns-in-Err-paired_step_of-clause-item t c = rw (c.fallen.ensures, c.furthest-far.ensures) (λ n. paired-ends c.args.room c.args.far n c.args.symbols.now c.in-Ok.value c.in-Ok.end c.in-Err-paired_step_of.fault c.in-Ok.ensures c.in-Err-paired_step_of.ensures)
@@ -321,10 +321,10 @@ pub annotations::pairs_of-returns-in-None : goal.annotations::pairs_of-returns-i
 annotations::pairs_of-returns-in-None t c = rw c.in_ok-push.ensures.items (so-ends (pairs_from c.args.room c.args.first c.args.symbols.now) _ c.row.all.items c.row.far _ _ c.row.invariant (rw c.in-None.is at (c.in_ok-value.ensures.item c.row.name)))
 
 pub values::listed_item_of-returns-in-Ok-listed_step_of-clause-smaller : goal.values::listed_item_of-returns-in-Ok-listed_step_of-clause-smaller
-values::listed_item_of-returns-in-Ok-listed_step_of-clause-smaller t c = omega (arith, c.in-Ok.ensures.fewer, listed-smaller c.in-Ok.end.rest.now _ c.in-Ok-listed_step_of.rest.now c.in-Ok-listed_step_of.ensures)
+values::listed_item_of-returns-in-Ok-listed_step_of-clause-smaller t c = omega (arith, c.in-Ok.ensures.fewer, listed-smaller c.in-Ok.end.rest.now _ c.in-Ok-listed_step_of.step.1.now c.in-Ok-listed_step_of.ensures)
 
 pub annotations::paired_item_of-returns-in-Ok-paired_step_of-clause-smaller : goal.annotations::paired_item_of-returns-in-Ok-paired_step_of-clause-smaller
-annotations::paired_item_of-returns-in-Ok-paired_step_of-clause-smaller t c = omega (arith, c.in-Ok.ensures.fewer, paired-smaller c.args.room c.in-Ok.end.rest.now _ c.in-Ok-paired_step_of.rest.now c.in-Ok-paired_step_of.ensures)
+annotations::paired_item_of-returns-in-Ok-paired_step_of-clause-smaller t c = omega (arith, c.in-Ok.ensures.fewer, paired-smaller c.args.room c.in-Ok.end.rest.now _ c.in-Ok-paired_step_of.step.1.now c.in-Ok-paired_step_of.ensures)
 
 pub values::lone_value_of-value_of-requires : goal.values::lone_value_of-value_of-requires
 values::lone_value_of-value_of-requires t c = (omega (arith, c.decreases), refl)

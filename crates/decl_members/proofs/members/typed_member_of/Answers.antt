@@ -1,4 +1,4 @@
-use Rattle.std.proofs.Common.{[], ◌∷◌, ◌++◌, sym, ap, ◌∙◌}
+use Rattle.std.proofs.Common.{◌≡◌, [], ◌∷◌, ◌++◌, sym, ap, ◌∙◌}
 use Rattle.decl_tree.specs.declared.type_text.BaseType.TheVariants as base
 use Rattle.decl_grammar.specs.Reading.{done}
 use Rattle.decl_grammar.specs.Form.{turned}
@@ -11,10 +11,10 @@ use Rattle.decl_members.proofs.members.typed_member_of.Goals as goal
 
 pub returns : goal.returns
 returns c =
-    gives-moved (λ x. (x.0, x.1.now)) c.member_rest_of.result (turned (named_as (type_of (base.Named c.from_vec.result) c.from_vec-around.result) c.in_ok-name-2.name) (reads c.args.room (rest_form c.args.kind) c.in_ok-text.rest.now)) _
-    (typed-joined c.args.room c.args.kind c.args.first.now c.in_ok-name-2.name c.in_ok-arguments.arguments _ c.in_ok-parts.parts.items c.in_ok-dims.dims.items (type_of (base.Named c.from_vec.result) c.from_vec-around.result) c.args.symbols.now c.in_ok-arguments.rest.now c.in_ok-parts.rest.now c.in_ok-dims.rest.now c.in_ok-text.rest.now
+    gives-moved (λ x. (x.0, x.1.now)) c.member_rest_of.result (turned (named_as (type_of (base.Named c.from_vec.result) c.from_vec-around.result) c.in_ok-name.name) (reads c.args.room (rest_form c.args.kind) c.in_ok-name.rest.now)) _
+    (typed-joined c.args.room c.args.kind c.args.first c.in_ok-name.name c.in_ok-arguments.arguments _ c.in_ok-parts.parts.items c.in_ok-dims.dims.items (type_of (base.Named c.from_vec.result) c.from_vec-around.result) c.args.symbols.now c.in_ok-arguments.rest.now c.in_ok-parts.rest.now c.in_ok-dims.rest.now c.in_ok-name.rest.now
     c.in_ok-arguments.ensures
-    (c.in_ok-push.ensures.items ∙ (ap (λ fs. fs ++ named_part_of c.in_ok-name.name c.in_ok-arguments.arguments ∷ []) c.new-front.ensures.items ∙ ap (λ m. named_part_of m c.in_ok-arguments.arguments ∷ []) c.in_ok-name.ensures))
-    c.in_ok-parts.ensures c.in_ok-dims.ensures (c.in_ok-text.ensures ∙ ap (λ t. done t c.in_ok-text.rest.now) (sym c.in_ok-name-2.ensures))
+    (c.in_ok-push.ensures.items ∙ ap (λ fs. fs ++ named_part_of c.args.first.name c.in_ok-arguments.arguments ∷ []) c.new-front.ensures.items)
+    c.in_ok-parts.ensures c.in_ok-dims.ensures c.in_ok-name.ensures
     (ap (λ ps. type_of (base.Named ps) c.from_vec-around.result) c.from_vec.ensures ∙ ap (type_of (base.Named c.in_ok-parts.parts.items)) c.from_vec-around.ensures))
     c.member_rest_of.ensures

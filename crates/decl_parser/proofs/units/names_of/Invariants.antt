@@ -1,5 +1,5 @@
 use Rattle.std.proofs.Common.{◌≡◌, ◌++◌, length}
-use Rattle.decl_parser.specs.Units.{names_in}
+use Rattle.decl_limits.specs.Units.{names_in}
 use Rattle.decl_parser.proofs.units.names_of.Given as goal
 
 abbrev pub invariant-row : goal.invariant-row

@@ -1,9 +1,9 @@
-use Rattle.std.proofs.Common.{◌≡◌, ℕ, List, refl, ◌∙◌, sym, ap}
+use Rattle.std.proofs.Common.{ℕ, List, ◌∙◌, sym, ap}
 use Rattle.std.proofs.lemmas.Result.{err_from_is_err_and}
 use Rattle.decl_grammar.specs.Reading.{starts}
 use Rattle.decl_grammar.specs.Types.{with_mark, with_marks, modifier}
 use Rattle.decl_grammar.proofs.Firsts.{modifier_first, modifier_full}
-use Rattle.decl_grammar.proofs.Loop.{Folds, fold-falls, folds, fold-ends, fold-stops}
+use Rattle.decl_grammar.proofs.Loop.{fold-falls, folds, fold-ends, fold-stops}
 use Rattle.decl_types.proofs.Marks.{marks}
 use Rattle.decl_types.proofs.modifiers.more_modifiers_of.Goals as goal
 

@@ -1,4 +1,4 @@
-use Rattle.std.proofs.Common.{refl, arith, ◌∙◌, sym}
+use Rattle.std.proofs.Common.{arith}
 use Rattle.decl_grammar.specs.Form.{first_rest}
 use Rattle.decl_grammar.specs.Types.{base_type}
 use Rattle.decl_grammar.specs.Rule.{read_nest, reads}

@@ -1,4 +1,4 @@
-use Rattle.std.proofs.Common.{refl, arith, ◌∙◌, sym, ap, length}
+use Rattle.std.proofs.Common.{arith, ◌∙◌, ap, length}
 use Rattle.std.proofs.lemmas.Result.{err_from_is_err_and}
 use Rattle.decl_grammar.specs.Form.{first_rest, turned}
 use Rattle.decl_grammar.specs.Rule.{read_nest}

@@ -1,5 +1,4 @@
 use Rattle.std.proofs.lemmas.Result.{err_from_is_err_and}
-use Rattle.std.proofs.Common.{refl, arith, ◌∙◌, sym}
 use Rattle.decl_grammar.specs.Types.{annotations}
 use Rattle.decl_grammar.proofs.Nests.{fewer}
 use Rattle.decl_types.proofs.ParamRows.{first-joined, first-fails, param-moved}

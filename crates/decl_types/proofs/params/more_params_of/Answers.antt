@@ -1,4 +1,4 @@
-use Rattle.std.proofs.Common.{refl, arith, ◌∙◌, sym}
+use Rattle.std.proofs.Common.{arith, ◌∙◌, sym}
 use Rattle.std.proofs.lemmas.Result.{err_from_is_err_and}
 use Rattle.decl_types.proofs.ParamRows.{params-goes, params-last, params-fails, params-stops}
 use Rattle.decl_types.proofs.params.more_params_of.Goals as goal

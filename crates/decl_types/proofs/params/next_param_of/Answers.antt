@@ -1,5 +1,5 @@
 use Rattle.std.proofs.lemmas.Result.{err_from_is_err_and}
-use Rattle.std.proofs.Common.{refl, arith}
+use Rattle.std.proofs.Common.{arith}
 use Rattle.decl_grammar.specs.Grammar.{param_modifiers}
 use Rattle.decl_grammar.proofs.Nests.{fewer}
 use Rattle.decl_types.proofs.ParamRows.{next-joined, next-shut, next-fails, param-moved, one-fewer}

@@ -1,0 +1,6 @@
+pub mod Texts
+pub mod Units
+pub mod Names
+pub mod Children
+pub mod Separators
+pub mod Limits

@@ -1,0 +1,19 @@
+// How many symbols separate items.
+ghost use Rattle.std.specs.Prelude.{◌≡◌};
+ghost use Rattle.decl_limits.specs.Separators.{separators};
+
+use decl_grammar::Symbol;
+
+/// How many of these symbols are a `,`, a `;` or a `}`: each item of a child list but a few has one of its own.
+#[tactic(auto, unfolding(crate::specs::Separators::separators))]
+pub fn count_separators(symbols: &[Symbol<'_>]) -> usize
+    ensures { result ≡ separators symbols.now }
+{
+    let mut count = 0;
+    for symbol in symbols {
+        if symbol.sort == 64 || symbol.sort == 67 || symbol.sort == 68 {
+            count += 1;
+        }
+    }
+    count
+}
