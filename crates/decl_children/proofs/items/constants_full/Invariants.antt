@@ -1,0 +1,10 @@
+use Rattle.std.proofs.Common.{length}
+use Rattle.decl_grammar.specs.Grammar.{constant}
+use Rattle.decl_children.proofs.CommaRows.{RowSame}
+use Rattle.decl_children.proofs.items.constants_full.Given as goal
+
+abbrev pub invariant-row : goal.invariant-row
+invariant-row l = RowSame 2 constant l.fn.symbols l.count l.rest
+
+abbrev pub decreases-row : goal.decreases-row
+decreases-row l = length l.rest

@@ -1,0 +1,16 @@
+-- The words with which types of each kind begin, their modifiers aside (JLS 8.1, 8.9, 9.1, 9.6).
+use Rattle.std.specs.Prelude.{ℕ, Bool, true, false}
+use Rattle.decl_tree.specs.declared.declaration.TypeKind.{TypeKind}
+use Rattle.decl_tree.specs.declared.declaration.TypeKind.TheVariants as kind
+
+abbrev pub front_word : TypeKind → ℕ
+front_word kind.Enum = 25
+front_word kind.Class = 18
+front_word kind.AnnotationType = 9
+front_word kind.Interface = 37
+
+abbrev pub is_enum : TypeKind → Bool
+is_enum kind.Enum = true
+is_enum kind.Class = false
+is_enum kind.AnnotationType = false
+is_enum kind.Interface = false

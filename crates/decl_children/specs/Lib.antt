@@ -1,0 +1,10 @@
+pub mod Fronts
+pub mod Walks
+pub mod ParamReads
+pub mod Results
+pub mod Members
+pub mod TypeWalks
+pub mod Unmodifieds
+pub mod KindWords
+pub mod WalkSteps
+pub mod TopSteps
