@@ -19,7 +19,7 @@ HERE = os.path.dirname(os.path.abspath(__file__))
 sys.path.insert(0, os.path.join(HERE, "..", "tests"))
 import generated
 import host
-from host import (CREATE, DONE_STATUS, ERRORS, GENERATED_DUPLICATE, TOO_MANY_QUESTIONS, UNBUILT_FORM, UNBUILT_TALK,
+from host import (BAD_GENERATED, CREATE, DONE_STATUS, ERRORS, GENERATED_DUPLICATE, TOO_MANY_QUESTIONS, UNBUILT_TALK,
                   Failure, expect, former_stands)
 
 MEMORY_STATUS = 3
@@ -31,7 +31,7 @@ BUILDS = {
     "a source of the last round": ([[generated.create_source("p.D")], [], [generated.create_source("p.E")]], DONE_STATUS),
     "printed errors": ([[CREATE, generated.message(generated.ERROR, "bad")], []], ERRORS),
     "a type that is there": ([[generated.create_source("p.E", generated.source_of("p.C"))]], GENERATED_DUPLICATE),
-    "a created source off the form": ([[generated.create_source("p.E", b"")]], UNBUILT_FORM),
+    "a created source that is no Java file": ([[generated.create_source("p.E", b"class")]], BAD_GENERATED),
     "a frame that is none": ([[[host.say(b"\0\0\0\1\xff")]]], UNBUILT_TALK),
 }
 

@@ -13,10 +13,10 @@ import subprocess
 import sys
 import time
 
-from host import (ACCEPTED, BAD_CONFIG, BAD_WORDS, CHILD_FAULT, CLAIM_BROKEN, CREATE, DONE, DONE_STATUS, EXISTS,
-                  FIRST_ROUND, HELLO, INIT, KINDS, LAST_ROUND, PAST_A_LIMIT, SECONDS, SERVICES, SINK_FAULT, SOURCE,
-                  TREE_FAULT, UNBUILT_FORM, UNBUILT_TALK, UNKNOWN_PROCESSOR, Cases, Failure, NotRun, by_hand, expect,
-                  former_stands, frames, processes_of, program, record_of, refused, say, says)
+from host import (ACCEPTED, BAD_CONFIG, BAD_SOURCE, BAD_WORDS, CHILD_FAULT, CLAIM_BROKEN, CREATE, DONE, DONE_STATUS,
+                  DUPLICATE_TYPE, EXISTS, FIRST_ROUND, HELLO, INIT, KINDS, LAST_ROUND, PAST_A_LIMIT, SECONDS, SERVICES,
+                  SINK_FAULT, SOURCE, TREE_FAULT, UNBUILT_TALK, UNKNOWN_PROCESSOR, Cases, Failure, NotRun, by_hand,
+                  expect, former_stands, frames, processes_of, program, record_of, refused, say, says)
 
 # The steps of a child that creates one file, and of one that creates nothing.
 CREATES = ["read", say(HELLO), "read", say(CREATE), "read", say(DONE), "read", say(DONE), "rest"]
@@ -53,10 +53,89 @@ def hello_is_answered_by_done(project):
 
 
 @case
+def a_source_that_is_no_java_file(project):
+    project.write("src/a/X.java", b"class {")
+    refused(project, project.scripted(CREATES), BAD_SOURCE, "BadSource(src/a/X.java, 6)")
+    expect("whether the child was started", os.path.exists(project.record), False)
+
+
+@case
+def two_sources_of_one_type(project):
+    project.write("src/a/User.java", b"package a;\npublic class User {}\n")
+    project.write("src/b/U.java", b"package a; class User {}")
+    refused(project, project.scripted(CREATES), DUPLICATE_TYPE, "DuplicateType(a.User, src/a/User.java, src/b/U.java)")
+    expect("whether the child was started", os.path.exists(project.record), False)
+
+
+@case
 def a_source_without_an_annotation(project):
     project.write("src/p/C.java", b"package p; class C {}")
-    refused(project, project.scripted(CREATES), UNBUILT_FORM, "UnbuiltForm(src/p/C.java)")
-    expect("whether the child was started", os.path.exists(project.record), False)
+    run = project.run(project.scripted(["read", say(HELLO), "rest"]))
+    expect("the output", run.output, REPORT_OF_NO_FILE)
+    expect("the status", run.status, DONE_STATUS)
+    expect("what the child was sent", project.sent(), INIT)
+
+
+# The project of a shop: a package with a doc comment and without an annotation, a class with one that is imported, an interface with one by its
+# whole name, and a class with two, a field initialiser, a nested enum with a body and a method with type parameters.
+SHOP = {
+    "package-info.java": """/** The shop. */
+package shop;
+""",
+    "Base.java": """package shop;
+
+import apt.demo.Checked;
+
+@Checked
+abstract class Base {
+  long id;
+}
+""",
+    "Cart.java": """package shop;
+
+@apt.demo.Registered
+interface Cart {
+  int SIZE = 4;
+  default int size() { return SIZE; }
+}
+""",
+    "Item.java": """package shop;
+
+import apt.demo.*;
+import java.util.List;
+import java.util.Map;
+
+/** An item. */
+@Builder
+@Registered
+public class Item<T extends Comparable<T>> extends Base {
+  public static final int MAX = 10;
+  private final List<T> parts = new java.util.ArrayList<>();
+  Map<String, ? extends Number> prices;
+  State state = State.NEW;
+  /** The states. */
+  public enum State {
+    NEW, SOLD { @Override boolean last() { return true; } };
+    boolean last() { return false; }
+  }
+  public <K> K find(K key, int... at) throws java.io.IOException {
+    return at.length > 0 ? key : null;
+  }
+}
+""",
+}
+
+
+@case
+def the_project_of_a_shop(project):
+    shutil.rmtree(project.path("src"))
+    for name, content in SHOP.items():
+        project.write("src/shop/" + name, content.encode())
+    run = project.run(project.scripted(["read", say(frames.hello("*")), "read", say(DONE), "read", say(DONE), "rest"]))
+    expect("the output", run.output, REPORT_OF_NO_FILE)
+    roots = ["shop.Base", "shop.Cart", "shop.Item", "shop.package-info"]
+    first = frames.round_frame(1, roots, offered=["Builder", "Checked", "Registered", "apt.demo.Registered"])
+    expect("what the child was sent", project.sent(), INIT + first + LAST_ROUND)
 
 
 @case
@@ -711,8 +790,8 @@ def a_folder_with_the_name_of_a_source(project):
     os.makedirs(project.path("src/p/D.java"))
     run = project.run(project.scripted(CREATES))
     expect("the output", run.output, REPORT_OF_ONE_FILE)
-    project.write("src/p/D.java/E.java", b"package p; class E {}")
-    refused(project, project.scripted(CREATES), UNBUILT_FORM, "UnbuiltForm(src/p/D.java/E.java)")
+    project.write("src/p/D.java/E.java", b"class {")
+    refused(project, project.scripted(CREATES), BAD_SOURCE, "BadSource(src/p/D.java/E.java, 6)")
 
 
 @case
@@ -720,18 +799,36 @@ def a_source_of_a_gigabyte(project):
     with open(project.path("src/p/Big.java"), "wb") as file:
         file.truncate(1 << 30)
     small_memory = ["/bin/sh", "-c", 'ulimit -v 100000; exec "$@"', "sh"]
-    refused(project, project.scripted(CREATES), UNBUILT_FORM, "UnbuiltForm(src/p/Big.java)", before=small_memory)
+    refused(project, project.scripted(CREATES), PAST_A_LIMIT, "TooLarge(FileBytes, 8388608)", before=small_memory)
 
 
 @case
 def the_longest_source_that_is_read(project):
-    start, end = b"package p; @q.A.", b" class D {}\n"
-    project.write("src/p/D.java", start + b"x" * (4096 - len(start) - len(end)) + end)
+    start, end = b"package p; // ", b"\n@q.A class D {}\n"
+    project.write("src/p/D.java", start + b"x" * (8_388_608 - len(start) - len(end)) + end)
     run = project.run(["build"])
     expect("the output", run.output, REPORT_WITHOUT_PROCESSOR)
     expect("the status", run.status, DONE_STATUS)
-    project.write("src/p/D.java", start + b"x" * (4097 - len(start) - len(end)) + end)
-    refused(project, ["build"], UNBUILT_FORM, "UnbuiltForm(src/p/D.java)")
+    project.write("src/p/D.java", start + b"x" * (8_388_609 - len(start) - len(end)) + end)
+    refused(project, ["build"], PAST_A_LIMIT, "TooLarge(FileBytes, 8388608)")
+
+
+@case
+def more_bytes_of_sources_than_may_be(project):
+    for number in range(8):
+        project.write(f"src/many/{number}.java", b" " * 8_388_608)
+    refused(project, ["build"], PAST_A_LIMIT, "TooLarge(SourceBytes, 67108864)")
+
+
+@case
+def more_sources_than_may_be(project):
+    for number in range(20_000):
+        project.write(f"src/many/{number}.java", b"")
+    refused(project, ["build"], PAST_A_LIMIT, "TooLarge(Files, 20000)")
+    os.remove(project.path("src/p/C.java"))
+    run = project.run(["build"])
+    expect("the output", run.output, REPORT_WITHOUT_PROCESSOR)
+    expect("the status", run.status, DONE_STATUS)
 
 
 @case
@@ -741,10 +838,10 @@ def the_longest_name_of_a_type(project):
     expect("the output", run.output, REPORT_WITHOUT_PROCESSOR)
     expect("the status", run.status, DONE_STATUS)
     project.write("src/p/E.java", b"package p; @q.A class " + b"E" * 1023 + b" {}")
-    project.write("src/p/F.java", b"package p; class F {}")
+    project.write("src/p/F.java", b"class {")
     refused(project, ["build"], PAST_A_LIMIT, "TooLarge(Name, 1024)")
-    project.write("src/p/B.java", b"package p; class B {}")
-    refused(project, ["build"], UNBUILT_FORM, "UnbuiltForm(src/p/B.java)")
+    project.write("src/p/B.java", b"class {")
+    refused(project, ["build"], BAD_SOURCE, "BadSource(src/p/B.java, 6)")
 
 
 @case
@@ -796,9 +893,9 @@ def sources_in_the_order_of_their_bytes(project):
     shutil.rmtree(project.path("src"))
     for name in ["a/X.java", "a-b/X.java", "a.java", "b/X.java"]:
         project.write("src/" + name, b"not a source")
-    refused(project, project.scripted(CREATES), UNBUILT_FORM, "UnbuiltForm(src/a-b/X.java)")
+    refused(project, project.scripted(CREATES), BAD_SOURCE, "BadSource(src/a-b/X.java, 0)")
     shutil.rmtree(project.path("src/a-b"))
-    refused(project, project.scripted(CREATES), UNBUILT_FORM, "UnbuiltForm(src/a.java)")
+    refused(project, project.scripted(CREATES), BAD_SOURCE, "BadSource(src/a.java, 0)")
 
 
 @case

@@ -8,10 +8,10 @@ with status 1. The last line is 'generated: N passed, M failed'.
 """
 import os
 
-from host import (ACCEPTED, BAD_NAME, CLAIM_BROKEN, CREATE, DONE, DONE_STATUS, ERRORS, EXISTS, FIRST_ROUND,
-                  GENERATED_DUPLICATE, HELLO, HERE, INIT, LAST_ROUND, NOTED, PAST_A_LIMIT, TOO_LARGE,
-                  TOO_MANY_QUESTIONS, TOO_MANY_ROUNDS, UNBUILT_FORM, UNBUILT_TALK, UNSUPPORTED, Cases, Failure,
-                  by_hand, expect, former_stands, frames as spelling, record_of, refused, say)
+from host import (ACCEPTED, BAD_GENERATED, BAD_NAME, CLAIM_BROKEN, CREATE, DONE, DONE_STATUS, ERRORS, EXISTS,
+                  FIRST_ROUND, GENERATED_DUPLICATE, HELLO, HERE, INIT, LAST_ROUND, NOTED, PAST_A_LIMIT, TOO_LARGE,
+                  TOO_MANY_QUESTIONS, TOO_MANY_ROUNDS, UNBUILT_TALK, UNSUPPORTED, Cases, Failure, by_hand, expect,
+                  former_stands, frames as spelling, record_of, refused, say)
 
 case = Cases("generated")
 
@@ -344,48 +344,57 @@ def one_type_too_many(project):
 
 
 @case
-def a_created_source_off_the_form(project):
-    refuses(project, [[create_source("p.D", b"package p; class D {}")]], UNBUILT_FORM,
-            "UnbuiltForm(SOURCE_OUTPUT/p/D.java)")
+def a_created_source_that_is_no_java_file(project):
+    refuses(project, [[create_source("a.X", b"class {")]], BAD_GENERATED, "BadGenerated(SOURCE_OUTPUT/a/X.java, 6)")
 
 
 @case
-def the_least_path_of_two_off_the_form(project):
+def the_least_path_of_two_that_are_no_java_files(project):
     off = b"not a source"
-    refuses(project, [[create_source("p.E", off), create_source("p.B"), create_source("p.D", off)]], UNBUILT_FORM,
-            "UnbuiltForm(SOURCE_OUTPUT/p/D.java)")
+    refuses(project, [[create_source("p.E", off), create_source("p.B"), create_source("p.D", off)]], BAD_GENERATED,
+            "BadGenerated(SOURCE_OUTPUT/p/D.java, 0)")
 
 
 @case
-def a_source_off_the_form_before_a_type_that_is_there(project):
-    refuses(project, [[create_source("p.E", source_of("p.C")), create_source("p.D", b"")]], UNBUILT_FORM,
-            "UnbuiltForm(SOURCE_OUTPUT/p/D.java)")
+def no_java_file_before_a_type_that_is_there(project):
+    refuses(project, [[create_source("p.E", source_of("p.C")), create_source("p.D", b"class")]], BAD_GENERATED,
+            "BadGenerated(SOURCE_OUTPUT/p/D.java, 5)")
 
 
 @case
-def a_source_off_the_form_in_a_later_round(project):
-    refuses(project, [[CREATE, create_source("p.D")], [create_source("p.E", b"not a source")]], UNBUILT_FORM,
-            "UnbuiltForm(SOURCE_OUTPUT/p/E.java)")
+def a_type_that_is_there_before_no_java_file(project):
+    refuses(project, [[create_source("p.E", b"class"), create_source("p.D", source_of("p.C"))]], GENERATED_DUPLICATE,
+            "GeneratedDuplicate(p.C)")
 
 
-def long_source(name, length):
-    """A source of this length that gives this type, with a long package for its annotation and a line feed."""
-    start, end = b"package p; @q.A.", f" class {name} {{}}\n".encode()
-    return start + b"x" * (length - len(start) - len(end)) + end
+@case
+def no_java_file_in_a_later_round(project):
+    refuses(project, [[CREATE, create_source("p.D")], [create_source("p.E", b"not a source")]], BAD_GENERATED,
+            "BadGenerated(SOURCE_OUTPUT/p/E.java, 0)")
+
+
+@case
+def a_created_source_of_two_types_and_one_of_a_package(project):
+    two = b"package p; class D {} class E { void m(@q.A int a) {} }"
+    files = {"SOURCE_OUTPUT/p/D.java": two, "SOURCE_OUTPUT/p/package-info.java": b"@q.B package p;"}
+    frames = [create_source("p.D", two), create_source("p.package-info", files["SOURCE_OUTPUT/p/package-info.java"])]
+    publishes(project, [frames, [], []], [*file_lines(files), done(3, 2)], files,
+              sent=[FIRST_ROUND, ACCEPTED, ACCEPTED, round_frame(2, ["p.D", "p.E", "p.package-info"]), last_round(3)])
+
+
+@case
+def a_created_source_of_no_type(project):
+    files = {"SOURCE_OUTPUT/p/D.java": b""}
+    publishes(project, [[create_source("p.D", b"")], [], []], [*file_lines(files), done(3, 1)], files,
+              sent=[FIRST_ROUND, ACCEPTED, round_frame(2, [], offered=()), last_round(3)])
 
 
 @case
 def the_longest_source_that_is_read(project):
-    content = long_source("D", 4096)
-    publishes(project, [[create_source("p.D", content)], [], []], ["file SOURCE_OUTPUT/p/D.java 4096", done(3, 1)],
-              {"SOURCE_OUTPUT/p/D.java": content},
-              sent=[FIRST_ROUND, ACCEPTED, round_frame(2, ["p.D"], offered=()), last_round(3)])
-
-
-@case
-def a_source_one_byte_longer(project):
-    refuses(project, [[create_source("p.D", long_source("D", 4097))]], UNBUILT_FORM,
-            "UnbuiltForm(SOURCE_OUTPUT/p/D.java)")
+    content = source_of("p.D") + b" //" + b"x" * (LONGEST - len(source_of("p.D")) - 3)
+    publishes(project, [[from_file(project, "longest", create_source("p.D", content))], [], []],
+              [f"file SOURCE_OUTPUT/p/D.java {LONGEST}", done(3, 1)], {"SOURCE_OUTPUT/p/D.java": content},
+              sent=[FIRST_ROUND, ACCEPTED, round_frame(2, ["p.D"]), last_round(3)])
 
 
 @case

@@ -6,9 +6,9 @@ use Rattle.apt_outside.specs.Files.{Files}
 use Rattle.apt_outside.specs.Child.{State}
 use Rattle.tree_store.specs.declared.fault.StoreFault.{StoreFault}
 use Rattle.tree_store.specs.declared.fault.StoreFault.TheVariants as store
-use Rattle.round_engine.specs.Refusals.{Refusal, BadWords, BadConfig, UnknownProcessor, UnbuiltForm, UnbuiltTalk, TooManyQuestions, ClaimBroken, GeneratedDuplicate, TooManyRounds, TooLarge}
+use Rattle.round_engine.specs.Refusals.{Refusal, BadWords, BadConfig, UnknownProcessor, BadSource, DuplicateType, BadGenerated, UnbuiltTalk, TooManyQuestions, ClaimBroken, GeneratedDuplicate, TooManyRounds, TooLarge}
 use Rattle.apt_host.specs.Words.{Options, Request, Build, Bad}
-use Rattle.apt_host.specs.Configuration.{is_of_config}
+use Rattle.apt_host.specs.Configuration.{is_of_project}
 use Rattle.apt_host.specs.Project.{read_of}
 use Rattle.apt_host.specs.Verdicts.{Verdict, Done, Errors, Refused, Failed, Memory, is_free, named_in, verdict}
 use Rattle.apt_host.specs.Endings.{of_store, IsConcluded}
@@ -20,10 +20,10 @@ use Rattle.apt_host.proofs.Writing.{memory_or_not}
 -- ---- whose refusal it is
 
 module _ (old new : State) where
-  -- one of a run comes behind a start, and is none of the configuration
-  not_before : (refusal : Refusal) → (old.starts < new.starts) × (is_of_config refusal ≡ false) → (new.starts ≡ old.starts) ⊎ (is_of_config refusal ≡ true) → ⊥
+  -- one of a run comes behind a start, and is none that the project alone comes to
+  not_before : (refusal : Refusal) → (old.starts < new.starts) × (is_of_project refusal ≡ false) → (new.starts ≡ old.starts) ⊎ (is_of_project refusal ≡ true) → ⊥
   not_before refusal run (inl same) = omega (arith, same, run.0)
-  not_before refusal run (inr config) = false≢true (sym run.1 ∙ config)
+  not_before refusal run (inr own) = false≢true (sym run.1 ∙ own)
 
 module _ (tells : Bool) (options : Options) (project : Files) (old new : State) where
   -- the project was not read
@@ -66,7 +66,9 @@ module _ (old new : State) where
   due_project (Refused (BadWords at)) none due = tt
   due_project (Refused (BadConfig path place)) none due = due
   due_project (Refused (UnknownProcessor name)) none due = tt
-  due_project (Refused (UnbuiltForm path)) none due = tt
+  due_project (Refused (BadSource path place)) none due = tt
+  due_project (Refused (DuplicateType name first second)) none due = tt
+  due_project (Refused (BadGenerated path place)) none due = tt
   due_project (Refused (UnbuiltTalk processor)) none due = tt
   due_project (Refused (TooManyQuestions processor most)) none due = absurd cc
   due_project (Refused (ClaimBroken processor declared said)) none due = absurd cc

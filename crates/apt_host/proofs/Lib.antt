@@ -1,5 +1,5 @@
 pub mod Refusing
-pub mod Units
+pub mod SourcesOfAProject
 pub mod ProjectLemmas
 pub mod Early
 pub mod Writing

@@ -39,7 +39,7 @@ early_of (run.ChildFault processor) = refl
 early_of (run.UnbuiltTalk processor) = tt
 early_of (run.TooManyQuestions processor most) = tt
 early_of (run.ClaimBroken processor declared said) = tt
-early_of (run.UnbuiltForm path) = tt
+early_of (run.BadGenerated path place) = tt
 early_of (run.GeneratedDuplicate name) = tt
 early_of run.TooManyRounds = tt
 early_of (run.TooLarge what limit) = tt
@@ -70,7 +70,7 @@ module _ (old new : State) where
   refuses_run (run.UnbuiltTalk processor) rose = (rose refl, refl)
   refuses_run (run.TooManyQuestions processor most) rose = (rose refl, refl)
   refuses_run (run.ClaimBroken processor declared said) rose = (rose refl, refl)
-  refuses_run (run.UnbuiltForm path) rose = (rose refl, refl)
+  refuses_run (run.BadGenerated path place) rose = (rose refl, refl)
   refuses_run (run.GeneratedDuplicate name) rose = (rose refl, refl)
   refuses_run run.TooManyRounds rose = (rose refl, refl)
   refuses_run (run.TooLarge what limit) rose = (rose refl, refl)
@@ -81,7 +81,7 @@ module _ (old new : State) where
   is_due_run (run.UnbuiltTalk processor) rose is = tt
   is_due_run (run.TooManyQuestions processor most) rose is = is
   is_due_run (run.ClaimBroken processor declared said) rose is = is
-  is_due_run (run.UnbuiltForm path) rose is = tt
+  is_due_run (run.BadGenerated path place) rose is = tt
   is_due_run (run.GeneratedDuplicate name) rose is = tt
   is_due_run run.TooManyRounds rose is = tt
   is_due_run (run.TooLarge what limit) rose is = λ same. absurd (omega (arith, same, rose refl))

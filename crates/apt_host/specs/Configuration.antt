@@ -14,7 +14,7 @@ use Rattle.project_config.specs.declared.settings.Settings.{Settings}
 use Rattle.project_config.specs.Answers as reading
 use Rattle.project_config.specs.Reading.{has_order}
 use Rattle.project_config.specs.Discovery.{settings_of}
-use Rattle.round_engine.specs.Refusals.{Refusal, BadConfig, UnknownProcessor, Place, Json, Item, Line, past}
+use Rattle.round_engine.specs.Refusals.{Refusal, BadConfig, UnknownProcessor, BadSource, DuplicateType, Place, Json, Item, Line, past}
 use Rattle.round_engine.specs.Units.{and_then}
 use Rattle.round_engine.specs.Run.{Plan}
 use Rattle.round_engine.specs.Clean.{inits_fit}
@@ -73,11 +73,13 @@ IsPlaceOf path Json = path ≡ tree.path_of file.Config
 IsPlaceOf path (Item item) = path ≡ tree.path_of file.Config
 IsPlaceOf path (Line line) = (path ≡ tree.path_of file.Services) ⊎ (path ≡ tree.path_of file.Kinds)
 
--- a refusal that nothing but the configuration of a project comes to
-abbrev pub is_of_config : Refusal → Bool
-is_of_config (BadConfig path place) = true
-is_of_config (UnknownProcessor name) = true
-is_of_config other = false
+-- a refusal that nothing but the files of a project comes to, whatever its run would be
+abbrev pub is_of_project : Refusal → Bool
+is_of_project (BadConfig path place) = true
+is_of_project (UnknownProcessor name) = true
+is_of_project (BadSource path place) = true
+is_of_project (DuplicateType name first second) = true
+is_of_project other = false
 
 -- the level, the options and the processors, or the first refusal
 abbrev pub settings_in : Options → Configuration → Result Settings Refusal
@@ -98,9 +100,6 @@ fitting plan = if inits_fit plan then Ok plan else Err (past what.Frame)
 abbrev pub settings_fit : Settings → Result Plan Refusal
 settings_fit settings = fitting (plan_in settings)
 
+-- what the run of a project with this configuration is told, with these options of the words, or the first refusal
 abbrev pub plan_by : Options → Configuration → Result Plan Refusal
 plan_by options c = and_then (settings_in options c) settings_fit
-
--- what the run of a project is told, with these options of the words, or the first refusal of its configuration
-abbrev pub plan_for : Options → Files → Result Plan Refusal
-plan_for options project = and_then (files_of project) (plan_by options)

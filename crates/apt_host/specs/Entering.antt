@@ -1,24 +1,30 @@
--- What reading a project gives: its configuration, and its units, which are entered one after another.
+-- What reading a project gives: its configuration, its sources, and their units, which are entered one after another.
 use Rattle.std.specs.Prelude.{◌≡◌, ℕ, not, true, List, Result, Ok, Err, IfErr}
 use Rattle.apt_base.specs.declared.kinds.What.TheVariants as what
+use Rattle.decl_parser.specs.declared.parsing.FileFault.{FileFault}
+use Rattle.decl_parser.specs.declared.parsing.FileFault.TheVariants as file
+use Rattle.file_answers.specs.Flaws.{Bad, TooLarge}
 use Rattle.element_table.specs.TypeTable.{TypeTable}
 use Rattle.tree_store.specs.declared.fault.ConfigReadFault.{ConfigReadFault}
 use Rattle.tree_store.specs.declared.fault.ConfigReadFault.TheVariants as reads
+use Rattle.tree_store.specs.declared.fault.SourceReadFault.{SourceReadFault}
+use Rattle.tree_store.specs.declared.fault.SourceReadFault.TheVariants as source_reads
 use Rattle.tree_store.specs.declared.sources.RawSource.{RawSource}
 use Rattle.tree_store.specs.Config.{AreLists, IsShort}
 use Rattle.project_config.specs.declared.fault.ConfigFault.{ConfigFault}
 use Rattle.project_config.specs.declared.fault.ConfigFault.TheVariants as wrong
 use Rattle.project_config.specs.Reading.{has_order}
-use Rattle.round_engine.specs.declared.source_fault.SourceFault.{SourceFault}
-use Rattle.round_engine.specs.declared.source_fault.SourceFault.TheVariants as code
+use Rattle.round_engine.specs.declared.unit_fault.UnitFault.{UnitFault}
+use Rattle.round_engine.specs.declared.unit_fault.UnitFault.TheVariants as unit
 use Rattle.round_engine.specs.Limits.{limit_of}
 use Rattle.round_engine.specs.Refusals as stop
-use Rattle.round_engine.specs.Refusals.{Tree, past}
-use Rattle.round_engine.specs.Units.{Unbuilt, Duplicate, TooLarge}
+use Rattle.round_engine.specs.Refusals.{DuplicateType, Tree, past}
 use Rattle.apt_host.specs.declared.configuration.RawConfiguration.{RawConfiguration}
+use Rattle.apt_host.specs.declared.sources.ReadSource.{ReadSource}
+use Rattle.apt_host.specs.declared.sources.EnteredSource.{EnteredSource}
 use Rattle.apt_host.specs.declared.status.Status.{Status}
 use Rattle.apt_host.specs.Configuration.{Configuration, refusal_by, IsPlaceOf}
-use Rattle.apt_host.specs.Project.{refusal_at, StopsAt}
+use Rattle.apt_host.specs.Project.{Filled, unread_at, first_with, StopsAt}
 use Rattle.apt_host.specs.Verdicts.{Verdict, Done, Errors, Refused, Failed, Memory, verdict, is_tree}
 
 -- ---- faults, as the end of the call
@@ -39,12 +45,23 @@ of_config wrong.TooManyProcessors = Refused (refusal_by wrong.TooManyProcessors)
 of_config (wrong.UnknownProcessor name) = Refused (refusal_by (wrong.UnknownProcessor name))
 of_config wrong.Memory = Memory
 
--- what stands against a source at this path
-abbrev pub of_source : List ℕ → SourceFault → Verdict
-of_source path code.Unbuilt = Refused (refusal_at path Unbuilt)
-of_source path (code.Duplicate name) = Refused (refusal_at path (Duplicate name))
-of_source path (code.TooLarge what) = Refused (refusal_at path (TooLarge what))
-of_source path code.Memory = Memory
+-- sources that were not read
+abbrev pub of_sources : SourceReadFault → Verdict
+of_sources source_reads.Failed = Failed Tree
+of_sources (source_reads.TooLarge limit) = Refused (past limit)
+of_sources source_reads.Memory = Memory
+
+-- why a source at this path is refused
+abbrev pub of_unread : List ℕ → FileFault → Verdict
+of_unread path (file.Bad place) = Refused (unread_at path (Bad place))
+of_unread path (file.TooLarge limit) = Refused (unread_at path (TooLarge limit))
+of_unread path file.Memory = Memory
+
+-- why its units are not entered behind those of these sources
+abbrev pub of_units : List EnteredSource → List ℕ → UnitFault → Verdict
+of_units before path (unit.Duplicate name) = Refused (DuplicateType name (first_with name before path) path)
+of_units before path unit.TooMany = Refused (past what.Types)
+of_units before path unit.Memory = Memory
 
 -- ---- what came of a part
 
@@ -84,16 +101,15 @@ pub record IsWithin (raw : RawConfiguration) : Type 0 where
 
 -- ---- the units
 
--- a source was entered, or it is refused
-abbrev pub Enters : Result TypeTable stop.Refusal → TypeTable → Result Unit Status → Type 0
-Enters entered table (Ok done) = entered ≡ Ok table
-Enters entered table (Err status) = RefusesAs entered (verdict status)
+-- a table and the sources so far
+abbrev pub filled : TypeTable → List EnteredSource → Filled
+filled table sources = record { table = table; sources = sources }
 
--- all were entered, or the first that can't be is refused
-abbrev pub EntersAll : Result TypeTable stop.Refusal → Result TypeTable Status → Type 0
-EntersAll entered (Ok table) = entered ≡ Ok table
-EntersAll entered (Err status) = RefusesAs entered (verdict status)
+-- the units of a source were entered, or they are refused
+abbrev pub Fills : Result Filled stop.Refusal → TypeTable → List EnteredSource → Result Unit Status → Type 0
+Fills due table sources (Ok done) = due ≡ Ok (filled table sources)
+Fills due table sources (Err status) = RefusesAs due (verdict status)
 
--- a source is refused by the least path of one that can't be entered
-abbrev pub StopsLeast : List RawSource → Result TypeTable Status → Type 0
+-- sources are refused by the least path of one that has no reading, or passes a limit
+abbrev pub StopsLeast : List RawSource → Result (List ReadSource) Status → Type 0
 StopsLeast sources result = IfErr result (λ status. (refusal : stop.Refusal) → verdict status ≡ Refused refusal → StopsAt sources refusal)

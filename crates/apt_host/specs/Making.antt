@@ -7,7 +7,7 @@ use Rattle.round_engine.specs.Run.{run_of, frames_of}
 use Rattle.round_engine.specs.Shown.{TellsMore, ShowsNoMore}
 use Rattle.round_engine.specs.Clean.{FinishesAs, ShowsWhole}
 use Rattle.apt_host.specs.declared.status.Status.{Status}
-use Rattle.apt_host.specs.Configuration.{is_of_config}
+use Rattle.apt_host.specs.Configuration.{is_of_project}
 use Rattle.apt_host.specs.Project.{Read}
 use Rattle.apt_host.specs.CleanBuild as outcome
 use Rattle.apt_host.specs.CleanBuild.{Summary, Outcome, outcome_of}
@@ -32,9 +32,9 @@ pub record Makes (read : Read) (old new : State) (result : Result Finished Statu
   -- also after a fault of the children or want of memory
   pub fronts : ShowsNoMore read.plan.processors (frames_of (run_of old.says read.plan read.table)) old new
 
--- whatever the children tell, a refusal comes behind a start, and is none of the configuration
+-- whatever the children tell, a refusal comes behind a start, and is none that the project alone comes to
 abbrev pub RefusesRun : State → State → Verdict → Type 0
-RefusesRun old new (Refused refusal) = (old.starts < new.starts) × (is_of_config refusal ≡ false)
+RefusesRun old new (Refused refusal) = (old.starts < new.starts) × (is_of_project refusal ≡ false)
 RefusesRun old new other = Unit {0}
 
 -- ---- what comes after the run

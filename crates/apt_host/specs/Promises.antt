@@ -16,7 +16,7 @@ use Rattle.round_engine.specs.Run.{run_of, frames_of}
 use Rattle.round_engine.specs.Shown.{TriesInOrder, TellsMore, ShowsNoMore, IsDueStop}
 use Rattle.round_engine.specs.Clean.{Talked, ShowsWhole}
 use Rattle.apt_host.specs.Words.{Options, Request, Build, Bad}
-use Rattle.apt_host.specs.Configuration.{IsPlaceOf, is_of_config}
+use Rattle.apt_host.specs.Configuration.{IsPlaceOf, is_of_project}
 use Rattle.apt_host.specs.Project.{Read, read_of}
 use Rattle.apt_host.specs.CleanBuild.{Outcome, clean}
 use Rattle.apt_host.specs.CleanBuild as outcome
@@ -43,10 +43,10 @@ Answers tells talks (Build options) says project v = ToldOf tells talks options 
 Answers tells talks (Bad at) says project v = OrMemory (Refused (BadWords at)) v
 
 -- Where the tree tells what it holds, a build that is refused before any child was started is refused as its project is, whatever the children tell. So is one whose
--- refusal nothing but the configuration comes to.
+-- refusal nothing but the files of the project come to.
 abbrev pub RefusesRead : Bool → Request → Files → State → State → Verdict → Type 0
 RefusesRead tells (Build options) project old new v =
-    Told tells ((refusal : Refusal) → v ≡ Refused refusal → (new.starts ≡ old.starts) ⊎ (is_of_config refusal ≡ true) → read_of options project ≡ Err refusal)
+    Told tells ((refusal : Refusal) → v ≡ Refused refusal → (new.starts ≡ old.starts) ⊎ (is_of_project refusal ≡ true) → read_of options project ≡ Err refusal)
 RefusesRead tells (Bad at) project old new v = Unit {0}
 
 -- Words that no command has leave the tree and the children as they were. No build answers that its words are such.

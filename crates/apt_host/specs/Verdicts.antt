@@ -6,7 +6,7 @@ use Rattle.apt_base.specs.declared.kinds.Claim.TheVariants as claim
 use Rattle.apt_base.specs.declared.kinds.What.{What}
 use Rattle.apt_base.specs.declared.kinds.What.TheVariants as what
 use Rattle.round_engine.specs.Refusals as stop
-use Rattle.round_engine.specs.Refusals.{Refusal, BadWords, BadConfig, UnknownProcessor, UnbuiltForm, UnbuiltTalk, TooManyQuestions, ClaimBroken, GeneratedDuplicate, TooManyRounds, TooLarge, Place, Object, Tree, Sink, Children, Stop, processor_of}
+use Rattle.round_engine.specs.Refusals.{Refusal, BadWords, BadConfig, UnknownProcessor, BadSource, DuplicateType, BadGenerated, UnbuiltTalk, TooManyQuestions, ClaimBroken, GeneratedDuplicate, TooManyRounds, TooLarge, Place, Object, Tree, Sink, Children, Stop, processor_of}
 use Rattle.apt_host.specs.declared.status.Place as status
 use Rattle.apt_host.specs.declared.status.Place.TheVariants as code_place
 use Rattle.apt_host.specs.declared.status.Status.{Status}
@@ -36,7 +36,9 @@ verdict (code.Errors count) = Errors count
 verdict (code.BadWords at) = Refused (BadWords at)
 verdict (code.BadConfig path place) = Refused (BadConfig path (shown_place place))
 verdict (code.UnknownProcessor name) = Refused (UnknownProcessor name)
-verdict (code.UnbuiltForm path) = Refused (UnbuiltForm path)
+verdict (code.BadSource path place) = Refused (BadSource path place)
+verdict (code.DuplicateType name first second) = Refused (DuplicateType name first second)
+verdict (code.BadGenerated path place) = Refused (BadGenerated path place)
 verdict (code.UnbuiltTalk processor) = Refused (UnbuiltTalk processor)
 verdict (code.TooManyQuestions processor most) = Refused (TooManyQuestions processor most)
 verdict (code.ClaimBroken processor declared said) = Refused (ClaimBroken processor declared said)
@@ -140,11 +142,13 @@ number_of (BadWords at) = 2
 number_of (TooManyQuestions processor most) = 11
 number_of (ClaimBroken processor declared said) = 12
 number_of (BadConfig path place) = 13
+number_of (BadSource path place) = 15
+number_of (DuplicateType name first second) = 16
 number_of (UnknownProcessor name) = 17
+number_of (BadGenerated path place) = 18
 number_of (GeneratedDuplicate name) = 19
 number_of TooManyRounds = 20
 number_of (TooLarge what limit) = 21
-number_of (UnbuiltForm path) = 25
 number_of (UnbuiltTalk processor) = 26
 
 abbrev pub number_of_failure : Object → ℕ
@@ -197,7 +201,10 @@ abbrev pub line_of : Refusal → List ℕ
 line_of (BadWords at) = codes "refused: BadWords(" ++ (decimal at ++ codes ")\n")
 line_of (BadConfig path place) = codes "refused: BadConfig(" ++ (path ++ (codes ", " ++ (place_text place ++ codes ")\n")))
 line_of (UnknownProcessor name) = codes "refused: UnknownProcessor(" ++ (name ++ codes ")\n")
-line_of (UnbuiltForm path) = codes "refused: UnbuiltForm(" ++ (path ++ codes ")\n")
+line_of (BadSource path place) = codes "refused: BadSource(" ++ (path ++ (codes ", " ++ (decimal place ++ codes ")\n")))
+line_of (DuplicateType name first second) =
+    codes "refused: DuplicateType(" ++ (name ++ (codes ", " ++ (first ++ (codes ", " ++ (second ++ codes ")\n")))))
+line_of (BadGenerated path place) = codes "refused: BadGenerated(" ++ (path ++ (codes ", " ++ (decimal place ++ codes ")\n")))
 line_of (UnbuiltTalk processor) = codes "refused: UnbuiltTalk(" ++ (processor ++ codes ")\n")
 line_of (TooManyQuestions processor most) = codes "refused: TooManyQuestions(" ++ (processor ++ (codes ", " ++ (decimal most ++ codes ")\n")))
 line_of (ClaimBroken processor declared said) =

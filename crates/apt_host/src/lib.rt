@@ -1,6 +1,6 @@
 //! The host: one call that does what its words say over a tree of files, children, a source and a sink.
 //!
-//! So far it has one command, `build`, over sources of one form and with the processors of the project's configuration, which create
+//! So far it has one command, `build`, over the sources of a project and with the processors of its configuration, which create
 //! sources and resources and print messages. `specs/CleanBuild.antt` says what a build gives from nothing, and `specs/Promises.antt`
 //! what `run` promises; nothing is promised of time, nor that a child ever answers.
 #![tactic(auto)]
@@ -11,6 +11,7 @@ mod configuration;
 mod project;
 mod publish;
 mod report;
+mod sources;
 mod status;
 mod words;
 

@@ -2,7 +2,7 @@
 ghost use Rattle.std.specs.Prelude.{◌≡◌, ◌++◌, [], IfOk, OnOk, codes, string_bytes, map, slice_index_or};
 ghost use Rattle.std.specs.List.{flat_map};
 ghost use Rattle.apt_host.specs.Report.{kind_text, escaped, message_text, message_line, message_lines, unread_line, first_lines, file_line, file_lines, errors_report};
-ghost use Rattle.round_engine.specs.Refusals.{BadConfig, ClaimBroken};
+ghost use Rattle.round_engine.specs.Refusals.{BadConfig, BadSource, DuplicateType, BadGenerated, ClaimBroken};
 ghost use Rattle.apt_host.specs.Verdicts.{verdict, shown_place, what_text, claim_text, place_text, line_of, refusal_of};
 ghost use Rattle.apt_host.specs.Listed.{listed, summary_of, report_for};
 
@@ -276,6 +276,29 @@ fn claim_line(
     format!(in alloc; "refused: ClaimBroken({processor}, {declared}, {said})\n")
 }
 
+fn bad_source_line(alloc: Global, path: &str, place: u32) -> Result<String, AllocError>
+    ensures { IfOk result (λ text. string_bytes text ≡ line_of (BadSource path.now place)) }
+{
+    format!(in alloc; "refused: BadSource({path}, {place})\n")
+}
+
+fn bad_generated_line(alloc: Global, path: &str, place: u32) -> Result<String, AllocError>
+    ensures { IfOk result (λ text. string_bytes text ≡ line_of (BadGenerated path.now place)) }
+{
+    format!(in alloc; "refused: BadGenerated({path}, {place})\n")
+}
+
+fn duplicate_line(
+    alloc: Global,
+    name: &str,
+    first: &str,
+    second: &str,
+) -> Result<String, AllocError>
+    ensures { IfOk result (λ text. string_bytes text ≡ line_of (DuplicateType name.now first.now second.now)) }
+{
+    format!(in alloc; "refused: DuplicateType({name}, {first}, {second})\n")
+}
+
 /// The line of a refusal. A build that ended with a report has none.
 pub fn refusal(alloc: Global, status: &Status) -> Result<String, AllocError>
     ensures { IfOk result (λ text. string_bytes text ≡ refusal_of (verdict status.now)) }
@@ -288,10 +311,13 @@ pub fn refusal(alloc: Global, status: &Status) -> Result<String, AllocError>
             let name = name.as_str();
             format!(in alloc; "refused: UnknownProcessor({name})\n")
         }
-        Status::UnbuiltForm { path } => {
-            let path = path.as_str();
-            format!(in alloc; "refused: UnbuiltForm({path})\n")
-        }
+        Status::BadSource { path, place } => bad_source_line(alloc, path.as_str(), *place),
+        Status::DuplicateType {
+            name,
+            first,
+            second,
+        } => duplicate_line(alloc, name.as_str(), first.as_str(), second.as_str()),
+        Status::BadGenerated { path, place } => bad_generated_line(alloc, path.as_str(), *place),
         Status::UnbuiltTalk { processor } => {
             let processor = processor.as_str();
             format!(in alloc; "refused: UnbuiltTalk({processor})\n")

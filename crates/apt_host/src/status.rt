@@ -61,10 +61,28 @@ pub enum Status {
         /// The first such name, in the order of discovery.
         name: Name,
     },
-    /// A source, or a created source, is none that can be read so far.
-    UnbuiltForm {
-        /// The least path of such a source; of a created one its path in the output.
+    /// A source has no reading.
+    BadSource {
+        /// The least path of such a source.
         path: Name,
+        /// The offset of its first fault, in bytes.
+        place: u32,
+    },
+    /// Two places of the project give one name: two sources, or one source twice.
+    DuplicateType {
+        /// The canonical name of the type, or that of the unit of its package, which ends in `package-info`.
+        name: Name,
+        /// The path of the source that gave it first, in the order of the paths.
+        first: Name,
+        /// The path of the one that gave it again.
+        second: Name,
+    },
+    /// A created source that is to be read has no reading.
+    BadGenerated {
+        /// Its path in the output.
+        path: Name,
+        /// The offset of its first fault, in bytes.
+        place: u32,
     },
     /// A child's bytes are not the frames that can be read so far, in their order, or it ended inside a frame.
     UnbuiltTalk {
@@ -95,8 +113,9 @@ pub enum Status {
     },
     /// Round 64 would not be the last.
     TooManyRounds,
-    /// What is counted passes its limit: the bytes of a file of the configuration, the processors, the bytes of a first frame to a
-    /// processor, the bytes of a canonical name, or the types of the table.
+    /// What is counted passes its limit: the bytes of a file of the configuration, the sources, the bytes of one or of all of them,
+    /// the processors, the bytes of a first frame to a processor, what is nested in a source, the children of an element, the bytes of
+    /// a canonical name, or the types of the table.
     TooLarge {
         /// Which limit.
         what: What,
@@ -135,7 +154,9 @@ impl From<round_engine::Refusal> for Status {
                 declared,
                 said,
             },
-            round_engine::Refusal::UnbuiltForm { path } => Status::UnbuiltForm { path },
+            round_engine::Refusal::BadGenerated { path, place } => {
+                Status::BadGenerated { path, place }
+            }
             round_engine::Refusal::GeneratedDuplicate { name } => {
                 Status::GeneratedDuplicate { name }
             }
@@ -197,7 +218,23 @@ impl Status {
             Status::UnknownProcessor { name } => Ok(Status::UnknownProcessor {
                 name: name.copy()?,
             }),
-            Status::UnbuiltForm { path } => Ok(Status::UnbuiltForm { path: path.copy()? }),
+            Status::BadSource { path, place } => Ok(Status::BadSource {
+                path: path.copy()?,
+                place: *place,
+            }),
+            Status::DuplicateType {
+                name,
+                first,
+                second,
+            } => Ok(Status::DuplicateType {
+                name: name.copy()?,
+                first: first.copy()?,
+                second: second.copy()?,
+            }),
+            Status::BadGenerated { path, place } => Ok(Status::BadGenerated {
+                path: path.copy()?,
+                place: *place,
+            }),
             Status::UnbuiltTalk { processor } => Ok(Status::UnbuiltTalk {
                 processor: processor.copy()?,
             }),
@@ -246,11 +283,13 @@ impl Status {
             Status::TooManyQuestions { .. } => 11,
             Status::ClaimBroken { .. } => 12,
             Status::BadConfig { .. } => 13,
+            Status::BadSource { .. } => 15,
+            Status::DuplicateType { .. } => 16,
             Status::UnknownProcessor { .. } => 17,
+            Status::BadGenerated { .. } => 18,
             Status::GeneratedDuplicate { .. } => 19,
             Status::TooManyRounds => 20,
             Status::TooLarge { .. } => 21,
-            Status::UnbuiltForm { .. } => 25,
             Status::UnbuiltTalk { .. } => 26,
         }
     }

@@ -33,6 +33,7 @@ impl Calls for Objects {
             ["classes", name, count] => self.name_classes(alloc, name, count.parse::<u32>()?),
             ["tree", failing @ ..] => self.begin_tree(alloc, failing),
             ["put", path, pieces @ ..] => self.put_file(alloc, path, pieces),
+            ["sources", count] => self.put_sources(alloc, count.parse::<u32>()?),
             ["sink", failing @ ..] => self.plan_sink(alloc, failing),
             ["script", name, answers @ ..] => self.add_script(alloc, name, answers),
             ["run", words @ ..] => self.run(alloc, words),
@@ -91,6 +92,17 @@ impl Objects {
             Ok(()) => ok(alloc),
             Err(_) => Err(CaseFault::Memory),
         }
+    }
+
+    // Puts this many sources, each without a byte.
+    fn put_sources(&mut self, alloc: Global, count: u32) -> Result<String, CaseFault> {
+        for number in 0..count {
+            let path = format!(in alloc; "src/m/{number}.java")?;
+            if self.tree.put(path.as_str(), b"").is_err() {
+                return Err(CaseFault::Memory);
+            }
+        }
+        ok(alloc)
     }
 
     fn plan_sink(&mut self, alloc: Global, failing: &[&str]) -> Result<String, CaseFault> {

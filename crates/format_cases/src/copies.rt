@@ -1,9 +1,7 @@
 // Values beside their copies.
 use crate::base::{ElementRef, List, element, element_word, name_word};
-use crate::sources::form_words;
 use crate::{encoded, frame_read};
-use case_lines::{CaseFault, hex_bytes, hex_digits, name, push_word, text};
-use source_form::{SourceForm, read_form};
+use case_lines::{CaseFault, hex_bytes, hex_digits, name, push_word};
 use std::alloc::Global;
 use tree_store::{RawSource, StoredFile};
 use wire_frames::Frame;
@@ -24,7 +22,6 @@ pub fn copied(alloc: Global, kind: &str, value: &[&str]) -> Result<String, CaseF
 fn one_word(alloc: Global, kind: &str, word: &str) -> Result<String, CaseFault> {
     match kind {
         "element" => element_of(alloc, word),
-        "form" => form(alloc, word),
         _ => Err(CaseFault::NotACase),
     }
 }
@@ -64,23 +61,6 @@ fn element_twice(alloc: Global, element: &ElementRef) -> Result<String, CaseFaul
 fn element_copy(alloc: Global, element: &ElementRef) -> Result<String, CaseFault> {
     let copy = element.copy(alloc)?;
     element_word(alloc, &copy)
-}
-
-fn form(alloc: Global, word: &str) -> Result<String, CaseFault> {
-    match read_form(alloc, text(alloc, word)?.as_bytes())? {
-        Some(form) => form_twice(alloc, &form),
-        None => Err(CaseFault::NotACase),
-    }
-}
-
-fn form_twice(alloc: Global, form: &SourceForm) -> Result<String, CaseFault> {
-    let value = form_words(alloc, form)?;
-    both(value, form_copy(alloc, form)?)
-}
-
-fn form_copy(alloc: Global, form: &SourceForm) -> Result<String, CaseFault> {
-    let copy = form.copy()?;
-    form_words(alloc, &copy)
 }
 
 fn stored_words(alloc: Global, file: &StoredFile) -> Result<String, CaseFault> {

@@ -1,7 +1,6 @@
 //! Prints a table of calls of the formats with what each gives.
 //!
-//! The calls are those of names and fields, of the frames between the host and a child, of the form of a source file, and of the
-//! record of an output. The library `case_lines` says how texts, bytes and lists are written.
+//! The calls are those of names and fields, of the frames between the host and a child, and of the record of an output. The library `case_lines` says how texts, bytes and lists are written.
 #![tactic(auto)]
 
 mod base;
@@ -11,7 +10,6 @@ mod frame_asked;
 mod frame_read;
 mod frame_shown;
 mod records;
-mod sources;
 
 use base::{is_dotted, is_identifier, is_pattern};
 use case_lines::{Calls, CaseFault, hex_bytes, hex_digits, run, text, yes_or_no};
@@ -40,24 +38,17 @@ impl Calls for Formats {
     }
 }
 
-// The calls of one word, most of them tests.
+// The calls of one word, which are tests.
 fn one_word(alloc: Global, call: &str, word: &str) -> Result<String, CaseFault> {
-    match call {
-        "form" => sources::form(alloc, word),
-        _ => {
-            let holds = is_so(call, text(alloc, word)?.as_str(), alloc)?;
-            Ok(String::from_str(alloc, yes_or_no(holds))?)
-        }
-    }
+    let holds = is_so(call, text(alloc, word)?.as_str())?;
+    Ok(String::from_str(alloc, yes_or_no(holds))?)
 }
 
-fn is_so(call: &str, text: &str, alloc: Global) -> Result<bool, CaseFault> {
+fn is_so(call: &str, text: &str) -> Result<bool, CaseFault> {
     match call {
         "is_identifier" => Ok(is_identifier(text)),
         "is_dotted" => Ok(is_dotted(text)),
         "is_pattern" => Ok(is_pattern(text)),
-        "is_chain" => Ok(source_form::is_chain(text.as_bytes())),
-        "has_form" => sources::has_form(alloc, text),
         _ => Err(CaseFault::NotACase),
     }
 }

@@ -1,2 +1,2 @@
 // Names and lists.
-pub use apt_base::{Claim, Kind, List, Name};
+pub use apt_base::{Claim, Kind, List, Name, What};

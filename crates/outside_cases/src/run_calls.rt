@@ -5,15 +5,20 @@ use crate::base::{Claim, Kind, List, Name};
 use crate::number_calls::made_word;
 use apt_outside::{Script, ScriptChildren};
 use case_lines::{CaseFault, escaped, hex_bytes, joined, name, text, text_bytes, yes_or_no};
+use decl_parser::ParseFault;
 use element_table::Table;
+use file_readings::read_declarations;
 use round_engine::{
-    Finished, Key, KeyProcessor, Placed, Project, Refusal, SourceFault, clean, enter_source,
+    Finished, Key, KeyProcessor, Placed, Project, Refusal, UnitFault, clean, enter_units,
 };
 use std::alloc::Global;
 use std::mem;
 
 /// A run has no more processors than this.
 const MOST: usize = 64;
+
+/// A source that is read has no more bytes than this.
+const MOST_BYTES: usize = 8_388_608;
 
 /// A project without sources, options and processors.
 pub fn empty_project(alloc: Global) -> Project {
@@ -47,13 +52,21 @@ fn refused_name(alloc: Global, refusal: &str, name: &Name) -> Result<String, Cas
     Ok(format!(in alloc; "{refusal}({name})")?)
 }
 
-// What a source gives that did not enter the table.
-fn unread(alloc: Global, fault: SourceFault) -> Result<String, CaseFault> {
+// What a source gives that has no reading, or is past a limit.
+fn unread(alloc: Global, fault: ParseFault) -> Result<String, CaseFault> {
     match fault {
-        SourceFault::Unbuilt => Ok(String::from_str(alloc, "Unbuilt")?),
-        SourceFault::Duplicate { name } => refused_name(alloc, "Duplicate", &name),
-        SourceFault::TooLarge { what: _ } => Ok(String::from_str(alloc, "TooLarge")?),
-        SourceFault::Memory => Err(CaseFault::Memory),
+        ParseFault::Bad { place } => Ok(format!(in alloc; "Bad({place})")?),
+        ParseFault::TooLarge { what: _ } => Ok(String::from_str(alloc, "TooLarge")?),
+        ParseFault::Memory => Err(CaseFault::Memory),
+    }
+}
+
+// What one gives whose units did not enter the table.
+fn unentered(alloc: Global, fault: UnitFault) -> Result<String, CaseFault> {
+    match fault {
+        UnitFault::Duplicate { name } => refused_name(alloc, "Duplicate", &name),
+        UnitFault::TooMany => Ok(String::from_str(alloc, "TooMany")?),
+        UnitFault::Memory => Err(CaseFault::Memory),
     }
 }
 
@@ -83,7 +96,10 @@ fn refusal_word(alloc: Global, refusal: &Refusal) -> Result<String, CaseFault> {
             let said = yes_or_no(*said);
             Ok(format!(in alloc; "ClaimBroken({processor}:{declared}:{said})")?)
         }
-        Refusal::UnbuiltForm { path } => refused_name(alloc, "UnbuiltForm", path),
+        Refusal::BadGenerated { path, place } => {
+            let path = name_word(alloc, path)?;
+            Ok(format!(in alloc; "BadGenerated({path}:{place})")?)
+        }
         Refusal::GeneratedDuplicate { name } => refused_name(alloc, "GeneratedDuplicate", name),
         Refusal::TooManyRounds => Ok(String::from_str(alloc, "TooManyRounds")?),
         Refusal::TooLarge { what: _, limit } => Ok(format!(in alloc; "TooLarge({limit})")?),
@@ -133,12 +149,19 @@ impl Outside {
         }
     }
 
-    // The names of the units that a source gives.
+    // The names of the units that a source gives, of whichever path.
     fn enter_source(&mut self, alloc: Global, content: &str) -> Result<String, CaseFault> {
         let content = text_bytes(alloc, content)?;
-        match enter_source(alloc, &mut self.project.initial, &content) {
+        if content.len() > MOST_BYTES {
+            return Err(CaseFault::NotACase);
+        }
+        let units = match read_declarations(alloc, "Source.java", &content) {
+            Ok(parsed) => parsed.units,
+            Err(fault) => return unread(alloc, fault),
+        };
+        match enter_units(alloc, &mut self.project.initial, units) {
             Ok(names) => names_word(alloc, &names),
-            Err(fault) => unread(alloc, fault),
+            Err(fault) => unentered(alloc, fault),
         }
     }
 

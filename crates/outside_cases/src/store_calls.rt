@@ -4,11 +4,11 @@ ghost use Rattle.tree_store.specs.Storing.{AreDistinct};
 
 use crate::Outside;
 use crate::answers::{done, fault_of, refused};
-use crate::base::List;
-use apt_outside::MemoryTree;
+use crate::base::{List, What};
+use apt_outside::{Fault, MemoryTree};
 use case_lines::{CaseFault, escaped, joined, numbers, text_bytes};
 use std::alloc::Global;
-use tree_store::{RawSource, commit, put_files, read_sources, taken_numbers};
+use tree_store::{RawSource, SourceReadFault, commit, put_files, read_sources, taken_numbers};
 
 fn bytes_of(alloc: Global, word: &str) -> Result<List<u8>, CaseFault> {
     Ok(List::from_vec(text_bytes(alloc, word)?))
@@ -39,6 +39,25 @@ fn sources_word(alloc: Global, sources: &List<RawSource>) -> Result<String, Case
     joined(alloc, &words)
 }
 
+// A limit that sources pass.
+fn limit_word(what: What) -> &'static str {
+    match what {
+        What::Files => "TooLarge(Files)",
+        What::FileBytes => "TooLarge(FileBytes)",
+        What::SourceBytes => "TooLarge(SourceBytes)",
+        _ => "TooLarge",
+    }
+}
+
+// What a call gives whose sources were not read.
+fn unread(alloc: Global, fault: SourceReadFault) -> Result<String, CaseFault> {
+    match fault {
+        SourceReadFault::Failed => refused(alloc, Fault::Failed),
+        SourceReadFault::TooLarge { what } => Ok(String::from_str(alloc, limit_word(what))?),
+        SourceReadFault::Memory => Err(CaseFault::Memory),
+    }
+}
+
 fn numbers_word(alloc: Global, numbers: &[u32]) -> Result<String, CaseFault> {
     let mut words = Vec::new(alloc);
     for number in numbers {
@@ -53,7 +72,7 @@ impl Outside {
         match *words {
             ["read_config"] => self.read_config(alloc),
             ["read_lists", services] => self.read_lists(alloc, services),
-            ["read_sources", limit] => self.read_sources(alloc, limit),
+            ["read_sources"] => self.read_sources(alloc),
             ["taken_numbers"] => self.taken_numbers(alloc),
             [
                 "put_files_anew",
@@ -72,10 +91,10 @@ impl Outside {
         }
     }
 
-    fn read_sources(&mut self, alloc: Global, limit: &str) -> Result<String, CaseFault> {
-        match read_sources(alloc, &mut self.tree, limit.parse::<usize>()?) {
+    fn read_sources(&mut self, alloc: Global) -> Result<String, CaseFault> {
+        match read_sources(alloc, &mut self.tree) {
             Ok(sources) => sources_word(alloc, &sources),
-            Err(fault) => refused(alloc, fault_of(fault)),
+            Err(fault) => unread(alloc, fault),
         }
     }
 

@@ -1,6 +1,7 @@
 pub mod NameSets
 pub mod NumberingLemmas
 pub mod EnteringLemmas
+pub mod AnnotationLemmas
 pub mod PlacedMessages
 pub mod Creations
 mod LentFiles

@@ -1,53 +1,48 @@
--- What reading and entering sources gives.
+-- What reading and entering units gives.
 use Rattle.std.specs.Prelude.{◌≡◌, ℕ, List, Result, Ok, Err}
-use Rattle.apt_base.specs.declared.kinds.What.TheVariants.{Types}
-use Rattle.source_form.specs.declared.fault.ParseFault.{ParseFault}
-use Rattle.source_form.specs.declared.fault.ParseFault.TheVariants as parse
+use Rattle.decl_parser.specs.declared.parsing.FileFault.{FileFault}
+use Rattle.decl_parser.specs.declared.parsing.FileFault.TheVariants as file
+use Rattle.file_answers.specs.Flaws.{Bad, TooLarge}
 use Rattle.element_table.specs.declared.fault.EnterFault.{EnterFault}
 use Rattle.element_table.specs.declared.fault.EnterFault.TheVariants as enter
 use Rattle.element_table.specs.UnitNames.{unit_name}
 use Rattle.element_table.specs.TypeTable.{TypeTable}
-use Rattle.round_engine.specs.declared.source_fault.SourceFault.{SourceFault}
-use Rattle.round_engine.specs.declared.source_fault.SourceFault.TheVariants as code
+use Rattle.round_engine.specs.declared.unit_fault.UnitFault.{UnitFault}
+use Rattle.round_engine.specs.declared.unit_fault.UnitFault.TheVariants as code
 use Rattle.round_engine.specs.declared.refusal.Refusal as declared
 use Rattle.round_engine.specs.Refusals.{Refusal, Stop, Refused, Failed, Memory}
 use Rattle.round_engine.specs.Faults.{stop_of}
 use Rattle.round_engine.specs.Names.{NameSet}
-use Rattle.round_engine.specs.Units.{Obstacle, Unbuilt, Duplicate, TooLarge, Entered, Gathered, refusal_at, enter_created}
+use Rattle.round_engine.specs.Units.{Obstacle, Duplicate, Full, Entered, Gathered, unread_at, unentered, enter_created}
 
 -- the table did not take a unit, which comes back
-abbrev pub Reports : EnterFault → SourceFault → Type 0
+abbrev pub Reports : EnterFault → UnitFault → Type 0
 Reports fault code.Memory = Unit {0}
 Reports (enter.Duplicate unit) (code.Duplicate name) = name ≡ unit_name unit
-Reports (enter.TooMany unit) (code.TooLarge what) = what ≡ Types
+Reports (enter.TooMany unit) code.TooMany = Unit {0}
 Reports fault other = ⊥
 
 -- a table and its names so far
 abbrev pub gathered : TypeTable → NameSet → Gathered
 gathered table roots = record { table = table; roots = roots }
 
--- a source that gives no units
-abbrev pub of_parse : ParseFault → SourceFault
-of_parse parse.Unbuilt = code.Unbuilt
-of_parse (parse.TooLarge what) = code.TooLarge what
-of_parse parse.Memory = code.Memory
-
--- something stands against a source as it is to, unless memory was wanted
-abbrev pub Obstructs : {A : Type 0} → Result A Obstacle → SourceFault → Type 0
-Obstructs outcome code.Unbuilt = outcome ≡ Err Unbuilt
+-- this stands against a unit, as it is to, unless memory was wanted
+abbrev pub Obstructs : {A : Type 0} → Result A Obstacle → UnitFault → Type 0
 Obstructs outcome (code.Duplicate name) = outcome ≡ Err (Duplicate name)
-Obstructs outcome (code.TooLarge what) = outcome ≡ Err (TooLarge what)
+Obstructs outcome code.TooMany = outcome ≡ Err Full
 Obstructs outcome code.Memory = Unit {0}
 
 -- units were entered, or something stands against the first that can't be
-abbrev pub EntersUnits : Result TypeTable Obstacle → TypeTable → Result Unit SourceFault → Type 0
-EntersUnits outcome table (Ok done) = outcome ≡ Ok table
+abbrev pub EntersEach : Result TypeTable Obstacle → TypeTable → Result Unit UnitFault → Type 0
+EntersEach outcome table (Ok done) = outcome ≡ Ok table
+EntersEach outcome table (Err fault) = Obstructs outcome fault
+
+-- they were entered, and have these names
+abbrev pub EntersUnits : Result Entered Obstacle → TypeTable → Result (List (List ℕ)) UnitFault → Type 0
+EntersUnits outcome table (Ok names) = outcome ≡ Ok (record { table = table; names = names })
 EntersUnits outcome table (Err fault) = Obstructs outcome fault
 
--- the units of a source were entered, which have these names
-abbrev pub EntersSource : Result Entered Obstacle → TypeTable → Result (List (List ℕ)) SourceFault → Type 0
-EntersSource outcome table (Ok names) = outcome ≡ Ok (record { table = table; names = names })
-EntersSource outcome table (Err fault) = Obstructs outcome fault
+-- ---- created sources
 
 -- a created source is refused as the definition has it, unless memory was wanted
 abbrev pub RefusesAs : {A : Type 0} → Result A Refusal → Stop → Type 0
@@ -55,12 +50,17 @@ RefusesAs outcome (Refused refusal) = outcome ≡ Err refusal
 RefusesAs outcome (Failed object) = ⊥
 RefusesAs outcome Memory = Unit {0}
 
--- what stands against a created source at this path, as a stop of the run
-abbrev pub of_source : List ℕ → SourceFault → Stop
-of_source path code.Unbuilt = Refused (refusal_at path Unbuilt)
-of_source path (code.Duplicate name) = Refused (refusal_at path (Duplicate name))
-of_source path (code.TooLarge what) = Refused (refusal_at path (TooLarge what))
-of_source path code.Memory = Memory
+-- why a created source at this path gives no units, as a stop of the run
+abbrev pub of_unread : List ℕ → FileFault → Stop
+of_unread path (file.Bad place) = Refused (unread_at path (Bad place))
+of_unread path (file.TooLarge what) = Refused (unread_at path (TooLarge what))
+of_unread path file.Memory = Memory
+
+-- why its units can't be entered
+abbrev pub of_units : UnitFault → Stop
+of_units (code.Duplicate name) = Refused (unentered (Duplicate name))
+of_units code.TooMany = Refused (unentered Full)
+of_units code.Memory = Memory
 
 -- a created source was entered, or it is refused
 abbrev pub Gathers : Result Gathered Refusal → TypeTable → NameSet → Result Unit declared.Refusal → Type 0

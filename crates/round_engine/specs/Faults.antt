@@ -5,14 +5,14 @@ use Rattle.child_session.specs.declared.fault.SessionFault.{SessionFault}
 use Rattle.child_session.specs.declared.fault.SessionFault.TheVariants as session
 use Rattle.round_engine.specs.declared.refusal.Refusal as declared
 use Rattle.round_engine.specs.declared.refusal.Refusal.TheVariants as code
-use Rattle.round_engine.specs.Refusals.{UnbuiltForm, UnbuiltTalk, TooManyQuestions, ClaimBroken, GeneratedDuplicate, TooManyRounds, TooLarge, Children, Stop, Refused, Failed, Memory, is_refusal, is_failure}
+use Rattle.round_engine.specs.Refusals.{BadGenerated, UnbuiltTalk, TooManyQuestions, ClaimBroken, GeneratedDuplicate, TooManyRounds, TooLarge, Children, Stop, Refused, Failed, Memory, is_refusal, is_failure}
 
 abbrev pub stop_of : declared.Refusal → Stop
 stop_of (code.ChildFault processor) = Failed (Children processor)
 stop_of (code.UnbuiltTalk processor) = Refused (UnbuiltTalk processor)
 stop_of (code.TooManyQuestions processor most) = Refused (TooManyQuestions processor most)
 stop_of (code.ClaimBroken processor declared said) = Refused (ClaimBroken processor declared said)
-stop_of (code.UnbuiltForm path) = Refused (UnbuiltForm path)
+stop_of (code.BadGenerated path place) = Refused (BadGenerated path place)
 stop_of (code.GeneratedDuplicate name) = Refused (GeneratedDuplicate name)
 stop_of code.TooManyRounds = Refused TooManyRounds
 stop_of (code.TooLarge what limit) = Refused (TooLarge what limit)

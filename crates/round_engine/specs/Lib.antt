@@ -2,6 +2,7 @@ pub mod Held
 pub mod Limits
 pub mod Names
 pub mod Refusals
+pub mod Annotations
 pub mod Units
 pub mod Run
 pub mod Faults

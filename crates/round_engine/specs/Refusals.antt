@@ -20,8 +20,12 @@ pub data Refusal : Type 0 where
   BadConfig : (path : List ℕ) (place : Place) → Refusal
   -- `apt.json` has no row for this processor, the first such that is named
   UnknownProcessor : (name : List ℕ) → Refusal
-  -- a source, or a created source, is none that can be read so far
-  UnbuiltForm : (path : List ℕ) → Refusal
+  -- a source has no reading: the least path of such a one, and the place of its first fault
+  BadSource : (path : List ℕ) (place : ℕ) → Refusal
+  -- two places of the project give this name: the path of the source that gave it first, and that of the one that gave it again
+  DuplicateType : (name first second : List ℕ) → Refusal
+  -- a created source has no reading: its path in the output, and the place of its first fault
+  BadGenerated : (path : List ℕ) (place : ℕ) → Refusal
   -- a child's bytes are none that can be read so far
   UnbuiltTalk : (processor : List ℕ) → Refusal
   -- a child asked once more than it may in one round

@@ -1,62 +1,42 @@
--- The units of a run in the type table: how the units of a source enter it, and which annotations are present on them.
-use Rattle.std.specs.Prelude.{ℕ, List, [], ◌∷◌, ◌++◌, map, Result, Ok, Err}
+-- The units of a run in the type table: how units, and those of created sources, enter it, and which annotations are present on them.
+use Rattle.std.specs.Prelude.{ℕ, nat_lt, List, [], ◌∷◌, ◌++◌, length, map, Result, Ok, Err, if◌then◌else◌}
 use Rattle.std.specs.Option.{option_map_or}
 use Rattle.std.specs.FinMap as fin
-use Rattle.apt_base.specs.declared.kinds.What.{What}
-use Rattle.apt_base.specs.declared.kinds.What.TheVariants.{Types}
-use Rattle.decl_tree.specs.declared.annotation.AnnotationText.{AnnotationText, out-AnnotationText}
-use Rattle.decl_tree.specs.declared.compilation.Body.{Body}
-use Rattle.decl_tree.specs.declared.compilation.Body.TheVariants.{Declared, Info}
+use Rattle.apt_base.specs.declared.kinds.What.TheVariants.{Types, FileBytes}
 use Rattle.decl_tree.specs.declared.compilation.UnitText.{UnitText}
+use Rattle.file_answers.specs.Flaws.{Flaw, Bad, TooLarge, Reading}
+use Rattle.file_readings.specs.FileReadings.{reading_of}
 use Rattle.element_table.specs.declared.part.Part.TheVariants.{Source}
 use Rattle.element_table.specs.UnitNames.{unit_name}
 use Rattle.element_table.specs.TypeTable.{TypeTable, unit_of, Against, IsThere, IsFull, outcome_of}
-use Rattle.source_form.specs.Units as source
-use Rattle.source_form.specs.Units.{Flaw, units_of}
+use Rattle.round_engine.specs.Annotations.{in_unit}
+use Rattle.round_engine.specs.Limits.{limit_of}
 use Rattle.round_engine.specs.Names.{NameSet, with_names, names_in}
-use Rattle.round_engine.specs.Refusals.{Refusal, UnbuiltForm, GeneratedDuplicate, past}
+use Rattle.round_engine.specs.Refusals.{Refusal, BadGenerated, GeneratedDuplicate, past}
 
 -- ---- annotations
 
--- the annotations of a declaration, or of a package
-abbrev pub annotations_of : Body → List AnnotationText
-annotations_of (Declared declaration) = declaration.annotations
-annotations_of (Info annotations doc) = annotations
-
-abbrev pub annotation_name : AnnotationText → List ℕ
-annotation_name annotation = (out-AnnotationText annotation).name
-
--- the names of the annotations that are written on what a unit declares, as they are written: so far no other names count
-abbrev pub names_on : UnitText → List (List ℕ)
-names_on unit = map annotation_name (annotations_of unit.body)
-
--- the same of the unit of the table with this name
+-- the names of the annotations that are written in the unit of the table with this name
 abbrev pub names_at : TypeTable → List ℕ → List (List ℕ)
-names_at table root = option_map_or names_on (unit_of table root) []
+names_at table root = option_map_or in_unit (unit_of table root) []
 
--- names to which the units of these names add those that are on them
+-- names to which the units of these names add those that are in them
 abbrev pub with_names_at : TypeTable → NameSet → List (List ℕ) → NameSet
 with_names_at table names [] = names
 with_names_at table names (root ∷ roots) = with_names_at table (with_names names (names_at table root)) roots
 
--- the annotations that are present on units of the table, by their names, each once and ascending
+-- the annotations that are present on units of the table and on all that they enclose, by their names, each once and ascending
 abbrev pub present_names : TypeTable → List (List ℕ) → List (List ℕ)
 present_names table roots = names_in (with_names_at table fin.empty roots)
 
--- ---- a source
+-- ---- units
 
--- why a source cannot be entered
+-- why a unit can't be entered
 pub data Obstacle : Type 0 where
-  -- it is not of the form that is read so far
-  Unbuilt : Obstacle
-  -- it gives a type that is there
+  -- its name is there
   Duplicate : (name : List ℕ) → Obstacle
-  -- it passes a limit
-  TooLarge : (what : What) → Obstacle
-
-abbrev pub of_flaw : Flaw → Obstacle
-of_flaw source.Unbuilt = Unbuilt
-of_flaw (source.TooLarge what) = TooLarge what
+  -- with its types the table would have too many
+  Full : Obstacle
 
 -- a table, and the names of the units that were entered into its sources
 pub record Entered : Type 0 where
@@ -66,7 +46,7 @@ pub record Entered : Type 0 where
 abbrev pub enter_by : List ℕ → Result TypeTable Against → Result TypeTable Obstacle
 enter_by name (Ok table) = Ok table
 enter_by name (Err IsThere) = Err (Duplicate name)
-enter_by name (Err IsFull) = Err (TooLarge Types)
+enter_by name (Err IsFull) = Err Full
 
 abbrev pub enter_unit : TypeTable → UnitText → Result TypeTable Obstacle
 enter_unit table unit = enter_by (unit_name unit) (outcome_of Source unit table)
@@ -77,39 +57,48 @@ and_then (Ok value) next = next value
 and_then (Err why) next = Err why
 
 -- units are entered one after another, up to the first that can't be
-abbrev pub enter_units : TypeTable → List UnitText → Result TypeTable Obstacle
-enter_units table [] = Ok table
-enter_units table (unit ∷ units) = and_then (enter_unit table unit) (λ next. enter_units next units)
+abbrev pub enter_each : TypeTable → List UnitText → Result TypeTable Obstacle
+enter_each table [] = Ok table
+enter_each table (unit ∷ units) = and_then (enter_unit table unit) (λ next. enter_each next units)
 
-abbrev pub enter_read : TypeTable → Result (List UnitText) Flaw → Result Entered Obstacle
-enter_read table (Err flaw) = Err (of_flaw flaw)
-enter_read table (Ok units) = and_then (enter_units table units) (λ next. Ok (record { table = next; names = map unit_name units }))
-
--- the units that these bytes give are entered
-abbrev pub enter_source : TypeTable → List ℕ → Result Entered Obstacle
-enter_source table bytes = enter_read table (units_of bytes)
+-- the same, with their names
+abbrev pub enter_units : TypeTable → List UnitText → Result Entered Obstacle
+enter_units table units = and_then (enter_each table units) (λ next. Ok (record { table = next; names = map unit_name units }))
 
 -- ---- created sources
+
+-- What a created source at this path of the output reads as. No filer takes one that is longer than a file may be.
+abbrev pub created_reading : List ℕ → List ℕ → Reading
+created_reading path bytes = if nat_lt (limit_of FileBytes) (length bytes) then Err (TooLarge FileBytes) else reading_of path bytes
 
 -- a table, and the names of all that was entered since the last round
 pub record Gathered : Type 0 where
   pub table : TypeTable
   pub roots : NameSet
 
--- the refusal of a run whose created source at this path can't be entered
-abbrev pub refusal_at : List ℕ → Obstacle → Refusal
-refusal_at path Unbuilt = UnbuiltForm path
-refusal_at path (Duplicate name) = GeneratedDuplicate name
-refusal_at path (TooLarge what) = past what
+-- the refusal of a run whose created source at this path gives no units
+abbrev pub unread_at : List ℕ → Flaw → Refusal
+unread_at path (Bad place) = BadGenerated path place
+unread_at path (TooLarge what) = past what
 
-abbrev pub gather : NameSet → List ℕ → Result Entered Obstacle → Result Gathered Refusal
-gather roots path (Ok next) = Ok (record { table = next.table; roots = with_names roots next.names })
-gather roots path (Err obstacle) = Err (refusal_at path obstacle)
+-- the refusal of a run one of whose created units can't be entered
+abbrev pub unentered : Obstacle → Refusal
+unentered (Duplicate name) = GeneratedDuplicate name
+unentered Full = past Types
 
+abbrev pub gather : NameSet → Result Entered Obstacle → Result Gathered Refusal
+gather roots (Ok next) = Ok (record { table = next.table; roots = with_names roots next.names })
+gather roots (Err obstacle) = Err (unentered obstacle)
+
+abbrev pub enter_read : Gathered → List ℕ → Reading → Result Gathered Refusal
+enter_read gathered path (Ok units) = gather gathered.roots (enter_units gathered.table units)
+enter_read gathered path (Err flaw) = Err (unread_at path flaw)
+
+-- a source, by its path and its bytes, is read, and its units are entered
 abbrev pub enter_created : Gathered → List ℕ × List ℕ → Result Gathered Refusal
-enter_created gathered created = gather gathered.roots created.0 (enter_source gathered.table created.1)
+enter_created gathered created = enter_read gathered created.0 (created_reading created.0 created.1)
 
--- sources, each by its path and its bytes, are read and entered one after another, up to the first that is refused
+-- sources are read and entered one after another, up to the first that is refused
 abbrev pub gather_all : Gathered → List (List ℕ × List ℕ) → Result Gathered Refusal
 gather_all gathered [] = Ok gathered
 gather_all gathered (created ∷ sources) = and_then (enter_created gathered created) (λ next. gather_all next sources)

@@ -1,44 +1,51 @@
-// How sources enter the type table.
+// How units enter the type table, and created sources.
 ghost use Rattle.std.specs.Prelude.{◌≡◌, map, IfOk, IfErr, OnOk, None};
 ghost use Rattle.std.specs.FinMap as fin;
+ghost use Rattle.file_readings.specs.FileReadings.{GivesUnits};
 ghost use Rattle.element_table.specs.UnitNames.{unit_name};
 ghost use Rattle.round_engine.specs.Names.{with_names};
-ghost use Rattle.round_engine.specs.Units.{enter_unit, enter_units, enter_source, enter_all};
+ghost use Rattle.round_engine.specs.Units.{enter_unit, enter_each, enter_units, created_reading, gather, enter_all};
 ghost use Rattle.round_engine.specs.Run.{sources_among};
 ghost use Rattle.round_engine.specs.Refusals.{named_by, OrMemory};
 ghost use Rattle.round_engine.specs.Faults.{stop_of};
-ghost use Rattle.round_engine.specs.Entering.{Reports, EntersUnits, EntersSource, of_source, GathersSource, EntersAll};
+ghost use Rattle.round_engine.specs.Entering.{Reports, EntersEach, EntersUnits, of_unread, of_units, Gathers, GathersSource, EntersAll};
 
 use crate::limits::limit_of;
 use crate::names::Names;
 use crate::refusal::Refusal;
-use crate::source_fault::SourceFault;
 use crate::sources::sources_among;
+use crate::unit_fault::UnitFault;
 use apt_base::{List, Name, NoMemory, What};
+use decl_parser::ParseFault;
 use decl_tree::Unit;
 use element_table::{EnterFault, Part, Table, unit_name};
-use source_form::parse;
+use file_readings::read_declarations;
 use std::alloc::Global;
 use wire_frames::Creation;
 
-fn reported(alloc: Global, fault: &EnterFault) -> SourceFault
+// The most bytes of a source that is read.
+const MOST_BYTES: usize = 8_388_608;
+
+// ---- units
+
+fn reported(alloc: Global, fault: &EnterFault) -> UnitFault
     ensures { Reports fault.now result }
 {
     match fault {
         EnterFault::Duplicate(unit) => match unit_name(alloc, unit) {
-            Ok(name) => SourceFault::Duplicate { name },
-            Err(_) => SourceFault::Memory,
+            Ok(name) => UnitFault::Duplicate { name },
+            Err(_) => UnitFault::Memory,
         },
-        EnterFault::TooMany(_) => SourceFault::TooLarge { what: What::Types },
-        EnterFault::Memory(_) => SourceFault::Memory,
+        EnterFault::TooMany(_) => UnitFault::TooMany,
+        EnterFault::Memory(_) => UnitFault::Memory,
     }
 }
 
 // A function of its own, so that what drops a unit is proved once.
 fn let_go(_fault: EnterFault) {}
 
-fn enter_unit(alloc: Global, table: &mut Table, unit: Unit) -> Result<(), SourceFault>
-    ensures { EntersUnits (enter_unit table.old unit) table.new result }
+fn enter_unit(alloc: Global, table: &mut Table, unit: Unit) -> Result<(), UnitFault>
+    ensures { EntersEach (enter_unit table.old unit) table.new result }
 {
     match table.enter(Part::Source, unit) {
         Ok(()) => Ok(()),
@@ -50,8 +57,8 @@ fn enter_unit(alloc: Global, table: &mut Table, unit: Unit) -> Result<(), Source
     }
 }
 
-fn enter_units(alloc: Global, table: &mut Table, units: List<Unit>) -> Result<(), SourceFault>
-    ensures { EntersUnits (enter_units table.old units) table.new result }
+fn enter_each(alloc: Global, table: &mut Table, units: List<Unit>) -> Result<(), UnitFault>
+    ensures { EntersEach (enter_each table.old units) table.new result }
 {
     for unit in units.into_vec() {
         enter_unit(alloc, table, unit)?;
@@ -69,45 +76,74 @@ fn names_of(alloc: Global, units: &[Unit]) -> Result<List<Name>, NoMemory>
     Ok(names)
 }
 
-/// Reads a source, enters the units that it gives into the sources of the table, and gives their names, in order. The
-/// first of these holds:
+/// Enters units into the sources of the table, one after another, and gives their names, in order. The first of these holds:
 ///
-/// - `Unbuilt`, or `TooLarge` with `What::Name`: it cannot be read (`source_form::parse`).
-/// - `Duplicate`: the table has the name of one of its units, or an earlier one of its units has it.
-/// - `TooLarge` with `What::Types`: with the types of one of its units the table would have more than 50,000.
+/// - `Duplicate`: the table has the name of one of them, or an earlier one has it.
+/// - `TooMany`: with the types of one of them the table would have more than 50,000.
 /// - all are entered.
 ///
-/// The last two come at the first unit to which they apply, and the units before it have been entered then. `Memory` may
+/// The first two come at the first unit to which they apply, and the units before it have been entered then. `Memory` may
 /// come in place of each of these.
-pub fn enter_source(
+pub fn enter_units(
     alloc: Global,
     table: &mut Table,
-    content: &[u8],
-) -> Result<List<Name>, SourceFault>
-    ensures { EntersSource (enter_source table.old content.now) table.new result }
+    units: List<Unit>,
+) -> Result<List<Name>, UnitFault>
+    ensures { EntersUnits (enter_units table.old units) table.new result }
 {
-    let units = parse(alloc, content)?;
     let names = names_of(alloc, units.as_slice())?;
-    enter_units(alloc, table, units)?;
+    enter_each(alloc, table, units)?;
     Ok(names)
 }
 
-// The refusal of a run by a source at this path of the output, or `Memory` where there is none for the path.
-fn refusal_at(alloc: Global, path: &str, fault: SourceFault) -> Refusal
-    ensures is { OrMemory (of_source path.now fault) (stop_of result) }
+// ---- created sources
+
+// The units of a created source at this path of the output.
+fn read_created(alloc: Global, path: &str, content: &[u8]) -> Result<List<Unit>, ParseFault>
+    ensures { GivesUnits (created_reading path.now content.now) result }
+{
+    let count = content.len();
+    if count > MOST_BYTES {
+        return Err(ParseFault::TooLarge {
+            what: What::FileBytes,
+        });
+    }
+    match read_declarations(alloc, path, content) {
+        Ok(parsed) => Ok(parsed.units),
+        Err(fault) => Err(fault),
+    }
+}
+
+// The refusal of a run whose created source at this path gives no units, or `Memory` where there is none for the path.
+fn unread(alloc: Global, path: &str, fault: ParseFault) -> Refusal
+    ensures is { OrMemory (of_unread path.now fault) (stop_of result) }
     ensures unnamed { named_by (stop_of result) ≡ None }
 {
     match fault {
-        SourceFault::Unbuilt => match Name::new(alloc, path) {
-            Ok(path) => Refusal::UnbuiltForm { path },
+        ParseFault::Bad { place } => match Name::new(alloc, path) {
+            Ok(path) => Refusal::BadGenerated { path, place },
             Err(_) => Refusal::Memory,
         },
-        SourceFault::Duplicate { name } => Refusal::GeneratedDuplicate { name },
-        SourceFault::TooLarge { what } => Refusal::TooLarge {
+        ParseFault::TooLarge { what } => Refusal::TooLarge {
             what,
             limit: limit_of(what),
         },
-        SourceFault::Memory => Refusal::Memory,
+        ParseFault::Memory => Refusal::Memory,
+    }
+}
+
+// The refusal of a run one of whose created units is not entered.
+fn unentered(fault: UnitFault) -> Refusal
+    ensures is { stop_of result ≡ of_units fault }
+    ensures unnamed { named_by (stop_of result) ≡ None }
+{
+    match fault {
+        UnitFault::Duplicate { name } => Refusal::GeneratedDuplicate { name },
+        UnitFault::TooMany => Refusal::TooLarge {
+            what: What::Types,
+            limit: limit_of(What::Types),
+        },
+        UnitFault::Memory => Refusal::Memory,
     }
 }
 
@@ -120,7 +156,26 @@ fn add_names(roots: &mut Names, names: &[Name]) -> Result<(), NoMemory>
     Ok(())
 }
 
-/// Enters a created source.
+// Enters the units of a created source, and adds their names.
+fn gather(
+    alloc: Global,
+    table: &mut Table,
+    roots: &mut Names,
+    units: List<Unit>,
+) -> Result<(), Refusal>
+    ensures unnamed { IfErr result (λ refusal. named_by (stop_of refusal) ≡ None) }
+    ensures gathers { Gathers (gather roots.old (enter_units table.old units)) table.new roots.new result }
+{
+    match enter_units(alloc, table, units) {
+        Ok(names) => {
+            add_names(roots, names.as_slice())?;
+            Ok(())
+        }
+        Err(fault) => Err(unentered(fault)),
+    }
+}
+
+/// Reads a created source, and enters its units.
 fn enter_created(
     alloc: Global,
     table: &mut Table,
@@ -131,17 +186,14 @@ fn enter_created(
     ensures unnamed { IfErr result (λ refusal. named_by (stop_of refusal) ≡ None) }
     ensures gathers { GathersSource path.now content.now table.old roots.old table.new roots.new result }
 {
-    match enter_source(alloc, table, content) {
-        Ok(names) => {
-            add_names(roots, names.as_slice())?;
-            Ok(())
-        }
-        Err(fault) => Err(refusal_at(alloc, path, fault)),
+    match read_created(alloc, path, content) {
+        Ok(units) => gather(alloc, table, roots, units),
+        Err(fault) => Err(unread(alloc, path, fault)),
     }
 }
 
 /// Reads the sources among files that were made in order of their paths, enters their units, and gives the names of these,
-/// ascending. A source is read where it lies.
+/// ascending. Each source is read where it lies, and its units are entered before the next one is read.
 pub fn enter_all(alloc: Global, table: &mut Table, made: &[Creation]) -> Result<List<Name>, Refusal>
     ensures unnamed { IfErr result (λ refusal. named_by (stop_of refusal) ≡ None) }
     ensures enters { EntersAll (enter_all table.old (fin.entries (sources_among made.now))) table.new result }

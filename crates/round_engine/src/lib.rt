@@ -5,6 +5,7 @@
 //! earlier build left, of pipes or of pieces of bytes, and nothing is promised of time.
 #![tactic(auto)]
 
+mod annotations;
 mod asking;
 mod beginning;
 mod entering;
@@ -19,11 +20,11 @@ mod project;
 mod refusal;
 mod rounds;
 mod running;
-mod source_fault;
 mod sources;
+mod unit_fault;
 mod units;
 
-pub use entering::enter_source;
+pub use entering::enter_units;
 pub use files::Files;
 pub use frames::inits_fit;
 pub use limits::limit_of;
@@ -32,4 +33,4 @@ pub use numbering::{Made, number_files};
 pub use project::{Key, KeyProcessor, Project};
 pub use refusal::Refusal;
 pub use running::{Finished, clean};
-pub use source_fault::SourceFault;
+pub use unit_fault::UnitFault;

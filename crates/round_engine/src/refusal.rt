@@ -37,10 +37,12 @@ pub enum Refusal {
         /// What the child said.
         said: bool,
     },
-    /// A created source is not of the form that is read so far.
-    UnbuiltForm {
+    /// A created source has no reading.
+    BadGenerated {
         /// Its path in the output.
         path: Name,
+        /// The place of its first fault.
+        place: u32,
     },
     /// A created source gives a type that is there.
     GeneratedDuplicate {
@@ -85,7 +87,10 @@ impl Refusal {
                 declared: *declared,
                 said: *said,
             }),
-            Refusal::UnbuiltForm { path } => Ok(Refusal::UnbuiltForm { path: path.copy()? }),
+            Refusal::BadGenerated { path, place } => Ok(Refusal::BadGenerated {
+                path: path.copy()?,
+                place: *place,
+            }),
             Refusal::GeneratedDuplicate { name } => {
                 Ok(Refusal::GeneratedDuplicate { name: name.copy()? })
             }

@@ -4,5 +4,6 @@ pub mod RecordFormatLemmas
 pub mod OutputLemmas
 pub mod StoringLemmas
 pub mod Reading
+pub mod SourceLimits
 pub mod ConfigLemmas
 pub mod Publishing

@@ -8,7 +8,7 @@ mod sources;
 mod store;
 
 pub use config::{ConfigFile, RawLists, read_config, read_lists};
-pub use fault::{ConfigReadFault, StoreFault};
+pub use fault::{ConfigReadFault, SourceReadFault, StoreFault};
 pub use record::{StoredFile, encode_record};
 pub use sources::{RawSource, read_sources};
 pub use store::{commit, put_files, taken_numbers};

@@ -1,4 +1,0 @@
-pub mod Identifiers
-pub mod Chains
-pub mod FormLaws
-pub mod UnitLaws

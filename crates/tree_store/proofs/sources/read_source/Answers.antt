@@ -1,0 +1,18 @@
+use Rattle.std.proofs.Common.{◌≡◌, ◌+◌, ap, sym, subst, take, option_map, None, true, cond, Vec, ℕ, rules}
+use Rattle.std.specs.declared.alloc.Global.{Global}
+use Rattle.apt_outside.specs.Files.{file_at}
+use Rattle.tree_store.specs.Sources.{most_in_one, is_java, source_of, source_at, GivesOne}
+use Rattle.tree_store.proofs.SourceLimits.{gives-whole}
+use Rattle.tree_store.proofs.sources.read_source.Goals as goal
+
+pub returns-clause-source : goal.returns-clause-source
+returns-clause-source g c = λ told.
+    let path = c.args.path.now in
+    let left = c.args.left in
+    let files = g.T.Tree.files c.args.tree.now in
+    let stands = file_at files path in
+    let java : is_java path ≡ true = search rules in
+    let here : source_at files path ≡ option_map (source_of path) stands = ap (λ b. cond b (option_map (source_of path) stands) None) java in
+    let reads : option_map (λ (bytes : Vec ℕ Global). bytes.items) c.in_ok-found.found ≡ option_map (take (most_in_one + 1)) stands = c.in_ok-found.ensures.bytes told in
+    subst (λ o. GivesOne left o c.within_limits.result) (sym here)
+    (gives-whole left path stands c.within_limits.result c.within_limits.ensures.within (rw reads at c.within_limits.ensures.source))
