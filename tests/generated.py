@@ -550,8 +550,12 @@ def good_names_of_types(project):
     names = ["D", "p.D", "p.q.r.D", "p.D_", "p.$", "p.__", "p.É1", "p.package-info", "q.C", "p.record",
              "p." + "D" * 1022]
     types = {name: f"g.G{number:02}" for number, name in enumerate(names)}
-    files = {f"SOURCE_OUTPUT/{name.replace('.', '/')}.java": source_of(types[name]) for name in names}
-    publishes(project, [[create_source(name, source_of(types[name])) for name in names], [], []],
+    contents = {name: source_of(types[name]) for name in names}
+    # A file of this name declares its package alone (JLS 7.4.1).
+    contents["p.package-info"] = f"@q.A package {types['p.package-info']};".encode()
+    types["p.package-info"] += ".package-info"
+    files = {f"SOURCE_OUTPUT/{name.replace('.', '/')}.java": contents[name] for name in names}
+    publishes(project, [[create_source(name, contents[name]) for name in names], [], []],
               [*file_lines(files), done(3, len(names))], files,
               sent=[FIRST_ROUND, *[ACCEPTED] * len(names), round_frame(2, list(types.values())), last_round(3)])
 
