@@ -1,65 +1,29 @@
 -- A list of items with a comma behind each, of which one more begins: what is said of it step by step, as it is walked over.
-use Rattle.std.proofs.Common.{◌≡◌, ℕ, suc, ◌+◌, ◌*◌, ◌<◌, ◌≤◌, true, false, List, [], ◌∷◌, ◌++◌, length, drop, Some, None, Result, Ok, Err, ⊎_elim, refl, sym, ap, subst, ◌∙◌, append_assoc, length-append, arith}
+use Rattle.std.proofs.Common.{◌≡◌, ℕ, suc, ◌+◌, ◌*◌, ◌<◌, ◌≤◌, true, false, List, [], ◌∷◌, ◌++◌, length, drop, Some, None, Result, Ok, Err, refl, sym, ap, subst, ◌∙◌, append_assoc, arith}
 use Rattle.std.proofs.lemmas.Bool.{eqb-true}
 use Rattle.decl_grammar.specs.declared.symbol.Symbol.{Symbol}
 use Rattle.decl_grammar.specs.declared.fault.ReadFault.{ReadFault}
 use Rattle.decl_grammar.specs.declared.fault.ReadFault.TheVariants as faults
 use Rattle.decl_grammar.specs.Symbols.{operator}
-use Rattle.decl_grammar.specs.Reading.{has, starts, Outcome, done, deep, Gives}
+use Rattle.decl_grammar.specs.Reading.{has, starts, Outcome, done, Gives}
 use Rattle.decl_grammar.specs.Form.{Form, many, first, nullable}
 use Rattle.decl_grammar.specs.Types.{sign, before}
-use Rattle.decl_grammar.specs.Rule.{WholeAt, BegunAt, reads, read_nest, read_at}
+use Rattle.decl_grammar.specs.Rule.{WholeAt, BegunAt, reads}
 use Rattle.decl_grammar.specs.File.{IsPhrase}
 use Rattle.decl_grammar.proofs.OneToken.{more, not_both, any-guarded}
 use Rattle.decl_grammar.proofs.Heads.{Is-nil, Is-head, Begins-head}
 use Rattle.decl_grammar.proofs.Opens.{opens-form}
-use Rattle.decl_grammar.proofs.Open.{most-open}
 use Rattle.decl_grammar.proofs.Progress.{done_rest}
-use Rattle.decl_grammar.proofs.Told.{Told, told}
-use Rattle.decl_grammar.proofs.Complete.{Comes, complete, starts-front}
-use Rattle.decl_grammar.proofs.Fuel.{at-reads}
+use Rattle.decl_grammar.proofs.Complete.{starts-front}
 use Rattle.decl_grammar.proofs.Nests.{fewer}
 use Rattle.decl_grammar.proofs.Raised.{above, whole-first, whole-second}
 use Rattle.decl_grammar.proofs.Rivals.{Is-up}
-use Rattle.decl_grammar.proofs.Heights.{opens-at, full-at, heads-at, bheads-at, most-at, Whole, Started}
-use Rattle.decl_grammar.proofs.Knot.{told-at, comes-at, inside-at, IsSound}
+use Rattle.decl_grammar.proofs.Heights.{opens-at, full-at, heads-at, bheads-at}
+use Rattle.decl_grammar.proofs.Knot.{IsSound}
+use Rattle.decl_crossings.proofs.PhraseReads.{whole-reads, read-phrase}
 use Rattle.decl_children.specs.Fronts.{SomeFront}
 use Rattle.decl_limits.specs.Children.{most, OpensWith, NextItem, IsFull}
 use Rattle.decl_children.specs.Fronts.{ReadOrNone}
-
--- ---- what is whole is read, where there is room
-
--- a height at which all that may be read of so many symbols stands
-abbrev height_of : List Symbol → ℕ
-height_of ts = suc (suc (3 * suc (length ts)))
-
-told-reads : {A : Type 0} (f : Form A) (room : ℕ) (ts : List Symbol) → Told room (WholeAt (height_of ts)) (BegunAt (height_of ts)) f ts (reads room f ts)
-told-reads {A} f room ts =
-    let n = 3 * suc (length ts) in
-    let h = height_of ts in
-    subst (λ (o : Outcome A). Told room (WholeAt h) (BegunAt h) f ts o) (sym (at-reads room (length ts) f ts (omega arith)))
-    (told room (WholeAt h) (BegunAt h) (read_at n room) (told-at n room) f ts)
-
--- with room for three forms at each symbol nothing is too deep
-never-deep : {A : Type 0} (f : Form A) (room : ℕ) (ts at : List Symbol) → 3 * length ts ≤ room → reads room f ts ≡ deep at → ⊥
-never-deep {A} f room ts at fits e =
-    let h = height_of ts in
-    let p : Told room (WholeAt h) (BegunAt h) f ts (deep at) = subst (λ (o : Outcome A). Told room (WholeAt h) (BegunAt h) f ts o) e (told-reads f room ts) in
-    let opened = most-open (WholeAt h) (BegunAt h) (full-at h) (most-at h) f (p.0 ++ p.1 ∷ []) p.5 p.7 in
-    omega (arith, opened, p.6, fits, ap length p.4, length-append p.0 (p.1 ∷ []), length-append p.0 (p.1 ∷ p.2))
-
--- a phrase is read as what it means, where the symbol behind it does not go on with it
-pub whole-reads : {A : Type 0} (f : Form A) → IsSound f → (room : ℕ) (us rest : List Symbol) (x : A) → 3 * length (us ++ rest) ≤ room → starts (more f) rest ≡ false → IsPhrase f us x → reads room f (us ++ rest) ≡ done x rest
-whole-reads f sound room us rest x fits stops is =
-    let c : Comes x rest (reads room f (us ++ rest)) = complete (WholeAt is.0) Whole Started room (read_nest room) (inside-at room is.0 (comes-at sound.2 is.0 room)) f sound.0 sound.1 us x rest stops is.1 in
-    ⊎_elim (λ (e : reads room f (us ++ rest) ≡ done x rest). e) (λ (e : (at : List Symbol) × (reads room f (us ++ rest) ≡ deep at) × (length rest < length at)). absurd (never-deep f room (us ++ rest) e.0 fits e.1)) c
-
--- and what is read is whole
-pub read-phrase : {A : Type 0} (f : Form A) (room : ℕ) (ts : List Symbol) (x : A) (rest : List Symbol) → reads room f ts ≡ done x rest → (us : List Symbol) × (ts ≡ us ++ rest) × IsPhrase f us x
-read-phrase {A} f room ts x rest e =
-    let h = height_of ts in
-    let p : Told room (WholeAt h) (BegunAt h) f ts (done x rest) = subst (λ (o : Outcome A). Told room (WholeAt h) (BegunAt h) f ts o) e (told-reads f room ts) in
-    (p.0, p.1, (h, p.2))
 
 -- ---- rows
 

@@ -24,7 +24,7 @@ use Rattle.decl_children.specs.declared.walks.Walk.{Walk}
 use Rattle.decl_children.specs.declared.walks.Passed.{Passed}
 use Rattle.decl_children.specs.declared.walks.Step.{Step}
 use Rattle.decl_children.specs.declared.walks.Step.TheVariants as step
-use Rattle.decl_children.proofs.CommaRows.{read-phrase}
+use Rattle.decl_crossings.proofs.PhraseReads.{read-phrase}
 use Rattle.decl_children.proofs.FileRows.{type-begins}
 use Rattle.decl_children.proofs.TypeReads.{heading-ends}
 use Rattle.decl_children.proofs.Passages.{passes-reads}

@@ -23,7 +23,8 @@ use Rattle.decl_children.specs.Fronts.{SomeFront, Passes}
 use Rattle.decl_children.specs.Members.{TypeCrowds, MembersFull, HeadingCrowds, TooLong, heading_of, closed_members}
 use Rattle.decl_children.specs.TypeWalks.{has_constructor, added_to, MembersOver, MembersEnd, TypeEnds, enum_front, enum_tail, ParamsOver, ConstantsOver, EnumOver, EnumEnd}
 use Rattle.decl_children.specs.KindWords.{front_word}
-use Rattle.decl_children.proofs.CommaRows.{whole-reads, read-phrase, item-starts}
+use Rattle.decl_crossings.proofs.PhraseReads.{whole-reads, read-phrase}
+use Rattle.decl_children.proofs.CommaRows.{item-starts}
 use Rattle.decl_children.proofs.Phrases.{Phrase}
 use Rattle.decl_children.proofs.ParamEnds.{starts-apart}
 use Rattle.decl_children.proofs.Thens.{then-back, values-same}

@@ -17,7 +17,8 @@ use Rattle.decl_limits.specs.Children.{Then, IsFull, NextParam, executable_headi
 use Rattle.decl_children.specs.Fronts.{SomeFront}
 use Rattle.decl_children.specs.Walks.{TypeParamsCrowd}
 use Rattle.decl_children.specs.Results.{result_form, NamedCrowds, ExecutableCrowds}
-use Rattle.decl_children.proofs.CommaRows.{whole-reads, read-phrase, item-starts}
+use Rattle.decl_crossings.proofs.PhraseReads.{whole-reads, read-phrase}
+use Rattle.decl_children.proofs.CommaRows.{item-starts}
 use Rattle.decl_children.proofs.Phrases.{Phrase, paired, turned, put-before, un-pair, un-turn, un-before}
 use Rattle.decl_children.proofs.ParamEnds.{starts-apart}
 

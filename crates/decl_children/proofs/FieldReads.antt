@@ -18,7 +18,8 @@ use Rattle.decl_grammar.proofs.Knot.{IsSound, sound-plain}
 use Rattle.decl_crossings.specs.Crossings.{FieldCrosses}
 use Rattle.decl_limits.specs.Children.{most, blank}
 use Rattle.decl_children.specs.Unmodifieds.{count_of, field_front, FieldsBehind}
-use Rattle.decl_children.proofs.CommaRows.{whole-reads, read-phrase, item-starts}
+use Rattle.decl_crossings.proofs.PhraseReads.{whole-reads, read-phrase}
+use Rattle.decl_children.proofs.CommaRows.{item-starts}
 use Rattle.decl_children.proofs.Phrases.{Phrase, moved, un-turn, un-behind, un-either, un-nest}
 use Rattle.decl_children.proofs.ParamEnds.{starts-apart}
 use Rattle.decl_children.proofs.Passages.{LastCut, last-cut}

@@ -18,7 +18,7 @@ use Rattle.decl_children.specs.Members.{InType, TypeCrowds, TypesCrowd}
 use Rattle.decl_children.specs.TypeWalks.{Walks, TypeEnds}
 use Rattle.decl_children.specs.TopSteps.{TopCrowds, TopEnds, TypesSame}
 use Rattle.decl_children.specs.declared.walks.Walk.{Walk}
-use Rattle.decl_children.proofs.CommaRows.{read-phrase}
+use Rattle.decl_crossings.proofs.PhraseReads.{read-phrase}
 use Rattle.decl_children.proofs.ThenRows.{One}
 use Rattle.decl_children.proofs.Passages.{passes-reads}
 use Rattle.decl_children.proofs.WalkAnswers.{tells-as}

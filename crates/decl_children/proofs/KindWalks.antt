@@ -21,7 +21,8 @@ use Rattle.decl_children.specs.TypeWalks.{Walks, ParamsOver, has_constructor, ad
 use Rattle.decl_children.specs.KindWords.{front_word, is_enum}
 use Rattle.decl_children.specs.declared.walks.Walk.{Walk}
 use Rattle.decl_children.specs.declared.walks.Walk.TheVariants as walk
-use Rattle.decl_children.proofs.CommaRows.{read-phrase, item-starts}
+use Rattle.decl_crossings.proofs.PhraseReads.{read-phrase}
+use Rattle.decl_children.proofs.CommaRows.{item-starts}
 use Rattle.decl_children.proofs.Phrases.{Phrase, at-left, at-right, un-either}
 use Rattle.decl_children.proofs.Thens.{then-back, Behind-read}
 use Rattle.decl_children.proofs.ThenRows.{HasEnd}

@@ -18,7 +18,8 @@ use Rattle.decl_limits.specs.Children.{most, Then, IsFull, NextParam, member_chi
 use Rattle.decl_children.specs.Fronts.{SomeFront}
 use Rattle.decl_children.specs.Members.{InType, MemberCrowds, TypeCrowds, FieldsFull, OwnFull, InnerFull}
 use Rattle.decl_children.specs.Results.{result_form, ExecutableCrowds}
-use Rattle.decl_children.proofs.CommaRows.{whole-reads, item-starts, opens-has, has-opens}
+use Rattle.decl_crossings.proofs.PhraseReads.{whole-reads}
+use Rattle.decl_children.proofs.CommaRows.{item-starts, opens-has, has-opens}
 use Rattle.decl_children.proofs.Phrases.{Phrase, paired, turned, put-behind, put-before, at-right, none-there, row-nil, row-cons, moved, un-pair, un-turn, un-behind, un-before, un-maybe, un-cons, un-nil}
 use Rattle.decl_children.proofs.ParamEnds.{starts-apart}
 use Rattle.decl_children.proofs.Thens.{Behind-read, then-back}

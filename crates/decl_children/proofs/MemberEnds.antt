@@ -19,7 +19,8 @@ use Rattle.decl_grammar.proofs.RuleFair.{fair}
 use Rattle.decl_grammar.proofs.Knot.{sound-plain}
 use Rattle.decl_limits.specs.Children.{most, blank, IsFull, NextParam, executable_heading, ExecutableFull}
 use Rattle.decl_children.specs.Members.{MemberCrowds, MembersCrowd, InnerFull, closed_members}
-use Rattle.decl_children.proofs.CommaRows.{read-phrase, item-starts}
+use Rattle.decl_crossings.proofs.PhraseReads.{read-phrase}
+use Rattle.decl_children.proofs.CommaRows.{item-starts}
 use Rattle.decl_children.proofs.Phrases.{Phrase, turned, put-before, row-nil, row-cons, at-left, un-turn, un-before, un-nil, un-cons}
 use Rattle.decl_children.proofs.ThenRows.{HasEnd, end-reads}
 use Rattle.decl_children.proofs.FileRows.{BeginsWith, then-begins, then-head, type_words, type-begins}

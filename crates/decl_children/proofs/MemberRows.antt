@@ -17,7 +17,7 @@ use Rattle.decl_grammar.proofs.RuleFair.{fair}
 use Rattle.decl_grammar.proofs.Knot.{IsSound, sound-plain}
 use Rattle.decl_limits.specs.Children.{members_there, whole_members, MemberFull}
 use Rattle.decl_children.specs.Members.{InType, MemberCrowds, MembersCrowd}
-use Rattle.decl_children.proofs.CommaRows.{whole-reads, read-phrase}
+use Rattle.decl_crossings.proofs.PhraseReads.{whole-reads, read-phrase}
 use Rattle.decl_children.proofs.Phrases.{Phrase, turned, row-nil, row-cons, un-turn, un-cons, un-nil}
 
 member-ok : (k : TypeKind) → ok (member_form k) ≡ true

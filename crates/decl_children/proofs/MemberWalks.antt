@@ -31,7 +31,8 @@ use Rattle.decl_children.specs.Results.{ExecutableCrowds}
 use Rattle.decl_children.specs.TypeWalks.{has_constructor, unmodified_form, nothing_form}
 use Rattle.decl_children.specs.WalkSteps.{OneMore}
 use Rattle.decl_children.specs.Unmodifieds.{count_of, constructs_one, own_of, field_front, FieldsBehind, OwnBehind}
-use Rattle.decl_children.proofs.CommaRows.{read-phrase, item-starts}
+use Rattle.decl_crossings.proofs.PhraseReads.{read-phrase}
+use Rattle.decl_children.proofs.CommaRows.{item-starts}
 use Rattle.decl_children.proofs.Phrases.{Phrase, turned, at-left, moved, means, nested, un-turn, un-either, un-nest}
 use Rattle.decl_children.proofs.ParamEnds.{starts-apart}
 use Rattle.decl_children.proofs.MemberCases.{MemberCase, one_more, by_fields, by_own, by_inner, member-case, case-member, modifiers-read, inner-goes, inner-back}

@@ -15,7 +15,8 @@ use Rattle.decl_limits.specs.Children.{most, blank}
 use Rattle.decl_children.specs.Fronts.{Passes}
 use Rattle.decl_children.specs.Members.{MemberCrowds, MembersCrowd, closed_members}
 use Rattle.decl_children.specs.TypeWalks.{has_constructor, added_to, MembersOver, MembersEnd}
-use Rattle.decl_children.proofs.CommaRows.{read-phrase, item-starts}
+use Rattle.decl_crossings.proofs.PhraseReads.{read-phrase}
+use Rattle.decl_children.proofs.CommaRows.{item-starts}
 use Rattle.decl_children.proofs.Phrases.{Phrase, turned, at-left}
 use Rattle.decl_children.proofs.Thens.{values-same}
 use Rattle.decl_children.proofs.ThenRows.{HasEnd}

@@ -18,7 +18,8 @@ use Rattle.decl_grammar.proofs.Progress.{bind_done, done_rest}
 use Rattle.decl_grammar.proofs.Heads.{Is-nil}
 use Rattle.decl_grammar.proofs.Heights.{full-at}
 use Rattle.decl_children.specs.ParamReads.{step_form, after_step, end_read, EndRead}
-use Rattle.decl_children.proofs.CommaRows.{whole-reads, item-starts}
+use Rattle.decl_crossings.proofs.PhraseReads.{whole-reads}
+use Rattle.decl_children.proofs.CommaRows.{item-starts}
 use Rattle.decl_children.proofs.Phrases.{Phrase}
 
 -- ---- tests of the next symbol

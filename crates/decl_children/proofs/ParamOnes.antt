@@ -10,7 +10,7 @@ use Rattle.decl_grammar.specs.Rule.{reads}
 use Rattle.decl_grammar.proofs.Progress.{bind_done, done_rest}
 use Rattle.decl_grammar.proofs.OneToken.{not_both}
 use Rattle.decl_children.specs.ParamReads.{step_form, after_step, end_read, EndRead, BasedRead, ParamRead, FirstBehind, FirstRead}
-use Rattle.decl_children.proofs.CommaRows.{read-phrase}
+use Rattle.decl_crossings.proofs.PhraseReads.{read-phrase}
 use Rattle.decl_children.proofs.ParamEnds.{end-behind, end-here}
 
 -- ---- one thing

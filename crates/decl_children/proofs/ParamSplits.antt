@@ -20,7 +20,7 @@ use Rattle.decl_grammar.proofs.Rivals.{plain}
 use Rattle.decl_grammar.proofs.RuleFair.{fair}
 use Rattle.decl_grammar.proofs.Knot.{sound-plain}
 use Rattle.decl_children.specs.ParamReads.{step_form, after_step, end_read, EndRead, takes_any, TailWhole}
-use Rattle.decl_children.proofs.CommaRows.{whole-reads, read-phrase}
+use Rattle.decl_crossings.proofs.PhraseReads.{whole-reads, read-phrase}
 use Rattle.decl_children.proofs.Phrases.{Phrase, at-left, at-right, nested, moved, means, un-turn, un-either, un-nest}
 use Rattle.decl_children.proofs.ParamForms.{rest_form, Stepped, EndsAny, bracket-out, varargs-out, annotated-out, bracket-in, annotated-in, bracket-none, varargs-end, annotated-end}
 use Rattle.decl_children.proofs.ParamEnds.{comma-stops, nonempty, at-bracket, at-annotated, at-varargs, at-last, end-none, end-some, done-value}

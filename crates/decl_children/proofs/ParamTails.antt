@@ -19,7 +19,8 @@ use Rattle.decl_grammar.proofs.Rivals.{plain}
 use Rattle.decl_grammar.proofs.RuleFair.{fair}
 use Rattle.decl_grammar.proofs.Knot.{IsSound, sound-plain}
 use Rattle.decl_children.specs.ParamReads.{BasedRead, ParamRead, FirstBehind, FirstRead, arguments_of, takes_any, TailWhole}
-use Rattle.decl_children.proofs.CommaRows.{whole-reads, read-phrase, item-starts}
+use Rattle.decl_crossings.proofs.PhraseReads.{whole-reads, read-phrase}
+use Rattle.decl_children.proofs.CommaRows.{item-starts}
 use Rattle.decl_children.proofs.Phrases.{Phrase, paired, turned, put-behind, at-left, at-right, moved, means, un-pair, un-turn, un-behind, un-either}
 use Rattle.decl_children.proofs.ParamForms.{rest_form}
 use Rattle.decl_children.proofs.ParamEnds.{starts-apart}

@@ -20,7 +20,8 @@ use Rattle.decl_grammar.proofs.Knot.{IsSound, sound-plain}
 use Rattle.decl_limits.specs.Children.{IsFull, NextParam}
 use Rattle.decl_children.specs.ParamReads.{ParamsCrowd}
 use Rattle.decl_children.specs.Results.{names_constructor, TypeRead, ResultRead, result_form, NamedCrowds}
-use Rattle.decl_children.proofs.CommaRows.{whole-reads, read-phrase, item-starts}
+use Rattle.decl_crossings.proofs.PhraseReads.{whole-reads, read-phrase}
+use Rattle.decl_children.proofs.CommaRows.{item-starts}
 use Rattle.decl_children.proofs.Phrases.{Phrase, paired, turned, some-there, none-there, at-left, at-right, row-nil, un-pair, un-turn, un-maybe, un-either}
 use Rattle.decl_children.proofs.ParamEnds.{starts-apart}
 

@@ -8,7 +8,7 @@ use Rattle.decl_grammar.proofs.OneToken.{more}
 use Rattle.decl_grammar.proofs.Knot.{IsSound}
 use Rattle.decl_limits.specs.Children.{Then}
 use Rattle.decl_children.specs.Fronts.{SomeFront}
-use Rattle.decl_children.proofs.CommaRows.{whole-reads, read-phrase}
+use Rattle.decl_crossings.proofs.PhraseReads.{whole-reads, read-phrase}
 use Rattle.decl_children.proofs.Phrases.{Phrase, paired, row-nil, row-cons, un-pair, un-nil, un-cons}
 
 -- a form that has its end: nothing goes on with it

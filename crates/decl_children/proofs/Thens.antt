@@ -9,7 +9,7 @@ use Rattle.decl_grammar.proofs.Progress.{done_rest}
 use Rattle.decl_grammar.proofs.Knot.{IsSound}
 use Rattle.decl_limits.specs.Children.{Then}
 use Rattle.decl_children.specs.Fronts.{SomeFront}
-use Rattle.decl_children.proofs.CommaRows.{whole-reads, read-phrase}
+use Rattle.decl_crossings.proofs.PhraseReads.{whole-reads, read-phrase}
 
 -- what this holds of begins with no symbol that goes on with the form
 abbrev pub Stops : {A : Type 0} → Form A → (A → List Symbol → Type 0) → Type 0

@@ -17,7 +17,8 @@ use Rattle.decl_children.specs.Fronts.{SomeFront, Passes}
 use Rattle.decl_children.specs.Members.{InType, TypeCrowds}
 use Rattle.decl_children.specs.TypeWalks.{TypeEnds}
 use Rattle.decl_children.specs.TopSteps.{TopCrowds, TopEnds}
-use Rattle.decl_children.proofs.CommaRows.{read-phrase, item-starts}
+use Rattle.decl_crossings.proofs.PhraseReads.{read-phrase}
+use Rattle.decl_children.proofs.CommaRows.{item-starts}
 use Rattle.decl_children.proofs.Phrases.{Phrase, paired, turned, at-left, at-right, un-pair, un-turn, un-either}
 use Rattle.decl_children.proofs.ParamEnds.{starts-apart}
 use Rattle.decl_children.proofs.Thens.{then-back, then-as}

@@ -34,7 +34,7 @@ use Rattle.decl_children.specs.Unmodifieds.{count_of, constructs_one, own_of, fi
 use Rattle.decl_children.specs.WalkSteps.{Decides, OneMore, NothingSteps, PlainSteps, FieldsOver}
 use Rattle.decl_children.specs.declared.walks.Step.{Step}
 use Rattle.decl_children.specs.declared.walks.Step.TheVariants as step
-use Rattle.decl_children.proofs.CommaRows.{read-phrase}
+use Rattle.decl_crossings.proofs.PhraseReads.{read-phrase}
 use Rattle.decl_children.proofs.Thens.{then-back, then-as, values-same}
 use Rattle.decl_children.proofs.ThenRows.{HasEnd}
 use Rattle.decl_children.proofs.TypeReads.{params-read, constants-read}

@@ -16,13 +16,13 @@ use crate::types::walk_type;
 use crate::walks::Walk;
 use apt_base::NoMemory;
 use decl_grammar::{NameAt, ReadFault, Symbol};
-use decl_limits::count_separators;
+use decl_limits::most_separators;
 use decl_types::{package_of, type_modifiers_of};
 use decl_values::{imports_of, is_next};
 use std::alloc::Global;
 
-// Where no more symbols than these separate, no child list is too long.
-const FEW: usize = 65_532;
+// Where no more symbols than these separate within the same braces, no child list is too long.
+const FEW: usize = 32_765;
 
 // A type with its modifiers, or a `;`.
 fn walk_top<'a, 's>(
@@ -92,7 +92,8 @@ pub fn is_crowded(alloc: Global, symbols: &[Symbol<'_>]) -> Result<bool, NoMemor
     requires { (n : ℕ) × BeginsPhrase ordinary symbols.now n }
     ensures { Tells (IsCrowded symbols.now) result }
 {
-    if count_separators(symbols) <= FEW {
+    let most = most_separators(alloc, symbols)?;
+    if most <= FEW {
         return Ok(false);
     }
     let room = symbols.len() * 3;

@@ -25,7 +25,7 @@ use Rattle.decl_turns.specs.Turns.{next_at}
 use Rattle.decl_turns.proofs.Chosen.{chosen}
 use Rattle.decl_limits.specs.Children.{blank}
 use Rattle.decl_limits.specs.Separators.{separators}
-use Rattle.decl_limits.proofs.Counted.{none-there, one-there}
+use Rattle.decl_limits.proofs.Separated.{none-there, one-there}
 use Rattle.decl_limits.proofs.FewFields.{rest-fewer}
 use Rattle.decl_crossings.specs.Crossings.{SomeFront, closed, Declares, behind_rest, RestCrosses}
 use Rattle.decl_crossings.proofs.Splits.{last-of}

@@ -19,7 +19,7 @@ use Rattle.decl_grammar.specs.File.{IsPhrase}
 use Rattle.decl_turns.specs.States.{after_of, part_at}
 use Rattle.decl_turns.specs.Turns.{next_at}
 use Rattle.decl_limits.specs.Separators.{separators}
-use Rattle.decl_limits.proofs.Counted.{both-there}
+use Rattle.decl_limits.proofs.Separated.{both-there}
 use Rattle.decl_limits.proofs.FewFields.{rest-fewer}
 use Rattle.decl_crossings.specs.Crossings.{closed, EndCrosses, FieldCrosses, RestCrosses}
 use Rattle.decl_crossings.specs.Steps.{Alike, within_type, value_ends}

@@ -3,8 +3,13 @@ use Rattle.std.specs.Prelude.{◌≡◌, ℕ, ◌<◌, ◌-◌, Bool, true, fals
 use Rattle.decl_grammar.specs.declared.symbol.Symbol.{Symbol}
 use Rattle.decl_grammar.specs.Reading.{Outcome, done}
 use Rattle.decl_grammar.specs.Form.{assigned, between, colons, ends}
+use Rattle.decl_turns.specs.declared.states.Before.{Before}
 use Rattle.decl_turns.specs.declared.states.Before.TheVariants as before
+use Rattle.decl_turns.specs.declared.states.Place.TheVariants as places
+use Rattle.decl_turns.specs.declared.states.Leave.TheVariants as leaves
+use Rattle.decl_turns.specs.declared.states.Next.{Next}
 use Rattle.decl_turns.specs.States.{after_of}
+use Rattle.decl_turns.specs.Turns.{next_at}
 use Rattle.decl_crossings.specs.declared.spots.Spot.{Spot}
 use Rattle.decl_crossings.specs.declared.spots.Spot.TheVariants as spot
 use Rattle.decl_crossings.specs.declared.spots.Step.{Step}
@@ -21,6 +26,10 @@ IfTold p false = p → ⊥
 abbrev pub Tells : {E : Type 0} → Type 0 → Result Bool E → Type 0
 Tells p (Ok b) = IfTold p b
 Tells p (Err e) = Unit {0}
+
+-- how an initialiser goes on behind this
+abbrev pub next_within : Before → List Symbol → Next
+next_within before ts = next_at places.Assigned leaves.Anywhere before ts
 
 -- what ends an initialiser
 abbrev pub value_ends : List ℕ

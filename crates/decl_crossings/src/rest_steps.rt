@@ -1,12 +1,9 @@
 // Steps within an initialiser.
 ghost use Rattle.std.specs.Prelude.{◌≡◌, ◌≤◌, ◌*◌, length};
-ghost use Rattle.decl_turns.specs.declared.states.Place.TheVariants as places;
-ghost use Rattle.decl_turns.specs.declared.states.Leave.TheVariants as leaves;
 ghost use Rattle.decl_turns.specs.declared.states.Next.TheVariants as nexts;
 ghost use Rattle.decl_turns.specs.States.{after_of};
-ghost use Rattle.decl_turns.specs.Turns.{next_at};
 ghost use Rattle.decl_crossings.specs.Crossings.{RestCrosses};
-ghost use Rattle.decl_crossings.specs.Steps.{StepsTo, TypeStep};
+ghost use Rattle.decl_crossings.specs.Steps.{StepsTo, TypeStep, next_within};
 
 use crate::field_steps::end_step;
 use crate::parts::behind_part;
@@ -27,7 +24,7 @@ fn part_step<'a, 's>(
     behind: Before,
     symbols: &'s [Symbol<'a>],
 ) -> Result<Step<'a, 's>, ReadFault>
-    requires chosen { next_at places.Assigned leaves.Anywhere before symbols.now ≡ nexts.Part piece turn behind }
+    requires chosen { next_within before symbols.now ≡ nexts.Part piece turn behind }
     requires room { 3 * length symbols.now ≤ room }
     ensures { StepsTo left (RestCrosses left (after_of before) symbols.now) symbols.now result }
 {
@@ -57,7 +54,7 @@ fn two_step<'a, 's>(
     before: Before,
     symbols: &'s [Symbol<'a>],
 ) -> Result<Step<'a, 's>, ReadFault>
-    requires chosen { next_at places.Assigned leaves.Anywhere before symbols.now ≡ nexts.Two }
+    requires chosen { next_within before symbols.now ≡ nexts.Two }
     requires room { 3 * length symbols.now ≤ room }
     ensures { StepsTo left (RestCrosses left (after_of before) symbols.now) symbols.now result }
 {

@@ -1,68 +1,58 @@
--- A type has the `}` that closes it.
-use Rattle.std.proofs.Common.{ℕ, zero, suc, ◌≤◌, List, [], ◌∷◌, refl, arith}
+-- A type has the `}` that closes it, and a separator for each of its type parameters but the first one.
+use Rattle.std.proofs.Common.{ℕ, zero, suc, List, [], ◌∷◌, refl, ap, arith}
 use Rattle.decl_tree.specs.declared.declaration.TypeKind.{TypeKind}
 use Rattle.decl_tree.specs.declared.declaration.TypeKind.TheVariants as kind
 use Rattle.decl_grammar.specs.declared.symbol.Symbol.{Symbol}
 use Rattle.decl_grammar.specs.declared.written.MemberAt.{MemberAt}
 use Rattle.decl_grammar.specs.declared.written.TypeRest.{TypeRest}
 use Rattle.decl_grammar.specs.Symbols.{at_interface}
-use Rattle.decl_grammar.specs.Form.{nested_type, terminal, turn, many, nest, Is}
-use Rattle.decl_grammar.specs.Types.{keyword, sign, name_at, optional_params}
+use Rattle.decl_grammar.specs.Form.{nested_type, terminal, pair, turn, many, nest, Is}
+use Rattle.decl_grammar.specs.Types.{keyword, sign, before, name_at}
 use Rattle.decl_grammar.specs.Grammar.{constants, enum_members, joined_lists, member_form, members_in, superclass, implemented, extended, class_form, interface_form, annotation_form, enum_form, type_rest}
 use Rattle.decl_grammar.specs.Rule.{WholeAt}
-use Rattle.decl_limits.specs.Separators.{separators}
-use Rattle.decl_limits.proofs.Counted.{AtLeast, none, one, weaker, in-pair, in-behind, in-before, in-either, nest-zero, nest-suc}
+use Rattle.decl_limits.proofs.Scans.{Adds, adds-less}
+use Rattle.decl_limits.proofs.EvenForms.{even, members-close}
+use Rattle.decl_limits.proofs.Counted.{AtLeast, at-least, none, weaker, in-braced, in-pair, in-behind, in-either, nest-zero, nest-suc}
+use Rattle.decl_limits.proofs.FewParams.{further, optional-least}
 
-abbrev members_closed : List MemberAt → ℕ
-members_closed ms = 1
+members-closed : (h : ℕ) (k : TypeKind) → AtLeast h (members_in k) (λ ms. 1)
+members-closed h k = in-braced h (before (turn joined_lists (many (member_form k))) (sign 3)) (members-close k)
 
-members-closed : (h : ℕ) (k : TypeKind) → AtLeast h (members_in k) members_closed
-members-closed h k =
-    weaker members_closed (in-behind 0 (none h (sign 2)) (in-before 1 (none h (turn joined_lists (many (member_form k)))) (one h 3 refl))) (λ ms. omega arith)
+abbrev pub closed : TypeRest → ℕ
+closed x = suc (further x.parameters)
 
-abbrev closed : TypeRest → ℕ
-closed x = 1
-
-class-there : (h : ℕ) (ts : List Symbol) (x : TypeRest) → Is (WholeAt h) class_form ts x → 1 ≤ separators ts
+class-added : (h : ℕ) (ts : List Symbol) (x : TypeRest) → Is (WholeAt h) class_form ts x → Adds ts (closed x)
 unfolding class_form
-class-there h ts x is =
-    let p = in-behind 0 (none h (keyword 8)) (in-pair (none h name_at) (in-pair (none h optional_params) (in-pair (none h superclass) (in-pair (none h implemented) (members-closed h kind.Class))))) in
-    omega (arith, p.there ts is.0 is.1)
+class-added h ts x is =
+    let heading = in-pair (none h superclass even.superclass_even) (in-pair (none h implemented even.implemented_even) (members-closed h kind.Class)) in
+    let p = in-behind 0 (none h (keyword 8) refl) (in-pair (none h name_at even.name_at_even) (in-pair (optional-least h) heading)) in
+    adds-less (p.added ts is.0 is.1) (omega (arith, ap closed is.2))
 
-interface-there : (h : ℕ) (ts : List Symbol) (x : TypeRest) → Is (WholeAt h) interface_form ts x → 1 ≤ separators ts
+interface-added : (h : ℕ) (ts : List Symbol) (x : TypeRest) → Is (WholeAt h) interface_form ts x → Adds ts (closed x)
 unfolding interface_form
-interface-there h ts x is =
-    let p = in-behind 0 (none h (keyword 27)) (in-pair (none h name_at) (in-pair (none h optional_params) (in-pair (none h extended) (members-closed h kind.Interface)))) in
-    omega (arith, p.there ts is.0 is.1)
+interface-added h ts x is =
+    let heading = in-pair (none h extended even.extended_even) (members-closed h kind.Interface) in
+    let p = in-behind 0 (none h (keyword 27) refl) (in-pair (none h name_at even.name_at_even) (in-pair (optional-least h) heading)) in
+    adds-less (p.added ts is.0 is.1) (omega (arith, ap closed is.2))
 
-annotation-there : (h : ℕ) (ts : List Symbol) (x : TypeRest) → Is (WholeAt h) annotation_form ts x → 1 ≤ separators ts
+annotation-added : (h : ℕ) (ts : List Symbol) (x : TypeRest) → Is (WholeAt h) annotation_form ts x → Adds ts (closed x)
 unfolding annotation_form
-annotation-there h ts x is =
-    let p = in-behind 0 (none h (terminal (at_interface ∷ []))) (in-behind 0 (none h (keyword 27)) (in-pair (none h name_at) (members-closed h kind.AnnotationType))) in
-    omega (arith, p.there ts is.0 is.1)
+annotation-added h ts x is =
+    let named = in-pair (none h name_at even.name_at_even) (members-closed h kind.AnnotationType) in
+    let p = in-behind 0 (none h (terminal (at_interface ∷ [])) refl) (in-behind 0 (none h (keyword 27) refl) named) in
+    adds-less (p.added ts is.0 is.1) (omega (arith, ap closed is.2))
 
-enum-there : (h : ℕ) (ts : List Symbol) (x : TypeRest) → Is (WholeAt h) enum_form ts x → 1 ≤ separators ts
+enum-added : (h : ℕ) (ts : List Symbol) (x : TypeRest) → Is (WholeAt h) enum_form ts x → Adds ts (closed x)
 unfolding enum_form
-enum-there h ts x is =
-    let p = in-behind 0 (none h (keyword 15)) (in-pair (none h name_at) (in-pair (none h implemented) (in-behind 0 (none h (sign 2)) (in-pair (none h constants) (in-before 1 (none h enum_members) (one h 3 refl)))))) in
-    omega (arith, p.there ts is.0 is.1)
+enum-added h ts x is =
+    let braced = in-braced h (pair constants (before enum_members (sign 3))) even.enum_closes in
+    let p = in-behind 0 (none h (keyword 15) refl) (in-pair (none h name_at even.name_at_even) (in-pair (none h implemented even.implemented_even) braced)) in
+    adds-less (p.added ts is.0 is.1) (omega (arith, ap closed is.2))
 
-class-closed : (h : ℕ) → AtLeast h class_form closed
-class-closed h = record { there = class-there h }
-
-interface-closed : (h : ℕ) → AtLeast h interface_form closed
-interface-closed h = record { there = interface-there h }
-
-annotation-closed : (h : ℕ) → AtLeast h annotation_form closed
-annotation-closed h = record { there = annotation-there h }
-
-enum-closed : (h : ℕ) → AtLeast h enum_form closed
-enum-closed h = record { there = enum-there h }
-
-rest-closed : (h : ℕ) → AtLeast h type_rest closed
+pub rest-closed : (h : ℕ) → AtLeast h type_rest closed
 unfolding type_rest
-rest-closed h = in-either (class-closed h) (in-either (interface-closed h) (in-either (annotation-closed h) (enum-closed h)))
+rest-closed h = in-either (at-least (class-added h)) (in-either (at-least (interface-added h)) (in-either (at-least (annotation-added h)) (at-least (enum-added h))))
 
 pub type-closed : (h : ℕ) → AtLeast h (nest nested_type) (λ x. 1)
-type-closed zero = nest-zero nested_type closed
-type-closed (suc h) = nest-suc h nested_type closed (rest-closed h)
+type-closed zero = nest-zero nested_type (λ x. 1)
+type-closed (suc h) = nest-suc h nested_type (λ x. 1) (weaker (λ x. 1) (rest-closed h) (λ x. omega arith))

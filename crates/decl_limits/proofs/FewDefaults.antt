@@ -24,18 +24,18 @@ value_ended x = 1
 
 squares-least : (h : ℕ) → AtLeast h (value_squares defaulted) (behind_row defaulted)
 unfolding value_squares
-squares-least h = step-least defaulted h (rows-least h) (bracketed (operator 4 ∷ [])) strict between
+squares-least h = step-least defaulted h (rows-least h) (bracketed (operator 4 ∷ [])) refl strict between
 
 expression-least : (h : ℕ) → AtLeast h (expression defaulted) (behind_row defaulted)
 expression-least h =
-    in-either (told-least defaulted h (rows-least h) (first_names defaulted) strict between)
+    in-either (told-least defaulted h (rows-least h) (first_names defaulted) refl strict between)
     (in-either (less-least defaulted h (rows-least h) strict between) (in-either (plain-dots-least defaulted h (rows-least h) strict) (squares-least h)))
 
 value-least : (h : ℕ) → AtLeast h (value_form defaulted) value_ended
 unfolding value_form value_of
 value-least h =
-    in-either (weaker value_ended (in-pair (none h (nest array_value)) (rows-least h).end) (λ x. omega arith))
-    (in-either (in-turn annotation_there value_ended (in-pair (none h (nest nested_annotation)) (rows-least h).end) (λ x. omega arith))
+    in-either (weaker value_ended (in-pair (none h (nest array_value) refl) (rows-least h).end) (λ x. omega arith))
+    (in-either (in-turn annotation_there value_ended (in-pair (none h (nest nested_annotation) refl) (rows-least h).end) (λ x. omega arith))
     (in-turn value_there value_ended (expression-least h) (λ x. omega arith)))
 
 value-row : (h : ℕ) → AtLeast h (nest (value_and_rest defaulted)) value_ended
@@ -49,4 +49,4 @@ pub element-end-least : (h : ℕ) → AtLeast h element_end (λ o. 1)
 unfolding element_end
 element-end-least h =
     in-either (in-turn no_default end_there (one h 6 refl) (λ s. omega arith))
-    (in-turn some_default end_there (in-behind 0 (none h (keyword 11)) (value-row h)) (λ x. omega arith))
+    (in-turn some_default end_there (in-behind 0 (none h (keyword 11) refl) (value-row h)) (λ x. omega arith))

@@ -6,6 +6,7 @@ use Rattle.decl_grammar.specs.Form.{Freedom, After, names, assigned, anywhere, b
 use Rattle.decl_grammar.specs.Types.{sign, name_at, dim}
 use Rattle.decl_grammar.specs.Expressions.{expression, declarator_first, no_declarators, without_value, value_or_end, assigned_end, constant_alone, initialised, kept_alone, initialiser_form}
 use Rattle.decl_limits.proofs.Counted.{AtLeast, none, one, weaker, in-pair, in-turn, in-behind, in-before, in-either, in-attempt, nest-zero, nest-suc}
+use Rattle.decl_limits.proofs.EvenForms.{even}
 use Rattle.decl_limits.proofs.FewRows.{ended, behind_row, Rows, told-least, signs-least, other-least, any-least}
 
 abbrev pub behind_value : Option ValueText × List Declarator → ℕ
@@ -17,10 +18,10 @@ record FieldRows (h : ℕ) : Type 0 where
 
 constant-least : (h : ℕ) → AtLeast h (turn kept_alone constant_alone) behind_value
 unfolding constant_alone
-constant-least h = in-turn kept_alone behind_value (in-before 1 (none h _) (one h 6 refl)) (λ ss. omega arith)
+constant-least h = in-turn kept_alone behind_value (in-before 1 (none h _ refl) (one h 6 refl)) (λ ss. omega arith)
 
 expression-least : (h : ℕ) → Rows assigned h → AtLeast h (expression assigned) (behind_row assigned)
-expression-least h rows = in-either (told-least assigned h rows names anywhere between) (in-either (signs-least assigned h rows anywhere between) (other-least assigned h rows anywhere))
+expression-least h rows = in-either (told-least assigned h rows names refl anywhere between) (in-either (signs-least assigned h rows anywhere between) (other-least assigned h rows anywhere))
 
 initialiser-least : (h : ℕ) → Rows assigned h → AtLeast h initialiser_form behind_value
 unfolding initialiser_form
@@ -29,13 +30,13 @@ initialiser-least h rows = in-attempt (constant-least h) (in-turn initialised be
 value-least : (h : ℕ) → FieldRows h → AtLeast h value_or_end behind_value
 unfolding value_or_end
 value-least h fields =
-    in-either (weaker behind_value (in-behind 0 (none h (sign 12)) fields.first) (λ x. omega arith))
+    in-either (weaker behind_value (in-behind 0 (none h (sign 12) refl) fields.first) (λ x. omega arith))
     (in-turn without_value behind_value fields.rows.end (λ ds. omega arith))
 
 -- a further field: its name, and what stands behind that
 further-least : (h : ℕ) → FieldRows h → AtLeast h (turn declarator_first (pair name_at (pair (many dim) value_or_end))) length
 further-least h fields =
-    in-turn declarator_first length (in-pair (none h name_at) (in-pair (none h (many dim)) (value-least h fields))) (λ x. omega arith)
+    in-turn declarator_first length (in-pair (none h name_at even.name_at_even) (in-pair (none h (many dim) even.dims_even) (value-least h fields))) (λ x. omega arith)
 
 end-least : (h : ℕ) → FieldRows h → AtLeast h assigned_end (ended assigned)
 unfolding assigned_end

@@ -25,14 +25,15 @@ use Rattle.decl_grammar.specs.declared.written.TypeParamAt.{TypeParamAt}
 use Rattle.decl_grammar.specs.declared.written.Unmodified.{Unmodified}
 use Rattle.decl_grammar.specs.declared.written.Signature.{Signature}
 use Rattle.decl_grammar.specs.declared.written.Unmodified.TheVariants as unmodified
-use Rattle.decl_grammar.specs.Form.{Form, plain_modifiers, static_word, turn, many, nest, Is}
+use Rattle.decl_grammar.specs.Form.{Form, type_arguments, plain_modifiers, static_word, pair, turn, maybe, many, nest, Is}
 use Rattle.decl_grammar.specs.Constants.{named_part_of, type_of}
-use Rattle.decl_grammar.specs.Types.{keyword, sign, silently, name_at, dim, annotation, annotations, optional_modifiers}
-use Rattle.decl_grammar.specs.Grammar.{thrown, block, body, declaration_of, in_dims, member_at, type_lines, plain_type_params, plain_params, method_of, constructor_of, Named, Typed, doc_of, first_doc, field_of, method_signature, constructor_signature, element_signature, method_named, fields_named, field_rest, member_rest, rest_form, typed_member, constructed, constructed_or, typed_form, void_named, void_method, primitive_member, named_member, with_type_params, generic_of, generic_method, annotated_method, generic_rest, generic, Modified, bare, nothing_here, with_static, static_rest, plain_modified, class_modified, modified, no_member, documented_members, members_of, member_from, nested_member, unmodified_of, annotation_unmodified, modified_form, or_block, member_form, joined_lists}
+use Rattle.decl_grammar.specs.Types.{keyword, sign, silently, name_at, next_part, primitive_type, dim, annotation, annotations, optional_modifiers}
+use Rattle.decl_grammar.specs.Grammar.{primitive_of_dims, thrown, block, body, declaration_of, in_dims, member_at, type_lines, plain_type_params, plain_params, method_of, constructor_of, Named, Typed, doc_of, first_doc, field_of, method_signature, constructor_signature, element_signature, method_named, fields_named, field_rest, member_rest, rest_form, typed_member, constructed, constructed_or, typed_form, void_named, void_method, primitive_member, named_member, with_type_params, generic_of, generic_method, annotated_method, generic_rest, generic, Modified, bare, nothing_here, with_static, static_rest, plain_modified, class_modified, modified, no_member, documented_members, members_of, member_from, nested_member, unmodified_of, annotation_unmodified, modified_form, or_block, member_form, joined_lists}
 use Rattle.decl_grammar.specs.Rule.{WholeAt}
-use Rattle.decl_limits.proofs.Counted.{AtLeast, both-there, none, one, in-braces, weaker, in-pair, in-turn, in-behind, in-before, in-either, in-row, in-seen}
+use Rattle.decl_limits.proofs.EvenForms.{even}
+use Rattle.decl_limits.proofs.Counted.{AtLeast, at-least, none, one, in-braces, weaker, in-pair, in-turn, in-behind, in-before, in-either, in-row, in-seen}
 use Rattle.decl_limits.specs.Children.{own_children}
-use Rattle.decl_limits.specs.Separators.{separators}
+use Rattle.decl_limits.proofs.Scans.{Adds, adds-less, adds-both}
 use Rattle.decl_limits.proofs.FewFields.{value-fewer}
 use Rattle.decl_limits.proofs.FewDefaults.{element-end-least}
 use Rattle.decl_limits.proofs.ClosedTypes.{type-closed}
@@ -139,32 +140,32 @@ body-least : (h : ℕ) → AtLeast h body (λ v. 1)
 unfolding body
 body-least h = in-either (in-braces h) (in-turn silently (λ v. 1) (one h 6 refl) (λ s. omega arith))
 
-method-there : (h : ℕ) (ts : List Symbol) (s : Signature) → Is (WholeAt h) method_signature ts s → in_signature s ≤ separators ts
+method-added : (h : ℕ) (ts : List Symbol) (s : Signature) → Is (WholeAt h) method_signature ts s → Adds ts (in_signature s)
 unfolding method_signature
-method-there h ts s is =
-    let p = in-pair (params-least h) (in-pair (none h (many dim)) (in-before 1 (none h thrown) (body-least h))) in
-    omega (arith, p.there ts is.0 is.1, ap in_signature is.2)
+method-added h ts s is =
+    let p = in-pair (params-least h) (in-pair (none h (many dim) even.dims_even) (in-before 1 (none h thrown even.thrown_even) (body-least h))) in
+    adds-less (p.added ts is.0 is.1) (omega (arith, ap in_signature is.2))
 
 method-signature-least : (h : ℕ) → AtLeast h method_signature in_signature
-method-signature-least h = record { there = method-there h }
+method-signature-least h = at-least (method-added h)
 
-constructor-there : (h : ℕ) (ts : List Symbol) (s : Signature) → Is (WholeAt h) constructor_signature ts s → in_signature s ≤ separators ts
+constructor-added : (h : ℕ) (ts : List Symbol) (s : Signature) → Is (WholeAt h) constructor_signature ts s → Adds ts (in_signature s)
 unfolding constructor_signature
-constructor-there h ts s is =
-    let p = in-pair (params-least h) (in-before 1 (none h thrown) (in-braces h)) in
-    omega (arith, p.there ts is.0 is.1, ap in_signature is.2)
+constructor-added h ts s is =
+    let p = in-pair (params-least h) (in-before 1 (none h thrown even.thrown_even) (in-braces h)) in
+    adds-less (p.added ts is.0 is.1) (omega (arith, ap in_signature is.2))
 
 constructor-least : (h : ℕ) → AtLeast h constructor_signature in_signature
-constructor-least h = record { there = constructor-there h }
+constructor-least h = at-least (constructor-added h)
 
-element-there : (h : ℕ) (ts : List Symbol) (s : Signature) → Is (WholeAt h) element_signature ts s → in_signature s ≤ separators ts
+element-added : (h : ℕ) (ts : List Symbol) (s : Signature) → Is (WholeAt h) element_signature ts s → Adds ts (in_signature s)
 unfolding element_signature
-element-there h ts s is =
-    let p = in-behind 0 (none h (sign 0)) (in-behind 0 (none h (sign 1)) (in-pair (none h (many dim)) (element-end-least h))) in
-    omega (arith, p.there ts is.0 is.1, ap in_signature is.2)
+element-added h ts s is =
+    let p = in-behind 0 (none h (sign 0) refl) (in-behind 0 (none h (sign 1) refl) (in-pair (none h (many dim) even.dims_even) (element-end-least h))) in
+    adds-less (p.added ts is.0 is.1) (omega (arith, ap in_signature is.2))
 
 element-least : (h : ℕ) → AtLeast h element_signature in_signature
-element-least h = record { there = element-there h }
+element-least h = at-least (element-added h)
 
 -- ---- behind the name of a member, whatever its type and its name are
 
@@ -178,7 +179,7 @@ member-rest-least : (h : ℕ) (of : TypeText) (n : NameAt) (signature : Form Sig
 unfolding field_rest
 member-rest-least h of n signature p =
     in-either (named-least-of h of n signature p)
-    (in-turn fields_named (named_items of n) (in-pair (none h (many dim)) (value-fewer h)) (λ v. omega arith))
+    (in-turn fields_named (named_items of n) (in-pair (none h (many dim) even.dims_even) (value-fewer h)) (λ v. omega arith))
 
 rest-least : (h : ℕ) (of : TypeText) (n : NameAt) (rest : MemberRest) → AtLeast h (rest_form rest) (named_items of n)
 rest-least h of n rest_kind.Any = member-rest-least h of n method_signature (method-signature-least h)
@@ -190,20 +191,24 @@ rest-least h of n rest_kind.Element = member-rest-least h of n element_signature
 abbrev typed_items : NameAt → Typed → ℕ
 typed_items n g = items_of (g n)
 
-typed-there : (h : ℕ) (first : NameAt) (rest : MemberRest) (ts : List Symbol) (g : Typed) → Is (WholeAt h) (typed_member rest) ts g → typed_items first g ≤ separators ts
+typed-added : (h : ℕ) (first : NameAt) (rest : MemberRest) (ts : List Symbol) (g : Typed) → Is (WholeAt h) (typed_member rest) ts g → Adds ts (typed_items first g)
 unfolding typed_member
-typed-there h first rest ts g is =
+typed-added h first rest ts g is =
     let v = is.0 in
     let arguments = is.1 in
     let parts = arguments.4 in
     let dims = parts.4 in
     let named = dims.4 in
     let of = type_of (base.Named (named_part_of first.name v.0 ∷ v.1.0)) v.1.1.0 in
-    let le = (rest-least h of v.1.1.1.0 rest).there named.1 v.1.1.1.1 named.4 in
-    omega (arith, le, ap (typed_items first) is.2, both-there ts arguments.0 arguments.1 arguments.2, both-there arguments.1 parts.0 parts.1 parts.2, both-there parts.1 dims.0 dims.1 dims.2, both-there dims.1 named.0 named.1 named.2)
+    let behind-name = (rest-least h of v.1.1.1.0 rest).added named.1 v.1.1.1.1 named.4 in
+    let from-name = adds-both named.2 ((none h name_at even.name_at_even).added named.0 v.1.1.1.0 named.3) behind-name in
+    let from-dims = adds-both dims.2 ((none h (many dim) even.dims_even).added dims.0 v.1.1.0 dims.3) from-name in
+    let from-parts = adds-both parts.2 ((none h (many next_part) even.parts_even).added parts.0 v.1.0 parts.3) from-dims in
+    let whole = adds-both arguments.2 ((none h (maybe (nest type_arguments)) refl).added arguments.0 v.0 arguments.3) from-parts in
+    adds-less whole (omega (arith, ap (typed_items first) is.2))
 
 typed-least : (h : ℕ) (first : NameAt) (rest : MemberRest) → AtLeast h (typed_member rest) (typed_items first)
-typed-least h first rest = record { there = typed-there h first rest }
+typed-least h first rest = at-least (typed-added h first rest)
 
 constructed-least : (h : ℕ) (first : NameAt) (rest : MemberRest) → AtLeast h (constructed_or rest) (typed_items first)
 unfolding constructed_or
@@ -218,30 +223,33 @@ typed-form-least h first false rest = typed-least h first rest
 
 void-least : (h : ℕ) → AtLeast h void_method items_of
 unfolding void_method
-void-least h = in-turn void_named items_of (in-behind 0 (none h (keyword 47)) (in-pair (none h name_at) (method-signature-least h))) (λ x. omega arith)
+void-least h = in-turn void_named items_of (in-behind 0 (none h (keyword 47) refl) (in-pair (none h name_at even.name_at_even) (method-signature-least h))) (λ x. omega arith)
 
-primitive-there : (h : ℕ) (rest : MemberRest) (ts : List Symbol) (u : Unmodified) → Is (WholeAt h) (primitive_member rest) ts u → items_of u ≤ separators ts
+primitive-added : (h : ℕ) (rest : MemberRest) (ts : List Symbol) (u : Unmodified) → Is (WholeAt h) (primitive_member rest) ts u → Adds ts (items_of u)
 unfolding primitive_member
-primitive-there h rest ts u is =
+primitive-added h rest ts u is =
     let v = is.0 in
     let typed = is.1 in
     let named = typed.4 in
-    let le = (rest-least h v.0 v.1.0 rest).there named.1 v.1.1 named.4 in
-    omega (arith, le, ap items_of is.2, both-there ts typed.0 typed.1 typed.2, both-there typed.1 named.0 named.1 named.2)
+    let behind-name = (rest-least h v.0 v.1.0 rest).added named.1 v.1.1 named.4 in
+    let from-name = adds-both named.2 ((none h name_at even.name_at_even).added named.0 v.1.0 named.3) behind-name in
+    let whole = adds-both typed.2 ((none h (turn primitive_of_dims (pair primitive_type (many dim))) even.primitive_even).added typed.0 v.0 typed.3) from-name in
+    adds-less whole (omega (arith, ap items_of is.2))
 
 primitive-least : (h : ℕ) (rest : MemberRest) → AtLeast h (primitive_member rest) items_of
-primitive-least h rest = record { there = primitive-there h rest }
+primitive-least h rest = at-least (primitive-added h rest)
 
-named-there : (h : ℕ) (constructors : Bool) (rest : MemberRest) (ts : List Symbol) (u : Unmodified) → Is (WholeAt h) (named_member constructors rest) ts u → items_of u ≤ separators ts
+named-added : (h : ℕ) (constructors : Bool) (rest : MemberRest) (ts : List Symbol) (u : Unmodified) → Is (WholeAt h) (named_member constructors rest) ts u → Adds ts (items_of u)
 unfolding named_member
-named-there h constructors rest ts u is =
+named-added h constructors rest ts u is =
     let v = is.0 in
     let named = is.1 in
-    let le = (typed-form-least h v.0 constructors rest).there named.1 v.1 named.4 in
-    omega (arith, le, ap items_of is.2, both-there ts named.0 named.1 named.2)
+    let behind-name = (typed-form-least h v.0 constructors rest).added named.1 v.1 named.4 in
+    let whole = adds-both named.2 ((none h name_at even.name_at_even).added named.0 v.0 named.3) behind-name in
+    adds-less whole (omega (arith, ap items_of is.2))
 
 named-least : (h : ℕ) (constructors : Bool) (rest : MemberRest) → AtLeast h (named_member constructors rest) items_of
-named-least h constructors rest = record { there = named-there h constructors rest }
+named-least h constructors rest = at-least (named-added h constructors rest)
 
 method-least : (h : ℕ) → AtLeast h generic_method items_of
 unfolding generic_method
@@ -250,7 +258,7 @@ method-least h = in-either (void-least h) (in-either (primitive-least h rest_kin
 annotated-least : (h : ℕ) → AtLeast h annotated_method items_of
 unfolding annotated_method
 annotated-least h =
-    weaker items_of (in-behind 0 (none h annotation) (in-behind 0 (none h annotations) (method-least h))) (λ u. omega arith)
+    weaker items_of (in-behind 0 (none h annotation even.annotation_even) (in-behind 0 (none h annotations even.annotations_even) (method-least h))) (λ u. omega arith)
 
 generic-rest-least : (h : ℕ) (constructors : Bool) → AtLeast h (generic_rest constructors) items_of
 unfolding generic_rest
@@ -283,20 +291,20 @@ modified_items x = items_of x.1
 static-least : (h : ℕ) (f : Form Unmodified) → AtLeast h f items_of → AtLeast h (static_rest f) modified_items
 unfolding static_rest
 static-least h f p =
-    in-either (in-turn nothing_here modified_items (none h block) (λ v. omega arith))
-    (in-turn with_static modified_items (in-pair (none h optional_modifiers) p) (λ x. omega arith))
+    in-either (in-turn nothing_here modified_items (none h block refl) (λ v. omega arith))
+    (in-turn with_static modified_items (in-pair (none h optional_modifiers even.modifiers_even) p) (λ x. omega arith))
 
 plain-least : (h : ℕ) (f : Form Unmodified) → AtLeast h f items_of → AtLeast h (plain_modified f) modified_items
 unfolding plain_modified
-plain-least h f p = weaker modified_items (in-pair (none h (nest plain_modifiers)) p) (λ x. omega arith)
+plain-least h f p = weaker modified_items (in-pair (none h (nest plain_modifiers) refl) p) (λ x. omega arith)
 
 class-least : (h : ℕ) (f : Form Unmodified) → AtLeast h f items_of → AtLeast h (class_modified f) modified_items
 class-least h f p =
     in-either (in-turn bare modified_items p (λ u. omega arith))
-    (in-either (plain-least h f p) (weaker modified_items (in-behind 0 (none h (nest static_word)) (static-least h f p)) (λ x. omega arith)))
+    (in-either (plain-least h f p) (weaker modified_items (in-behind 0 (none h (nest static_word) refl) (static-least h f p)) (λ x. omega arith)))
 
 any-modified : (h : ℕ) (f : Form Unmodified) → AtLeast h f items_of → AtLeast h (modified f) modified_items
-any-modified h f p = weaker modified_items (in-pair (none h optional_modifiers) p) (λ x. omega arith)
+any-modified h f p = weaker modified_items (in-pair (none h optional_modifiers even.modifiers_even) p) (λ x. omega arith)
 
 modified-least : (h : ℕ) (k : TypeKind) → AtLeast h (modified_form k) modified_items
 unfolding modified_form
@@ -309,7 +317,7 @@ documented-least : (h : ℕ) (k : TypeKind) → AtLeast h (member_from (modified
 documented-least h k = in-turn documented_members weights (in-seen first_doc (modified-least h k)) (λ x. omega (arith, items-given x.0 x.1.0 x.1.1))
 
 block-least : (h : ℕ) → AtLeast h (turn no_member block) weights
-block-least h = in-turn no_member weights (none h block) (λ v. omega arith)
+block-least h = in-turn no_member weights (none h block refl) (λ v. omega arith)
 
 or-block-least : (h : ℕ) (k : TypeKind) → AtLeast h (or_block k (member_from (modified_form k))) weights
 or-block-least h kind.Enum = in-either (block-least h) (documented-least h kind.Enum)
@@ -319,7 +327,7 @@ or-block-least h kind.Interface = documented-least h kind.Interface
 
 pub member-least : (h : ℕ) (k : TypeKind) → AtLeast h (member_form k) weights
 unfolding member_form
-member-least h k = in-either (in-turn no_member weights (none h (sign 6)) (λ s. omega arith)) (or-block-least h k)
+member-least h k = in-either (in-turn no_member weights (none h (sign 6) refl) (λ s. omega arith)) (or-block-least h k)
 
 -- how many items some members give together
 abbrev pub all_items : List (List MemberAt) → ℕ

@@ -16,8 +16,10 @@ use Rattle.decl_grammar.specs.Form.{ParamRest, Form, enum_rest, param_rest, firs
 use Rattle.decl_grammar.specs.Types.{keyword, sign, list_or_none, first_and_rest, name_at, annotation, annotations, one_and_rest, no_values, base_type, with_marks, type_param, next_type_param, type_params, optional_params}
 use Rattle.decl_grammar.specs.Grammar.{param_modifier, param_modifiers, params_or_none, in_array, ended_last, end_and_rest, param_ended, apply_rest, params_from, next_params, varargs, bracket_rest, annotated_rest, named_end, param_rest_form, receiver, dot_this, with_dims, FirstBehind, dims_and_rest, comma_first, alone_or, behind_first_name, first_named, end_named, first_rest_form, FirstRest, annotated_only, final_and, final_first, plain_first, behind_annotations, first_params, optional_first, params, constant, some_constants, enum_rest_form, constant_list, constants}
 use Rattle.decl_grammar.specs.Rule.{WholeAt}
-use Rattle.decl_limits.specs.Separators.{separators}
-use Rattle.decl_limits.proofs.Counted.{AtLeast, both-there, none, one, weaker, in-pair, in-turn, in-behind, in-before, in-maybe, in-row, in-either, nest-zero, nest-suc}
+use Rattle.decl_limits.proofs.Braces.{level, effect}
+use Rattle.decl_limits.proofs.EvenForms.{even}
+use Rattle.decl_limits.proofs.Scans.{Adds, adds-less, adds-both}
+use Rattle.decl_limits.proofs.Counted.{AtLeast, at-least, none, one, weaker, in-pair, in-turn, in-behind, in-before, in-maybe, in-row, in-either, nest-zero, nest-suc}
 
 abbrev pub listed : {A : Type 0} → Option (List A) → ℕ
 listed o = length (list_or_none o)
@@ -46,17 +48,17 @@ further_listed o = further (list_or_none o)
 
 next-type-param-least : (h : ℕ) → AtLeast h next_type_param (λ p. 1)
 unfolding next_type_param
-next-type-param-least h = weaker (λ p. 1) (in-behind 1 (one h 7 refl) (none h type_param)) (λ p. omega arith)
+next-type-param-least h = weaker (λ p. 1) (in-behind 1 (one h 7 refl) (none h type_param even.type_param_even)) (λ p. omega arith)
 
 row-least : (h : ℕ) → AtLeast h (turn first_and_rest (pair type_param (many next_type_param))) further
 row-least h =
     in-turn (first_and_rest {A = TypeParamAt}) further
-    (in-pair (none h type_param) (in-row length (next-type-param-least h) refl (λ x xs. omega arith)))
+    (in-pair (none h type_param even.type_param_even) (in-row length (next-type-param-least h) refl (λ x xs. omega arith)))
     (λ x. omega arith)
 
 pub type-params-least : (h : ℕ) → AtLeast h type_params further
 unfolding type_params
-type-params-least h = weaker further (in-behind 0 (none h (sign 14)) (in-before 0 (row-least h) (none h (sign 13)))) (λ ps. omega arith)
+type-params-least h = weaker further (in-behind 0 (none h (sign 14) refl) (in-before 0 (row-least h) (none h (sign 13) refl))) (λ ps. omega arith)
 
 pub optional-least : (h : ℕ) → AtLeast h optional_params further
 unfolding optional_params
@@ -107,7 +109,7 @@ record ParamRows (h : ℕ) : Type 0 where
 from-least : (h : ℕ) → ParamRows h → AtLeast h params_from further_there
 unfolding params_from
 from-least h rows =
-    in-turn apply_rest further_there (in-pair (none h param_modifiers) (in-pair (none h base_type) rows.later))
+    in-turn apply_rest further_there (in-pair (none h param_modifiers even.param_modifiers_even) (in-pair (none h base_type even.base_type_even) rows.later))
     (λ v. omega (arith, ended-there v.1.1.1.0 v.0 v.1.0 v.1.1.0 v.1.1.1.1))
 
 next-least : (h : ℕ) → ParamRows h → AtLeast h next_params all_there
@@ -119,32 +121,32 @@ some-next h rows = in-maybe some_there (next-least h rows) refl (λ ps. omega ar
 
 bracket-least : (h : ℕ) (rest : Form ParamRest) → AtLeast h rest items_there → AtLeast h (bracket_rest rest) items_there
 bracket-least h rest p =
-    weaker items_there (in-behind 0 (none h (sign 4)) (in-behind 0 (none h (sign 5)) (in-turn in_array items_there p (λ r. omega arith)))) (λ r. omega arith)
+    weaker items_there (in-behind 0 (none h (sign 4) refl) (in-behind 0 (none h (sign 5) refl) (in-turn in_array items_there p (λ r. omega arith)))) (λ r. omega arith)
 
 varargs-least : (h : ℕ) → AtLeast h (turn ended_last varargs) items_there
-varargs-least h = in-turn ended_last items_there (none h varargs) (λ e. omega (arith, ended-few e []))
+varargs-least h = in-turn ended_last items_there (none h varargs even.varargs_even) (λ e. omega (arith, ended-few e []))
 
 annotated-least : (h : ℕ) (rest : Form ParamRest) → AtLeast h rest items_there → AtLeast h (annotated_rest rest) items_there
 annotated-least h rest p =
-    weaker items_there (in-behind 0 (none h annotation) (in-behind 0 (none h annotations) (in-either (bracket-least h rest p) (varargs-least h)))) (λ r. omega arith)
+    weaker items_there (in-behind 0 (none h annotation even.annotation_even) (in-behind 0 (none h annotations even.annotations_even) (in-either (bracket-least h rest p) (varargs-least h)))) (λ r. omega arith)
 
-end-least : (h : ℕ) → ParamRows h → (f : Form ParamEnd) → AtLeast h (turn end_and_rest (pair f (maybe next_params))) items_there
-end-least h rows f =
-    in-turn end_and_rest items_there (in-pair (none h f) (some-next h rows)) (λ v. omega (arith, ended-few v.0 (params_or_none v.1).0))
+end-least : (h : ℕ) → ParamRows h → (f : Form ParamEnd) → effect f ≡ level → AtLeast h (turn end_and_rest (pair f (maybe next_params))) items_there
+end-least h rows f level_there =
+    in-turn end_and_rest items_there (in-pair (none h f level_there) (some-next h rows)) (λ v. omega (arith, ended-few v.0 (params_or_none v.1).0))
 
 later-least : (h : ℕ) → ParamRows h → AtLeast h param_rest_form items_there
 unfolding param_rest_form
 later-least h rows =
     in-either (bracket-least h (nest param_rest) rows.later)
-    (in-either (annotated-least h (nest param_rest) rows.later) (in-either (varargs-least h) (end-least h rows named_end)))
+    (in-either (annotated-least h (nest param_rest) rows.later) (in-either (varargs-least h) (end-least h rows named_end even.named_end_even)))
 
 behind-name-least : (h : ℕ) → ParamRows h → AtLeast h behind_first_name behind_there
 unfolding behind_first_name
 behind-name-least h rows =
     in-turn alone_or behind_there
     (in-maybe (λ o. behind_there (alone_or o))
-    (in-either (in-turn dims_and_rest behind_there (in-pair (none h dot_this) (some-next h rows)) (λ v. omega arith))
-    (in-either (in-turn dims_and_rest behind_there (in-pair (none h with_dims) (some-next h rows)) (λ v. omega arith))
+    (in-either (in-turn dims_and_rest behind_there (in-pair (none h dot_this even.dot_this_even) (some-next h rows)) (λ v. omega arith))
+    (in-either (in-turn dims_and_rest behind_there (in-pair (none h with_dims even.with_dims_even) (some-next h rows)) (λ v. omega arith))
     (in-turn comma_first behind_there (next-least h rows) (λ ps. omega arith))))
     refl (λ v. omega arith))
     (λ o. omega arith)
@@ -155,8 +157,8 @@ first-least h rows =
     in-either (bracket-least h (nest first_rest) rows.first)
     (in-either (annotated-least h (nest first_rest) rows.first)
     (in-either (varargs-least h)
-    (in-either (end-least h rows receiver)
-    (in-turn first_named items_there (in-pair (none h name_at) (behind-name-least h rows)) (λ v. omega (arith, ended-few (end_named v.0 v.1.0) v.1.1.0))))))
+    (in-either (end-least h rows receiver even.receiver_even)
+    (in-turn first_named items_there (in-pair (none h name_at even.name_at_even) (behind-name-least h rows)) (λ v. omega (arith, ended-few (end_named v.0 v.1.0) v.1.1.0))))))
 
 param-rows : (h : ℕ) → ParamRows h
 param-rows zero = record { later = nest-zero param_rest items_there; first = nest-zero first_rest items_there }
@@ -172,20 +174,21 @@ found_there found g = further_there (g found)
 found-least : (h : ℕ) (found : List AnnotationText) → AtLeast h behind_annotations (found_there found)
 unfolding behind_annotations
 found-least h found =
-    in-either (in-turn final_first (found_there found) (in-behind 0 (none h (keyword 17)) (in-pair (none h (many param_modifier)) (in-pair (none h base_type) (param-rows h).later)))
+    in-either (in-turn final_first (found_there found) (in-behind 0 (none h (keyword 17) refl) (in-pair (none h (many param_modifier) even.param_marks_even) (in-pair (none h base_type even.base_type_even) (param-rows h).later)))
     (λ v. omega (arith, ended-there v.1.1.1.0 (with_marks (final_and found) v.0) v.1.0 v.1.1.0 v.1.1.1.1)))
-    (in-turn plain_first (found_there found) (in-pair (none h base_type) (param-rows h).first)
+    (in-turn plain_first (found_there found) (in-pair (none h base_type even.base_type_even) (param-rows h).first)
     (λ v. omega (arith, ended-there v.1.1.0 (annotated_only found) v.0 v.1.0 v.1.1.1)))
 
-first-there : (h : ℕ) (ts : List Symbol) (ps : List ParamAt × Bool) → Is (WholeAt h) first_params ts ps → further_there ps ≤ separators ts
+first-added : (h : ℕ) (ts : List Symbol) (ps : List ParamAt × Bool) → Is (WholeAt h) first_params ts ps → Adds ts (further_there ps)
 unfolding first_params
-first-there h ts ps is =
+first-added h ts ps is =
     let v = is.0 in
     let parts = is.1 in
-    omega (arith, (found-least h v.0).there parts.1 v.1 parts.4, ap further_there is.2, both-there ts parts.0 parts.1 parts.2)
+    let before = (none h annotations even.annotations_even).added parts.0 v.0 parts.3 in
+    adds-less (adds-both parts.2 before ((found-least h v.0).added parts.1 v.1 parts.4)) (omega (arith, ap further_there is.2))
 
 pub first-params-least : (h : ℕ) → AtLeast h first_params further_there
-first-params-least h = record { there = first-there h }
+first-params-least h = at-least (first-added h)
 
 abbrev pub params_there : Params → ℕ
 params_there ps = further ps.params
@@ -194,10 +197,10 @@ pub params-least : (h : ℕ) → AtLeast h params params_there
 unfolding params
 params-least h =
     weaker params_there
-    (in-behind 0 (none h (sign 0))
+    (in-behind 0 (none h (sign 0) refl)
     (in-before 0
     (in-turn optional_first params_there (in-maybe some_further (first-params-least h) refl (λ ps. omega arith)) (λ o. omega arith))
-    (none h (sign 1))))
+    (none h (sign 1) refl)))
     (λ ps. omega arith)
 
 -- ---- constants
@@ -205,7 +208,7 @@ params-least h =
 some-least : (h : ℕ) → AtLeast h (nest enum_rest) length → AtLeast h some_constants further
 unfolding some_constants
 some-least h rest =
-    in-turn (one_and_rest {A = MemberAt}) further (in-pair (none h constant) (in-maybe (listed {A = MemberAt}) rest refl (λ ms. omega arith))) (λ x. omega arith)
+    in-turn (one_and_rest {A = MemberAt}) further (in-pair (none h constant even.constant_even) (in-maybe (listed {A = MemberAt}) rest refl (λ ms. omega arith))) (λ x. omega arith)
 
 rest-least : (h : ℕ) → AtLeast h (nest enum_rest) length → AtLeast h enum_rest_form length
 unfolding enum_rest_form
@@ -223,6 +226,6 @@ unfolding constants constant_list
 constants-least h =
     in-turn (list_or_none {A = MemberAt}) further
     (in-maybe (further_listed {A = MemberAt})
-    (in-either (some-least h (constant-rows h)) (in-turn (no_values {A = MemberAt}) further (none h (sign 7)) (λ s. omega arith)))
+    (in-either (some-least h (constant-rows h)) (in-turn (no_values {A = MemberAt}) further (none h (sign 7) refl) (λ s. omega arith)))
     refl (λ ms. omega arith))
     (λ o. omega arith)

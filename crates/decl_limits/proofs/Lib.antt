@@ -1,6 +1,14 @@
 pub mod NameRows
 pub mod FullForms
+pub mod Separated
+pub mod Scans
+pub mod PassedBraces
+pub mod Braces
+pub mod RuleBraces
+pub mod EvenForms
 pub mod Counted
+pub mod Reached
+pub mod ScanSteps
 pub mod FewRows
 pub mod FewFields
 pub mod FewDefaults

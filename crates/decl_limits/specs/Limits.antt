@@ -1,5 +1,5 @@
 -- Files within the limits, and the laws on them: what they declare is legal.
-use Rattle.std.specs.Prelude.{◌≡◌, ℕ, ◌+◌, ◌≤◌, true, List, [], ◌∷◌}
+use Rattle.std.specs.Prelude.{◌≡◌, ℕ, ◌+◌, ◌*◌, ◌≤◌, true, List, [], ◌∷◌}
 use Rattle.decl_tree.specs.declared.compilation.UnitText.{UnitText}
 use Rattle.decl_tree.specs.Legal.{is_legal}
 use Rattle.java_tokens.specs.declared.chars.Chars.{Chars}
@@ -14,7 +14,7 @@ use Rattle.decl_limits.specs.Texts.{AreTexts}
 use Rattle.decl_limits.specs.Units.{units_of, info_units}
 use Rattle.decl_limits.specs.Names.{is_named, info_named}
 use Rattle.decl_limits.specs.Children.{most, IsCrowded}
-use Rattle.decl_limits.specs.Separators.{separators}
+use Rattle.decl_limits.specs.Separators.{most_separators}
 
 -- the most that may be open at a symbol
 abbrev pub limit : ℕ
@@ -37,9 +37,10 @@ IsLegalInfo x = info_named x ≡ true → AllLegal (info_units x).0
 
 -- ---- laws
 
--- Symbols are not crowded where no more of them separate than a child list may have items, less three: each item has a separator of its own, but for those that the language adds to a type.
+-- Symbols are not crowded where within no braces more of them separate than half as many as a child list may have items, less two. Each item has a separator of its own, the type parameters of a type in
+-- what stands around it and its members in its braces, but for the first one of either, and for at most three that the language adds to a type.
 abbrev pub FewAreNotCrowded : Type 0
-FewAreNotCrowded = (ts : List Symbol) → 3 + separators ts ≤ most → IsCrowded ts → ⊥
+FewAreNotCrowded = (ts : List Symbol) → 4 + 2 * most_separators ts ≤ most → IsCrowded ts → ⊥
 
 -- The units of an ordinary file are legal, where its symbols are those of a text, at none of them too much is open, no child list is too long and its names are short enough.
 abbrev pub HasLegalUnits : Type 0

@@ -12,7 +12,7 @@ pub fn symbols_are_texts()
     ensures { TokensAreTexts }
 {}
 
-/// Symbols of which at most 65,532 are a `,`, a `;` or a `}` have no child list that is too long.
+/// Symbols of which at most 32,765 within the same braces are a `,`, a `;` or a `}` have no child list that is too long.
 pub fn few_are_not_crowded()
     ensures { FewAreNotCrowded }
 {}

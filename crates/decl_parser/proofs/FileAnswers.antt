@@ -140,8 +140,8 @@ symbols-memory false end ts = no_memory refl
 
 -- ---- from the characters of a file on
 
-pub chars-tokens : (info : Bool) (end : ℕ) (read : Chars) (ts row : List Token) (r : Result Parsed FileFault) → row ≡ ts → AreTokensIn read (shown_tokens ts) → AnswersSymbols info end (symbols_of (shown_tokens row)) r → AnswersChars info end read r
-chars-tokens info end read ts row r same are answer = by_tokens (shown_tokens ts) are (subst (λ (xs : List Token). AnswersSymbols info end (symbols_of (shown_tokens xs)) r) same answer)
+pub chars-tokens : (info : Bool) (end : ℕ) (read : Chars) (ts : List Token) (r : Result Parsed FileFault) → AreTokensIn read (shown_tokens ts) → AnswersSymbols info end (symbols_of (shown_tokens ts)) r → AnswersChars info end read r
+chars-tokens info end read ts r are answer = by_tokens (shown_tokens ts) are answer
 
 pub chars-fault : (info : Bool) (end : ℕ) (read : Chars) (fault : TextFault) (e : FileFault) → e ≡ fault_of fault → FaultAt (IsTokenFaultIn read) fault → AnswersChars info end read (Err e)
 chars-fault info end read (text.Bad place) e is at = token_bad place (ap Err is) at

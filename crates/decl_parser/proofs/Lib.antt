@@ -7,3 +7,4 @@ pub mod MemberReads
 pub mod OneAnswer
 pub mod ShownChars
 pub mod FileAnswers
+pub mod CutTokens

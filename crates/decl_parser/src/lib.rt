@@ -10,6 +10,7 @@
 mod bodies;
 mod declarations;
 mod file;
+mod halves;
 mod info;
 mod info_file;
 mod laws;

@@ -10,13 +10,14 @@ ghost use Rattle.decl_limits.specs.Limits.{IsWhole, AreLegal, IsLegalInfo};
 ghost use Rattle.decl_parser.specs.Parsed.{offset_at, is_info, fault_of, HasFaultAt, IsDeepAt, GivesNamed, GivesNamedInfo, UnlessCrowded, AnswersOrdinary, AnswersInfo, AnswersSymbols, AnswersChars, AnswersFile};
 
 use crate::file::{OrdinaryFile, parse_ordinary};
+use crate::halves::symbols_in_halves;
 use crate::info::parse_info;
 use crate::info_file::InfoFile;
 use crate::naming::{is_file_named, is_info_named};
 use crate::units::{info_declared, ordinary_declared};
 use apt_base::{List, What};
 use decl_children::is_crowded;
-use decl_grammar::{Lines, ParseFault, Symbol, symbols};
+use decl_grammar::{Lines, ParseFault, Symbol};
 use decl_tree::Unit;
 use java_tokens::{Chars, TextFault, Token, read_chars, tokens};
 use std::alloc::Global;
@@ -215,12 +216,12 @@ fn of_symbols(
     ordinary_of_symbols(alloc, symbols, end)
 }
 
-// What the tokens of a file come to.
-fn of_tokens(alloc: Global, info: bool, list: &[Token<'_>], end: u32) -> Result<Parsed, FileFault>
-    requires { AreTexts (symbols_of (shown_tokens list.now)) }
-    ensures { AnswersSymbols info end (symbols_of (shown_tokens list.now)) result }
+// What the tokens of a file come to, which are let go before its symbols are read.
+fn of_tokens(alloc: Global, info: bool, list: Vec<Token<'_>>, end: u32) -> Result<Parsed, FileFault>
+    requires { AreTexts (symbols_of (shown_tokens list.items)) }
+    ensures { AnswersSymbols info end (symbols_of (shown_tokens list.entry.items)) result }
 {
-    match symbols(alloc, list) {
+    match symbols_in_halves(alloc, list) {
         Ok(all) => of_symbols(alloc, info, all.as_slice(), end),
         Err(_) => Err(FileFault::Memory),
     }
@@ -241,7 +242,7 @@ fn of_chars(alloc: Global, info: bool, chars: &Chars, end: u32) -> Result<Parsed
     ensures { AnswersChars info end chars.now result }
 {
     match tokens(alloc, chars) {
-        Ok(list) => of_tokens(alloc, info, list.as_slice(), end),
+        Ok(list) => of_tokens(alloc, info, list, end),
         Err(fault) => Err(text_fault(fault)),
     }
 }

@@ -7,7 +7,8 @@ use Rattle.decl_grammar.specs.declared.written.Unmodified.{Unmodified}
 use Rattle.decl_grammar.specs.Rule.{reads}
 use Rattle.decl_children.specs.TypeWalks.{unmodified_form}
 use Rattle.decl_children.specs.Unmodifieds.{own_of}
-use Rattle.decl_children.proofs.CommaRows.{read-phrase, unread}
+use Rattle.decl_crossings.proofs.PhraseReads.{read-phrase}
+use Rattle.decl_children.proofs.CommaRows.{unread}
 use Rattle.decl_children.proofs.WalkTells.{own-many, own-few, plain-none}
 use Rattle.decl_children.proofs.types.plain.Goals as goal
 

@@ -9,7 +9,7 @@ pub of_symbols-requires : goal.of_symbols-requires
 of_symbols-requires c = subst AreTexts (sym (c.as_slice.ensures.value ∙ c.in-Ok.ensures)) c.requires
 
 pub returns-in-Ok : goal.returns-in-Ok
-returns-in-Ok c = tokens-symbols c.args.info c.args.end c.as_slice.result.now (symbols_of (shown_tokens c.args.list.now)) c.of_symbols.result (c.as_slice.ensures.value ∙ c.in-Ok.ensures) c.of_symbols.ensures
+returns-in-Ok c = tokens-symbols c.args.info c.args.end c.as_slice.result.now (symbols_of (shown_tokens c.args.list.items)) c.of_symbols.result (c.as_slice.ensures.value ∙ c.in-Ok.ensures) c.of_symbols.ensures
 
 pub returns-in-Err : goal.returns-in-Err
-returns-in-Err c = symbols-memory c.args.info c.args.end (symbols_of (shown_tokens c.args.list.now))
+returns-in-Err c = symbols-memory c.args.info c.args.end (symbols_of (shown_tokens c.args.list.items))
