@@ -56,7 +56,8 @@ def work_of(process, gate):
         if not words[0].endswith("/rattle") or "--crate-name" not in words:
             return None
         fields = (process / "stat").read_text().rsplit(")", 1)[1].split()
-        seconds = sum(int(field) for field in fields[11:15]) / TICKS
+        # what it used itself: a process that shares the check with it is read for itself
+        seconds = sum(int(field) for field in fields[11:13]) / TICKS
         folder = os.readlink(process / "cwd")
     except (OSError, IndexError):
         return None

@@ -1,2 +1,2 @@
-// Names and lists.
-pub use apt_base::{List, Name, NoMemory};
+// Names, lists, elements and fields.
+pub use apt_base::{ElementRef, FieldWriter, List, Name, NoMemory};

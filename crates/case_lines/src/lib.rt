@@ -10,14 +10,22 @@
 #![tactic(auto)]
 
 mod base;
+mod elements;
 mod fault;
+mod fields;
 mod name_words;
+mod parts;
+mod pieces;
 mod read;
 mod shown;
 mod table;
 
+pub use elements::{element, element_at};
 pub use fault::CaseFault;
+pub use fields::Fields;
 pub use name_words::{name, names};
-pub use read::{hex_bytes, items, numbers, text, text_bytes, texts, truth, value};
-pub use shown::{escaped, hex_digits, joined, push_word, yes_or_no};
+pub use parts::{all, both, done_or, given, list, put, told};
+pub use pieces::{Item, Pieces};
+pub use read::{hex_bytes, items, numbers, several, text, text_bytes, texts, truth, value};
+pub use shown::{escaped, hex_digits, joined, one_word, push_word, yes_or_no};
 pub use table::{Calls, run};

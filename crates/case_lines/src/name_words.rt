@@ -1,6 +1,6 @@
 // The names for which words stand.
 use crate::base::{List, Name};
-use crate::{CaseFault, items, text};
+use crate::{CaseFault, list, text};
 use std::alloc::Global;
 
 /// The name that a word stands for.
@@ -10,9 +10,5 @@ pub fn name(alloc: Global, word: &str) -> Result<Name, CaseFault> {
 
 /// The names of a list.
 pub fn names(alloc: Global, word: &str) -> Result<List<Name>, CaseFault> {
-    let mut names = List::new(alloc);
-    for item in &items(alloc, word)? {
-        names.push(name(alloc, item)?)?;
-    }
-    Ok(names)
+    list(alloc, word, name)
 }

@@ -89,6 +89,14 @@ pub fn items<'a>(alloc: Global, word: &'a str) -> Result<Vec<&'a str>, CaseFault
     Ok(word.split(',').collect(alloc)?)
 }
 
+/// The items within a part of a word: they are joined by `+`, and no items are `-`.
+pub fn several<'a>(alloc: Global, word: &'a str) -> Result<Vec<&'a str>, CaseFault> {
+    if word == "-" {
+        return Ok(Vec::new(alloc));
+    }
+    Ok(word.split('+').collect(alloc)?)
+}
+
 /// Whether a word is `yes`; it may also be `no`.
 pub fn truth(word: &str) -> Result<bool, CaseFault> {
     match word {

@@ -51,6 +51,11 @@ pub fn push_word(words: &mut String, word: &str) -> Result<(), AllocError> {
     words.push_str(word)
 }
 
+/// A result of one word.
+pub fn one_word(alloc: Global, word: &str) -> Result<String, CaseFault> {
+    Ok(String::from_str(alloc, word)?)
+}
+
 /// The word for a truth.
 pub fn yes_or_no(truth: bool) -> &'static str {
     if truth { "yes" } else { "no" }

@@ -1,19 +1,19 @@
 // What cases do alike with mirrors, values and annotations.
 use crate::words::Words;
-use apt_base::List;
-use case_lines::{CaseFault, items};
+use apt_base::{List, NoMemory};
+use case_lines::CaseFault;
 use std::alloc::Global;
-
-/// What one word stands for.
-pub trait Read: Sized + Drop {
-    /// The value for which the word stands.
-    fn read(alloc: Global, word: &str) -> Result<Self, CaseFault>;
-}
 
 /// What can hold another of its kind.
 pub trait Hold: Sized + Drop {
+    /// How it can be held.
+    type Form: Copy;
+
+    /// The form that a word names.
+    fn form(word: &str) -> Result<Self::Form, CaseFault>;
+
     /// The value of that form that holds this one.
-    fn held(self, alloc: Global, form: &str) -> Result<Self, CaseFault>;
+    fn held(self, alloc: Global, form: Self::Form) -> Result<Self, CaseFault>;
 }
 
 /// What is copied, measured and shown.
@@ -28,12 +28,10 @@ pub trait Shown: Sized + Drop {
     fn show(&self, words: &mut Words);
 }
 
-/// What the items of a list stand for.
-pub fn list<T: Read>(alloc: Global, word: &str) -> Result<List<T>, CaseFault> {
+/// A list of one item.
+pub fn one<T: Drop>(alloc: Global, item: T) -> Result<List<T>, NoMemory> {
     let mut list = List::new(alloc);
-    for item in &items(alloc, word)? {
-        list.push(T::read(alloc, item)?)?;
-    }
+    list.push(item)?;
     Ok(list)
 }
 
@@ -41,7 +39,7 @@ pub fn list<T: Read>(alloc: Global, word: &str) -> Result<List<T>, CaseFault> {
 pub fn formed<T: Hold>(alloc: Global, forms: &[&str], inner: T) -> Result<T, CaseFault> {
     let mut value = inner;
     for form in forms.iter().rev() {
-        value = value.held(alloc, form)?;
+        value = value.held(alloc, T::form(form)?)?;
     }
     Ok(value)
 }
@@ -50,7 +48,7 @@ pub fn formed<T: Hold>(alloc: Global, forms: &[&str], inner: T) -> Result<T, Cas
 pub fn nested<T: Hold>(alloc: Global, form: &str, count: u32, inner: T) -> Result<T, CaseFault> {
     let mut value = inner;
     for _ in 0..count {
-        value = value.held(alloc, form)?;
+        value = value.held(alloc, T::form(form)?)?;
     }
     Ok(value)
 }

@@ -28,7 +28,6 @@
 //! In results a mirror is what stands around it and its base, and each list is the number of its items and the items.
 #![tactic(auto)]
 
-mod elements;
 mod forms;
 mod mirrors;
 mod shown;
@@ -36,7 +35,7 @@ mod values;
 mod words;
 
 use apt_base::{ElementRef, List};
-use case_lines::{Calls, CaseFault, run};
+use case_lines::{Calls, CaseFault, given, run};
 use forms::{copy_words, depths};
 use std::alloc::Global;
 use std::process::ExitCode;
@@ -76,10 +75,11 @@ fn substitute_case(alloc: Global, words: &[&str]) -> Result<String, CaseFault> {
 }
 
 fn substituted(alloc: Global, by: &str, mirror: &[&str]) -> Result<String, CaseFault> {
-    match mirrors::replacements(alloc, by) {
-        Ok(by) => substituted_in(alloc, mirror, &by),
-        Err(fault) => Err(fault),
-    }
+    given(
+        alloc,
+        mirrors::replacements(alloc, by),
+        |alloc, by: &List<(ElementRef, Mirror)>| substituted_in(alloc, mirror, by),
+    )
 }
 
 fn substituted_in(
@@ -87,10 +87,11 @@ fn substituted_in(
     mirror: &[&str],
     by: &List<(ElementRef, Mirror)>,
 ) -> Result<String, CaseFault> {
-    match mirrors::mirror_of(alloc, mirror) {
-        Ok(mirror) => replaced(alloc, &mirror, by),
-        Err(fault) => Err(fault),
-    }
+    given(
+        alloc,
+        mirrors::mirror_of(alloc, mirror),
+        |alloc, mirror: &Mirror| replaced(alloc, mirror, by),
+    )
 }
 
 fn replaced(
@@ -101,10 +102,7 @@ fn replaced(
     if !are_distinct(by) {
         return Ok(String::from_str(alloc, "not distinct")?);
     }
-    match substitute(alloc, mirror, by) {
-        Ok(replaced) => replaced_words(alloc, &replaced),
-        Err(_) => Err(CaseFault::Memory),
-    }
+    given(alloc, substitute(alloc, mirror, by), replaced_words)
 }
 
 fn replaced_words(alloc: Global, replaced: &Mirror) -> Result<String, CaseFault> {
@@ -113,11 +111,8 @@ fn replaced_words(alloc: Global, replaced: &Mirror) -> Result<String, CaseFault>
     words.into_string()
 }
 
-fn depth_copied(alloc: Global, mirror: &Mirror) -> Result<u32, CaseFault> {
-    match mirror.copy(alloc) {
-        Ok(copy) => Ok(depth(&copy)),
-        Err(_) => Err(CaseFault::Memory),
-    }
+fn depth_of(_alloc: Global, mirror: &Mirror) -> Result<u32, CaseFault> {
+    Ok(depth(mirror))
 }
 
 // 0 where the list has a variable twice.
@@ -129,17 +124,15 @@ fn depth_replaced(
     if !are_distinct(by) {
         return Ok(0);
     }
-    match substitute(alloc, mirror, by) {
-        Ok(replaced) => Ok(depth(&replaced)),
-        Err(_) => Err(CaseFault::Memory),
-    }
+    given(alloc, substitute(alloc, mirror, by), depth_of)
 }
 
 fn depth_with_array(alloc: Global, mirror: &Mirror) -> Result<u32, CaseFault> {
-    match mirrors::replacements(alloc, "p.C:0=Array/Int") {
-        Ok(by) => depth_replaced(alloc, mirror, &by),
-        Err(fault) => Err(fault),
-    }
+    given(
+        alloc,
+        mirrors::replacements(alloc, "p.C:0=Array/Int"),
+        |alloc, by: &List<(ElementRef, Mirror)>| depth_replaced(alloc, mirror, by),
+    )
 }
 
 fn numbers(alloc: Global, numbers: &[u32]) -> Result<String, CaseFault> {
@@ -151,16 +144,17 @@ fn numbers(alloc: Global, numbers: &[u32]) -> Result<String, CaseFault> {
 }
 
 fn mirror_depths(alloc: Global, mirror: &Mirror) -> Result<String, CaseFault> {
-    let copied = depth_copied(alloc, mirror)?;
+    let copied = given(alloc, mirror.copy(alloc), depth_of)?;
     let replaced = depth_with_array(alloc, mirror)?;
     numbers(alloc, &[depth(mirror), copied, replaced])
 }
 
 fn nested(alloc: Global, form: &str, count: u32) -> Result<String, CaseFault> {
-    match mirrors::nested_variable(alloc, form, count) {
-        Ok(mirror) => mirror_depths(alloc, &mirror),
-        Err(fault) => Err(fault),
-    }
+    given(
+        alloc,
+        mirrors::nested_variable(alloc, form, count),
+        mirror_depths,
+    )
 }
 
 fn nested_case(alloc: Global, words: &[&str]) -> Result<String, CaseFault> {

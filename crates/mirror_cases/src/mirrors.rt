@@ -1,10 +1,9 @@
 // Mirrors that words stand for.
-use crate::elements::element;
-use crate::forms::{Hold, Read, Shown, formed, list, nested};
+use crate::forms::{Hold, Shown, formed, nested, one};
 use crate::shown;
 use crate::words::Words;
 use apt_base::{Boxed, ElementRef, List, Name, NoMemory};
-use case_lines::{CaseFault, items, name};
+use case_lines::{CaseFault, both, element, list, name};
 use std::alloc::Global;
 use type_mirror::{
     Around, BaseMirror, DeclaredMirror, ExecutableMirror, Mirror, PrimitiveKind, depth,
@@ -45,31 +44,31 @@ fn raw(alloc: Global, element: ElementRef) -> BaseMirror {
     })
 }
 
+// The base whose form stands before the `=` of a word.
+fn base_of(alloc: Global, form: &str, of: &str) -> Result<BaseMirror, CaseFault> {
+    match form {
+        "Error" => name(alloc, of).map(BaseMirror::Error),
+        "Variable" => element(alloc, of).map(BaseMirror::Variable),
+        "Package" => name(alloc, of).map(BaseMirror::Package),
+        "Raw" => Ok(raw(alloc, element(alloc, of)?)),
+        _ => Err(CaseFault::NotACase),
+    }
+}
+
 fn base(alloc: Global, word: &str) -> Result<BaseMirror, CaseFault> {
     match word.split_once('=') {
         None => word_base(word),
-        Some(("Error", text)) => Ok(BaseMirror::Error(name(alloc, text)?)),
-        Some(("Variable", word)) => Ok(BaseMirror::Variable(element(alloc, word)?)),
-        Some(("Package", text)) => Ok(BaseMirror::Package(name(alloc, text)?)),
-        Some(("Raw", word)) => Ok(raw(alloc, element(alloc, word)?)),
-        Some(_) => Err(CaseFault::NotACase),
+        Some((form, of)) => base_of(alloc, form, of),
     }
+}
+
+fn kept(mirror: Mirror) -> Result<Mirror, CaseFault> {
+    Ok(mirror)
 }
 
 fn around(alloc: Global, item: Around, inner: Mirror) -> Result<Mirror, CaseFault> {
-    let mut items = List::new(alloc);
-    match items.push(item) {
-        Ok(()) => Ok(inner.wrapped(alloc, &items)?),
-        Err(_) => Err(CaseFault::Memory),
-    }
-}
-
-fn one(alloc: Global, mirror: Mirror) -> Result<List<Mirror>, NoMemory> {
-    let mut list = List::new(alloc);
-    match list.push(mirror) {
-        Ok(()) => Ok(list),
-        Err(fault) => Err(fault),
-    }
+    let (items, inner) = both(one(alloc, item), kept(inner))?;
+    Ok(inner.wrapped(alloc, &items)?)
 }
 
 // The element without steps of the unit without a name.
@@ -92,70 +91,85 @@ fn enclosed(alloc: Global, inner: Mirror) -> Result<BaseMirror, CaseFault> {
 }
 
 fn with_argument(alloc: Global, inner: Mirror) -> Result<BaseMirror, CaseFault> {
-    match one(alloc, inner) {
-        Ok(arguments) => Ok(BaseMirror::Declared(DeclaredMirror {
-            element: unnamed(alloc),
-            enclosing: None,
-            arguments,
-        })),
-        Err(_) => Err(CaseFault::Memory),
-    }
+    let arguments = one(alloc, inner)?;
+    Ok(BaseMirror::Declared(DeclaredMirror {
+        element: unnamed(alloc),
+        enclosing: None,
+        arguments,
+    }))
 }
 
 fn void(alloc: Global) -> Result<Boxed<Mirror>, NoMemory> {
     Boxed::new(alloc, Mirror::plain(alloc, BaseMirror::Void))
 }
 
-fn with_parameter(alloc: Global, inner: Mirror) -> Result<BaseMirror, CaseFault> {
-    let parameters = one(alloc, inner)?;
-    Ok(BaseMirror::Executable(ExecutableMirror {
+// An executable without type parameters.
+fn executable_of(
+    alloc: Global,
+    parameters: List<Mirror>,
+    outcome: Boxed<Mirror>,
+    thrown: List<Mirror>,
+) -> BaseMirror {
+    BaseMirror::Executable(ExecutableMirror {
         variables: List::new(alloc),
         parameters,
-        result: void(alloc)?,
-        thrown: List::new(alloc),
-    }))
+        result: outcome,
+        thrown,
+    })
+}
+
+fn with_parameter(alloc: Global, inner: Mirror) -> Result<BaseMirror, CaseFault> {
+    let (parameters, outcome) = both(one(alloc, inner), void(alloc))?;
+    Ok(executable_of(alloc, parameters, outcome, List::new(alloc)))
 }
 
 fn with_result(alloc: Global, inner: Mirror) -> Result<BaseMirror, CaseFault> {
     let result = Boxed::new(alloc, inner)?;
-    Ok(BaseMirror::Executable(ExecutableMirror {
-        variables: List::new(alloc),
-        parameters: List::new(alloc),
-        result,
-        thrown: List::new(alloc),
-    }))
+    Ok(executable_of(alloc, List::new(alloc), result, List::new(alloc)))
 }
 
 fn with_thrown(alloc: Global, inner: Mirror) -> Result<BaseMirror, CaseFault> {
-    let thrown = one(alloc, inner)?;
-    Ok(BaseMirror::Executable(ExecutableMirror {
-        variables: List::new(alloc),
-        parameters: List::new(alloc),
-        result: void(alloc)?,
-        thrown,
-    }))
+    let (thrown, outcome) = both(one(alloc, inner), void(alloc))?;
+    Ok(executable_of(alloc, List::new(alloc), outcome, thrown))
 }
 
-fn base_of(alloc: Global, form: &str, inner: Mirror) -> Result<BaseMirror, CaseFault> {
-    match form {
-        "Enclosing" => enclosed(alloc, inner),
-        "Argument" => with_argument(alloc, inner),
-        "Parameter" => with_parameter(alloc, inner),
-        "Result" => with_result(alloc, inner),
-        "Thrown" => with_thrown(alloc, inner),
+/// How a mirror can hold another one: around it, or as a part of a base.
+#[derive(Clone, Copy)]
+pub enum Form {
+    Around(Around),
+    Enclosing,
+    Argument,
+    Parameter,
+    Result,
+    Thrown,
+}
+
+fn form_named(word: &str) -> Result<Form, CaseFault> {
+    match word {
+        "Array" => Ok(Form::Around(Around::Array)),
+        "Extends" => Ok(Form::Around(Around::Extends)),
+        "Super" => Ok(Form::Around(Around::Super)),
+        "Enclosing" => Ok(Form::Enclosing),
+        "Argument" => Ok(Form::Argument),
+        "Parameter" => Ok(Form::Parameter),
+        "Result" => Ok(Form::Result),
+        "Thrown" => Ok(Form::Thrown),
         _ => Err(CaseFault::NotACase),
     }
 }
 
-fn within(alloc: Global, form: &str, inner: Mirror) -> Result<Mirror, CaseFault> {
+fn plain(alloc: Global, base: Result<BaseMirror, CaseFault>) -> Result<Mirror, CaseFault> {
+    Ok(Mirror::plain(alloc, base?))
+}
+
+fn within(alloc: Global, form: Form, inner: Mirror) -> Result<Mirror, CaseFault> {
     match form {
-        "Array" => around(alloc, Around::Array, inner),
-        "Extends" => around(alloc, Around::Extends, inner),
-        "Super" => around(alloc, Around::Super, inner),
-        _ => match base_of(alloc, form, inner) {
-            Ok(base) => Ok(Mirror::plain(alloc, base)),
-            Err(fault) => Err(fault),
-        },
+        Form::Around(item) => around(alloc, item, inner),
+        Form::Enclosing => plain(alloc, enclosed(alloc, inner)),
+        Form::Argument => plain(alloc, with_argument(alloc, inner)),
+        Form::Parameter => plain(alloc, with_parameter(alloc, inner)),
+        Form::Result => plain(alloc, with_result(alloc, inner)),
+        Form::Thrown => plain(alloc, with_thrown(alloc, inner)),
     }
 }
 
@@ -173,16 +187,13 @@ pub fn mirror(alloc: Global, word: &str) -> Result<Mirror, CaseFault> {
 }
 
 fn boxed(alloc: Global, word: &str) -> Result<Boxed<Mirror>, CaseFault> {
-    match Boxed::new(alloc, mirror(alloc, word)?) {
-        Ok(boxed) => Ok(boxed),
-        Err(_) => Err(CaseFault::Memory),
-    }
+    Ok(Boxed::new(alloc, mirror(alloc, word)?)?)
 }
 
 fn enclosing(alloc: Global, word: &str) -> Result<Option<Boxed<Mirror>>, CaseFault> {
     match word {
         "none" => Ok(None),
-        _ => Ok(Some(boxed(alloc, word)?)),
+        _ => boxed(alloc, word).map(Some),
     }
 }
 
@@ -192,9 +203,10 @@ fn declared_mirror(
     outer: &str,
     arguments: &str,
 ) -> Result<DeclaredMirror, CaseFault> {
-    let element = element(alloc, class)?;
-    let enclosing = enclosing(alloc, outer)?;
-    let arguments = list(alloc, arguments)?;
+    let ((element, enclosing), arguments) = both(
+        both(element(alloc, class), enclosing(alloc, outer)),
+        list(alloc, arguments, mirror),
+    )?;
     Ok(DeclaredMirror {
         element,
         enclosing,
@@ -204,10 +216,10 @@ fn declared_mirror(
 
 fn declared(alloc: Global, words: &[&str]) -> Result<Mirror, CaseFault> {
     match words {
-        [class, outer, arguments] => {
-            let declared = declared_mirror(alloc, class, outer, arguments)?;
-            Ok(Mirror::plain(alloc, BaseMirror::Declared(declared)))
-        }
+        [class, outer, arguments] => plain(
+            alloc,
+            declared_mirror(alloc, class, outer, arguments).map(BaseMirror::Declared),
+        ),
         _ => Err(CaseFault::NotACase),
     }
 }
@@ -219,10 +231,13 @@ fn executable_mirror(
     outcome: &str,
     thrown: &str,
 ) -> Result<ExecutableMirror, CaseFault> {
-    let variables = list(alloc, variables)?;
-    let parameters = list(alloc, parameters)?;
-    let result = boxed(alloc, outcome)?;
-    let thrown = list(alloc, thrown)?;
+    let ((variables, parameters), (result, thrown)) = both(
+        both(
+            list(alloc, variables, element),
+            list(alloc, parameters, mirror),
+        ),
+        both(boxed(alloc, outcome), list(alloc, thrown, mirror)),
+    )?;
     Ok(ExecutableMirror {
         variables,
         parameters,
@@ -233,10 +248,12 @@ fn executable_mirror(
 
 fn executable(alloc: Global, words: &[&str]) -> Result<Mirror, CaseFault> {
     match words {
-        [variables, parameters, outcome, thrown] => {
-            let executable = executable_mirror(alloc, variables, parameters, outcome, thrown)?;
-            Ok(Mirror::plain(alloc, BaseMirror::Executable(executable)))
-        }
+        [variables, parameters, outcome, thrown] => plain(
+            alloc,
+            executable_mirror(alloc, variables, parameters, outcome, thrown).map(
+                BaseMirror::Executable,
+            ),
+        ),
         _ => Err(CaseFault::NotACase),
     }
 }
@@ -263,14 +280,14 @@ pub fn nested_variable(alloc: Global, form: &str, count: u32) -> Result<Mirror, 
     nested(alloc, form, count, mirror(alloc, "Variable=p.C:0")?)
 }
 
-impl Read for Mirror {
-    fn read(alloc: Global, word: &str) -> Result<Mirror, CaseFault> {
-        mirror(alloc, word)
-    }
-}
-
 impl Hold for Mirror {
-    fn held(self, alloc: Global, form: &str) -> Result<Mirror, CaseFault> {
+    type Form = Form;
+
+    fn form(word: &str) -> Result<Form, CaseFault> {
+        form_named(word)
+    }
+
+    fn held(self, alloc: Global, form: Form) -> Result<Mirror, CaseFault> {
         within(alloc, form, self)
     }
 }
@@ -289,28 +306,15 @@ impl Shown for Mirror {
     }
 }
 
-// Adds the variable and what is put in its place.
-fn push_replacement(
-    alloc: Global,
-    by: &mut List<(ElementRef, Mirror)>,
-    item: &str,
-) -> Result<(), CaseFault> {
-    let Some((variable, word)) = item.split_once('=') else {
-        return Err(CaseFault::NotACase);
-    };
-    let variable = element(alloc, variable)?;
-    let put_in = mirror(alloc, word)?;
-    match by.push((variable, put_in)) {
-        Ok(()) => Ok(()),
-        Err(_) => Err(CaseFault::Memory),
+// A variable and what is put in its place.
+fn replacement(alloc: Global, item: &str) -> Result<(ElementRef, Mirror), CaseFault> {
+    match item.split_once('=') {
+        Some((variable, word)) => both(element(alloc, variable), mirror(alloc, word)),
+        None => Err(CaseFault::NotACase),
     }
 }
 
 /// The variables of a list, each with what is put in its place.
 pub fn replacements(alloc: Global, word: &str) -> Result<List<(ElementRef, Mirror)>, CaseFault> {
-    let mut by = List::new(alloc);
-    for item in &items(alloc, word)? {
-        push_replacement(alloc, &mut by, item)?;
-    }
-    Ok(by)
+    list(alloc, word, replacement)
 }

@@ -1,35 +1,25 @@
 // Values and annotations that words stand for.
-use crate::elements::element;
-use crate::forms::{Hold, Read, Shown, formed, list, nested};
+use crate::forms::{Hold, Shown, formed, nested, one};
 use crate::mirrors::mirror;
 use crate::shown;
 use crate::words::Words;
-use apt_base::{List, Name, NoMemory};
-use case_lines::{CaseFault, name, truth};
+use apt_base::Name;
+use case_lines::{CaseFault, both, element, list, name, truth};
 use std::alloc::Global;
 use type_mirror::{
     Annotation, BaseMirror, Mirror, NamedValue, Value, WholeKind, annotation_depth, value_depth,
 };
 
 fn truth_value(word: &str) -> Result<Value, CaseFault> {
-    match truth(word) {
-        Ok(truth) => Ok(Value::Truth(truth)),
-        Err(fault) => Err(fault),
-    }
+    Ok(Value::Truth(truth(word)?))
 }
 
 fn whole(kind: WholeKind, word: &str) -> Result<Value, CaseFault> {
-    match word.parse::<i64>() {
-        Ok(number) => Ok(Value::Whole(kind, number)),
-        Err(_) => Err(CaseFault::NotACase),
-    }
+    Ok(Value::Whole(kind, word.parse::<i64>()?))
 }
 
 fn character(word: &str) -> Result<Value, CaseFault> {
-    match word.parse::<u32>() {
-        Ok(number) => Ok(Value::Character(number)),
-        Err(_) => Err(CaseFault::NotACase),
-    }
+    Ok(Value::Character(word.parse::<u32>()?))
 }
 
 fn number(form: &str, of: &str) -> Result<Value, CaseFault> {
@@ -44,47 +34,47 @@ fn number(form: &str, of: &str) -> Result<Value, CaseFault> {
 
 fn plain(alloc: Global, form: &str, of: &str) -> Result<Value, CaseFault> {
     match form {
-        "Text" => Ok(Value::Text(name(alloc, of)?)),
-        "Class" => Ok(Value::Class(mirror(alloc, of)?)),
-        "Constant" => Ok(Value::Constant(element(alloc, of)?)),
-        "Other" => Ok(Value::Other(name(alloc, of)?)),
-        "Floating" => Ok(Value::Floating(name(alloc, of)?)),
+        "Text" => name(alloc, of).map(Value::Text),
+        "Class" => mirror(alloc, of).map(Value::Class),
+        "Constant" => element(alloc, of).map(Value::Constant),
+        "Other" => name(alloc, of).map(Value::Other),
+        "Floating" => name(alloc, of).map(Value::Floating),
         _ => number(form, of),
     }
 }
 
 fn in_array(alloc: Global, inner: Value) -> Result<Value, CaseFault> {
-    let mut items = List::new(alloc);
-    match items.push(inner) {
-        Ok(()) => Ok(Value::Array(items)),
-        Err(_) => Err(CaseFault::Memory),
-    }
-}
-
-fn one_named(alloc: Global, inner: Value) -> Result<List<NamedValue>, NoMemory> {
-    let mut values = List::new(alloc);
-    let name = Name::from_string(alloc, String::new(alloc));
-    match values.push(NamedValue { name, value: inner }) {
-        Ok(()) => Ok(values),
-        Err(fault) => Err(fault),
-    }
+    Ok(Value::Array(one(alloc, inner)?))
 }
 
 fn in_annotation(alloc: Global, inner: Value) -> Result<Value, CaseFault> {
-    match one_named(alloc, inner) {
-        Ok(values) => Ok(Value::Nested(Annotation {
-            annotation_type: Mirror::plain(alloc, BaseMirror::Void),
-            values,
-        })),
-        Err(_) => Err(CaseFault::Memory),
+    let name = Name::from_string(alloc, String::new(alloc));
+    let values = one(alloc, NamedValue { name, value: inner })?;
+    Ok(Value::Nested(Annotation {
+        annotation_type: Mirror::plain(alloc, BaseMirror::Void),
+        values,
+    }))
+}
+
+/// How a value can hold another one.
+#[derive(Clone, Copy)]
+pub enum Form {
+    Values,
+    Nested,
+}
+
+fn form_named(word: &str) -> Result<Form, CaseFault> {
+    match word {
+        "Values" => Ok(Form::Values),
+        "Nested" => Ok(Form::Nested),
+        _ => Err(CaseFault::NotACase),
     }
 }
 
-fn within(alloc: Global, form: &str, inner: Value) -> Result<Value, CaseFault> {
+fn within(alloc: Global, form: Form, inner: Value) -> Result<Value, CaseFault> {
     match form {
-        "Values" => in_array(alloc, inner),
-        "Nested" => in_annotation(alloc, inner),
-        _ => Err(CaseFault::NotACase),
+        Form::Values => in_array(alloc, inner),
+        Form::Nested => in_annotation(alloc, inner),
     }
 }
 
@@ -109,17 +99,16 @@ fn value(alloc: Global, word: &str) -> Result<Value, CaseFault> {
 
 fn named_value(alloc: Global, item: &str) -> Result<NamedValue, CaseFault> {
     match item.split_once('=') {
-        Some((text, of)) => Ok(NamedValue {
-            name: name(alloc, text)?,
-            value: value(alloc, of)?,
-        }),
+        Some((text, of)) => {
+            let (name, value) = both(name(alloc, text), value(alloc, of))?;
+            Ok(NamedValue { name, value })
+        }
         None => Err(CaseFault::NotACase),
     }
 }
 
 fn annotation_of(alloc: Global, of: &str, values: &str) -> Result<Annotation, CaseFault> {
-    let annotation_type = mirror(alloc, of)?;
-    let values = list(alloc, values)?;
+    let (annotation_type, values) = both(mirror(alloc, of), list(alloc, values, named_value))?;
     Ok(Annotation {
         annotation_type,
         values,
@@ -135,15 +124,12 @@ pub fn annotation(alloc: Global, words: &[&str]) -> Result<Annotation, CaseFault
 }
 
 fn nested_annotation(alloc: Global, words: &[&str]) -> Result<Value, CaseFault> {
-    match annotation(alloc, words) {
-        Ok(annotation) => Ok(Value::Nested(annotation)),
-        Err(fault) => Err(fault),
-    }
+    annotation(alloc, words).map(Value::Nested)
 }
 
 fn array(alloc: Global, words: &[&str]) -> Result<Value, CaseFault> {
     match words {
-        [items] => Ok(Value::Array(list(alloc, items)?)),
+        [items] => list(alloc, items, value).map(Value::Array),
         _ => Err(CaseFault::NotACase),
     }
 }
@@ -170,20 +156,14 @@ pub fn nested_truth(alloc: Global, form: &str, count: u32) -> Result<Value, Case
     nested(alloc, form, count, Value::Truth(true))
 }
 
-impl Read for Value {
-    fn read(alloc: Global, word: &str) -> Result<Value, CaseFault> {
-        value(alloc, word)
-    }
-}
-
-impl Read for NamedValue {
-    fn read(alloc: Global, word: &str) -> Result<NamedValue, CaseFault> {
-        named_value(alloc, word)
-    }
-}
-
 impl Hold for Value {
-    fn held(self, alloc: Global, form: &str) -> Result<Value, CaseFault> {
+    type Form = Form;
+
+    fn form(word: &str) -> Result<Form, CaseFault> {
+        form_named(word)
+    }
+
+    fn held(self, alloc: Global, form: Form) -> Result<Value, CaseFault> {
         within(alloc, form, self)
     }
 }
