@@ -1,207 +1,229 @@
 // Units that are declared by pieces: they are read from their shapes, since what is read is legal.
-use case_lines::{CaseFault, name};
-use decl_syntax::{FieldWriter, NoMemory, ShapeFault, Unit, parse_shape};
+use case_lines::{CaseFault, Fields, name, several};
+use decl_syntax::{ShapeFault, Unit, parse_shape};
 use std::alloc::Global;
 
-// A text of at most 65,535 bytes.
-fn text(writer: &mut FieldWriter, text: &str) -> Result<(), NoMemory> {
-    if text.len() > 65_535 {
-        return Err(NoMemory);
-    }
-    writer.text(text)
-}
-
-fn count(writer: &mut FieldWriter, words: &[&str]) -> Result<(), CaseFault> {
-    match u32::try_from(words.len()) {
-        Ok(count) => Ok(writer.u32(count)?),
-        Err(_) => Err(CaseFault::Memory),
-    }
-}
-
-// The words that a `+` joins.
-fn several<'a>(alloc: Global, word: &'a str) -> Result<Vec<&'a str>, CaseFault> {
-    if word == "-" {
-        return Ok(Vec::new(alloc));
-    }
-    Ok(word.split('+').collect(alloc)?)
-}
-
 // No modifiers, no annotations and no doc comment.
-fn plain(writer: &mut FieldWriter) -> Result<(), CaseFault> {
-    writer.u16(0)?;
-    writer.u32(0)?;
-    Ok(writer.u8(0)?)
+fn plain(fields: &mut Fields) {
+    fields.u16(0);
+    fields.u32(0);
+    fields.u8(0)
 }
 
 // ---- types, from the outside in
 
-fn bytes(writer: &mut FieldWriter, bytes: &[u8]) -> Result<(), CaseFault> {
-    for each in bytes {
-        writer.u8(*each)?;
-    }
-    Ok(())
+// A number of four bytes behind one byte.
+fn counted(fields: &mut Fields, number: &str) {
+    fields.u8(1);
+    let _number = fields.u32_of(number);
 }
 
 // One of the names of a class type, with the number of its arguments if it has any.
-fn class_name(writer: &mut FieldWriter, word: &str) -> Result<(), CaseFault> {
+fn class_name(fields: &mut Fields, word: &str) {
     match word.split_once('<') {
         None => {
-            text(writer, word)?;
-            Ok(writer.u8(0)?)
+            fields.text(word);
+            fields.u8(0)
         }
         Some((name, number)) => {
-            text(writer, name)?;
-            writer.u8(1)?;
-            Ok(writer.u32(number.parse::<u32>()?)?)
+            fields.text(name);
+            counted(fields, number)
         }
     }
 }
 
-fn type_word(writer: &mut FieldWriter, word: &str) -> Result<(), CaseFault> {
-    match word {
-        "[]" => bytes(writer, &[2]),
-        "int" => bytes(writer, &[0, 3]),
-        "void" => bytes(writer, &[0, 8]),
-        _ => match word.split_once('.') {
-            Some(("", number)) => {
-                writer.u8(1)?;
-                Ok(writer.u32(number.parse::<u32>()?)?)
-            }
-            _ => class_name(writer, word),
-        },
+fn class_word(fields: &mut Fields, word: &str) {
+    match word.split_once('.') {
+        Some(("", number)) => counted(fields, number),
+        _ => class_name(fields, word),
     }
 }
 
-fn type_text(alloc: Global, writer: &mut FieldWriter, word: &str) -> Result<(), CaseFault> {
+fn type_word(fields: &mut Fields, word: &str) {
+    match word {
+        "[]" => fields.bytes(&[2]),
+        "int" => fields.bytes(&[0, 3]),
+        "void" => fields.bytes(&[0, 8]),
+        _ => class_word(fields, word),
+    }
+}
+
+fn type_text(alloc: Global, fields: &mut Fields, word: &str) -> Result<(), CaseFault> {
     let words: Vec<&str> = word.split('/').collect(alloc)?;
     for each in &words {
-        type_word(writer, *each)?;
+        type_word(fields, *each);
     }
     Ok(())
 }
 
-fn type_texts(alloc: Global, writer: &mut FieldWriter, word: &str) -> Result<(), CaseFault> {
-    let types = several(alloc, word)?;
-    count(writer, types.as_slice())?;
-    for each in &types {
-        type_text(alloc, writer, *each)?;
+fn listed_types(alloc: Global, fields: &mut Fields, types: &[&str]) -> Result<(), CaseFault> {
+    fields.count(types.len());
+    for each in types {
+        type_text(alloc, fields, *each)?;
     }
     Ok(())
+}
+
+fn type_texts(alloc: Global, fields: &mut Fields, word: &str) -> Result<(), CaseFault> {
+    let types = several(alloc, word)?;
+    listed_types(alloc, fields, types.as_slice())
 }
 
 // ---- members
 
-fn type_parameters(alloc: Global, writer: &mut FieldWriter, word: &str) -> Result<(), CaseFault> {
+fn bounds(alloc: Global, fields: &mut Fields, word: &str) -> Result<(), CaseFault> {
+    let types: Vec<&str> = word.split('&').collect(alloc)?;
+    listed_types(alloc, fields, types.as_slice())
+}
+
+// A name, or a name and its bounds.
+fn type_parameter(alloc: Global, fields: &mut Fields, word: &str) -> Result<(), CaseFault> {
+    match word.split_once('=') {
+        None => {
+            fields.text(word);
+            fields.u32(0);
+            fields.u32(0);
+            Ok(())
+        }
+        Some((name, written)) => {
+            fields.text(name);
+            fields.u32(0);
+            bounds(alloc, fields, written)
+        }
+    }
+}
+
+fn type_parameters(alloc: Global, fields: &mut Fields, word: &str) -> Result<(), CaseFault> {
     let names = several(alloc, word)?;
-    count(writer, names.as_slice())?;
+    fields.count(names.len());
     for each in &names {
-        text(writer, *each)?;
-        writer.u32(0)?;
-        writer.u32(0)?;
+        type_parameter(alloc, fields, *each)?;
     }
     Ok(())
 }
 
 // Parameters of these types, the last one of which takes one argument.
-fn parameters(alloc: Global, writer: &mut FieldWriter, word: &str) -> Result<(), CaseFault> {
+fn parameters(alloc: Global, fields: &mut Fields, word: &str) -> Result<(), CaseFault> {
     let types = several(alloc, word)?;
-    count(writer, types.as_slice())?;
+    fields.count(types.len());
     for each in &types {
-        text(writer, "p")?;
-        writer.u16(0)?;
-        writer.u32(0)?;
-        type_text(alloc, writer, *each)?;
+        fields.text("p");
+        fields.u16(0);
+        fields.u32(0);
+        type_text(alloc, fields, *each)?;
     }
-    Ok(writer.bool(false)?)
+    fields.u8(0);
+    Ok(())
 }
 
-fn field(alloc: Global, writer: &mut FieldWriter, name: &str, of: &str) -> Result<(), CaseFault> {
-    writer.u8(0)?;
-    text(writer, name)?;
-    plain(writer)?;
-    type_text(alloc, writer, of)?;
-    Ok(writer.u8(0)?)
+fn field(alloc: Global, fields: &mut Fields, name: &str, of: &str) -> Result<(), CaseFault> {
+    fields.u8(0);
+    fields.text(name);
+    plain(fields);
+    type_text(alloc, fields, of)?;
+    fields.u8(0);
+    Ok(())
 }
 
 // Its name, its type parameters, the types of its parameters, its result and what it throws.
-fn method(alloc: Global, writer: &mut FieldWriter, words: &[&str; 5]) -> Result<(), CaseFault> {
-    writer.u8(1)?;
-    text(writer, words[0])?;
-    plain(writer)?;
-    type_parameters(alloc, writer, words[1])?;
-    type_text(alloc, writer, words[3])?;
-    parameters(alloc, writer, words[2])?;
-    type_texts(alloc, writer, words[4])?;
-    Ok(writer.u8(0)?)
+fn method(alloc: Global, fields: &mut Fields, words: &[&str; 5]) -> Result<(), CaseFault> {
+    fields.u8(1);
+    fields.text(words[0]);
+    plain(fields);
+    type_parameters(alloc, fields, words[1])?;
+    type_text(alloc, fields, words[3])?;
+    parameters(alloc, fields, words[2])?;
+    type_texts(alloc, fields, words[4])?;
+    fields.u8(0);
+    Ok(())
 }
 
 // Its type parameters, the types of its parameters and what it throws.
-fn constructor(
-    alloc: Global,
-    writer: &mut FieldWriter,
-    words: &[&str; 3],
-) -> Result<(), CaseFault> {
-    writer.u8(2)?;
-    plain(writer)?;
-    type_parameters(alloc, writer, words[0])?;
-    parameters(alloc, writer, words[1])?;
-    type_texts(alloc, writer, words[2])
+fn constructor(alloc: Global, fields: &mut Fields, words: &[&str; 3]) -> Result<(), CaseFault> {
+    fields.u8(2);
+    plain(fields);
+    type_parameters(alloc, fields, words[0])?;
+    parameters(alloc, fields, words[1])?;
+    type_texts(alloc, fields, words[2])
 }
 
-fn constant(writer: &mut FieldWriter, name: &str) -> Result<(), CaseFault> {
-    writer.u8(3)?;
-    text(writer, name)?;
-    writer.u32(0)?;
-    writer.u8(0)?;
-    Ok(writer.bool(false)?)
+fn constant(fields: &mut Fields, name: &str) {
+    fields.u8(3);
+    fields.text(name);
+    fields.u32(0);
+    fields.u8(0);
+    fields.u8(0)
 }
 
-fn kind(word: &str) -> Result<u8, CaseFault> {
+fn kind(fields: &mut Fields, word: &str) {
     match word {
-        "enum" => Ok(1),
-        "class" => Ok(2),
-        "annotation" => Ok(3),
-        "interface" => Ok(4),
-        _ => Err(CaseFault::NotACase),
+        "enum" => fields.u8(1),
+        "class" => fields.u8(2),
+        "annotation" => fields.u8(3),
+        "interface" => fields.u8(4),
+        _ => fields.not_a_case(),
     }
 }
 
-// A type as far as its members: its kind, its name, the number of its members and its type parameters.
-fn type_head(alloc: Global, writer: &mut FieldWriter, words: &[&str; 4]) -> Result<(), CaseFault> {
-    writer.u8(kind(words[0])?)?;
-    text(writer, words[1])?;
-    plain(writer)?;
-    type_parameters(alloc, writer, words[3])?;
-    writer.u8(0)?;
-    writer.u32(0)?;
-    Ok(writer.u32(words[2].parse::<u32>()?)?)
+fn superclass(alloc: Global, fields: &mut Fields, word: &str) -> Result<(), CaseFault> {
+    if word == "-" {
+        fields.u8(0);
+        return Ok(());
+    }
+    fields.u8(1);
+    type_text(alloc, fields, word)
 }
 
-fn type_words(alloc: Global, writer: &mut FieldWriter, words: &[&str]) -> Result<(), CaseFault> {
+// A type as far as its members: its kind, its name, the number of its members, its type parameters, its superclass and its interfaces.
+fn type_head(alloc: Global, fields: &mut Fields, words: &[&str; 6]) -> Result<(), CaseFault> {
+    kind(fields, words[0]);
+    fields.text(words[1]);
+    plain(fields);
+    type_parameters(alloc, fields, words[3])?;
+    superclass(alloc, fields, words[4])?;
+    type_texts(alloc, fields, words[5])?;
+    let _members = fields.u32_of(words[2]);
+    Ok(())
+}
+
+fn type_words(alloc: Global, fields: &mut Fields, words: &[&str]) -> Result<(), CaseFault> {
     match words {
-        [kind, name, members] => type_head(alloc, writer, &[*kind, *name, *members, "-"]),
+        [kind, name, members] => {
+            let words = [*kind, *name, *members, "-", "-", "-"];
+            type_head(alloc, fields, &words)
+        }
         [kind, name, members, parameters] => {
-            type_head(alloc, writer, &[*kind, *name, *members, *parameters])
+            let words = [*kind, *name, *members, *parameters, "-", "-"];
+            type_head(alloc, fields, &words)
         }
-        _ => Err(CaseFault::NotACase),
+        [kind, name, members, parameters, above, interfaces] => {
+            let words = [*kind, *name, *members, *parameters, *above, *interfaces];
+            type_head(alloc, fields, &words)
+        }
+        _ => {
+            fields.not_a_case();
+            Ok(())
+        }
     }
 }
 
-fn member(alloc: Global, writer: &mut FieldWriter, words: &[&str]) -> Result<(), CaseFault> {
+fn member(alloc: Global, fields: &mut Fields, words: &[&str]) -> Result<(), CaseFault> {
     match words {
-        ["field", name, of] => field(alloc, writer, name, of),
-        ["method", name, variables, types, outcome, thrown] => method(
-            alloc,
-            writer,
-            &[*name, *variables, *types, *outcome, *thrown],
-        ),
-        ["constructor", variables, types, thrown] => {
-            constructor(alloc, writer, &[*variables, *types, *thrown])
+        ["field", name, of] => field(alloc, fields, name, of),
+        ["method", name, variables, types, outcome, thrown] => {
+            let words = [*name, *variables, *types, *outcome, *thrown];
+            method(alloc, fields, &words)
         }
-        ["constant", name] => constant(writer, name),
+        ["constructor", variables, types, thrown] => {
+            constructor(alloc, fields, &[*variables, *types, *thrown])
+        }
+        ["constant", name] => {
+            constant(fields, name);
+            Ok(())
+        }
         _ => {
-            writer.u8(4)?;
-            type_words(alloc, writer, words)
+            fields.u8(4);
+            type_words(alloc, fields, words)
         }
     }
 }
@@ -209,36 +231,56 @@ fn member(alloc: Global, writer: &mut FieldWriter, words: &[&str]) -> Result<(),
 // ---- units
 
 // What stands before the type: the package, without imports and other types of the file.
-fn file(alloc: Global, writer: &mut FieldWriter, package: &str) -> Result<(), CaseFault> {
+fn file(alloc: Global, fields: &mut Fields, package: &str) -> Result<(), CaseFault> {
     let package = name(alloc, package)?;
-    text(writer, package.as_str())?;
-    writer.u32(0)?;
-    writer.u32(0)?;
-    Ok(writer.u8(0)?)
+    fields.text(package.as_str());
+    fields.u32(0);
+    fields.u32(0);
+    fields.u8(0);
+    Ok(())
+}
+
+// A piece, whose parts are joined by `:`.
+fn piece(alloc: Global, fields: &mut Fields, piece: &str, is_first: bool) -> Result<(), CaseFault> {
+    let parts: Vec<&str> = piece.split(':').collect(alloc)?;
+    if is_first {
+        type_words(alloc, fields, &parts)
+    } else {
+        member(alloc, fields, &parts)
+    }
+}
+
+fn declare(
+    alloc: Global,
+    fields: &mut Fields,
+    package: &str,
+    pieces: &[&str],
+) -> Result<(), CaseFault> {
+    file(alloc, fields, package)?;
+    let mut is_first = true;
+    for each in pieces {
+        piece(alloc, fields, each, is_first)?;
+        is_first = false;
+    }
+    Ok(())
+}
+
+fn fault_of(fault: ShapeFault) -> CaseFault {
+    match fault {
+        ShapeFault::Bad => CaseFault::NotACase,
+        ShapeFault::Memory => CaseFault::Memory,
+    }
 }
 
 /// The unit of a package that the pieces declare.
 pub fn unit(alloc: Global, package: &str, pieces: &[&str]) -> Result<Unit, CaseFault> {
-    let mut writer = FieldWriter::new(alloc);
-    file(alloc, &mut writer, package)?;
-    let mut is_first = true;
-    for piece in pieces {
-        let parts: Vec<&str> = piece.split(':').collect(alloc)?;
-        if is_first {
-            type_words(alloc, &mut writer, parts.as_slice())?;
-        } else {
-            member(alloc, &mut writer, parts.as_slice())?;
-        }
-        is_first = false;
-    }
-    read(alloc, writer)
+    let mut fields = Fields::new(alloc);
+    declare(alloc, &mut fields, package, pieces)?;
+    read(alloc, fields)
 }
 
 // The unit whose shape was written.
-fn read(alloc: Global, writer: FieldWriter) -> Result<Unit, CaseFault> {
-    match parse_shape(alloc, writer.into_bytes().as_slice()) {
-        Ok(unit) => Ok(unit),
-        Err(ShapeFault::Bad) => Err(CaseFault::NotACase),
-        Err(ShapeFault::Memory) => Err(CaseFault::Memory),
-    }
+fn read(alloc: Global, fields: Fields) -> Result<Unit, CaseFault> {
+    let bytes = fields.into_bytes()?;
+    parse_shape(alloc, bytes.as_slice()).map_err(fault_of)
 }

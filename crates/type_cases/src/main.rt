@@ -10,10 +10,14 @@
 //! | `same MIRROR MIRROR` | whether they are the same type |
 //! | `print MIRROR` | the text of the type |
 //! | `type ELEMENT` | the type of the element |
+//! | `boxed MIRROR` | the box of the primitive type |
+//! | `unboxed MIRROR` | the primitive type of the box |
+//! | `erasure MIRROR` | the erasure of the type |
+//! | `direct MIRROR` | the direct supertypes, joined by commas, or `[]` |
 //!
 //! A fault is `no such`, `wrong kind` or `too deep`.
 //!
-//! The unnamed package is `-`. Pieces are a type as far as its members, then its members one by one, of which a type is again followed by its own. A type is `KIND:NAME:MEMBERS` with a kind `enum`, `class`, `annotation` or `interface` and the number of its members, or `KIND:NAME:MEMBERS:PARAMETERS`; other members are `field:NAME:TYPE`, `method:NAME:PARAMETERS:TYPES:RESULT:THROWN`, `constructor:PARAMETERS:TYPES:THROWN` and `constant:NAME`. Type parameters, the types of parameters and what is thrown are joined by `+`, or `-` for none.
+//! The unnamed package is `-`. Pieces are a type as far as its members, then its members one by one, of which a type is again followed by its own. A type is `KIND:NAME:MEMBERS` with a kind `enum`, `class`, `annotation` or `interface` and the number of its members, `KIND:NAME:MEMBERS:PARAMETERS` or `KIND:NAME:MEMBERS:PARAMETERS:SUPERCLASS:INTERFACES`, where the superclass is `-` if there is none; other members are `field:NAME:TYPE`, `method:NAME:PARAMETERS:TYPES:RESULT:THROWN`, `constructor:PARAMETERS:TYPES:THROWN` and `constant:NAME`. Type parameters, interfaces, the types of parameters and what is thrown are joined by `+`, or `-` for none. A type parameter is `NAME` or `NAME=BOUND`, and further bounds are joined to the first one by `&`.
 //!
 //! A type in a piece is `int` or `void`, or words from the outside in, joined by `/`: `[]`, and for a class type `.N`, where N is the number of its names, and each name, as `NAME` or as `NAME<N` with the number of the types that follow as its arguments.
 //!
@@ -26,12 +30,18 @@ mod declared;
 mod shown;
 mod words;
 
-use case_lines::{Calls, CaseFault, run, yes_or_no};
+use apt_base::{ElementRef, Name};
+use case_lines::{
+    Calls, CaseFault, both, done_or, element, given, one_word, put, run, told, yes_or_no,
+};
 use decl_syntax::Unit;
 use element_table::{EnterFault, Part, Table};
 use std::alloc::Global;
 use std::process::ExitCode;
-use type_queries::{QueryFault, is_same, print, type_of};
+use type_mirror::Mirror;
+use type_queries::{
+    QueryFault, boxed, direct_supertypes, erasure, is_same, print, type_of, unboxed,
+};
 
 /// The questions over one table.
 #[derive(Drop)]
@@ -42,62 +52,116 @@ struct Types {
 impl Calls for Types {
     fn call(&mut self, alloc: Global, words: &[&str]) -> Result<String, CaseFault> {
         match words {
-            ["empty"] => {
-                self.table = Table::new(alloc);
-                text_of(alloc, "done")
-            }
+            ["empty"] => renew(alloc, &mut self.table),
             ["source", package, pieces @ ..] => {
-                let unit = declared::unit(alloc, *package, pieces)?;
-                enter(alloc, &mut self.table, Part::Source, unit)
+                declare(alloc, &mut self.table, Part::Source, package, pieces)
             }
             ["stub", package, pieces @ ..] => {
-                let unit = declared::unit(alloc, *package, pieces)?;
-                enter(alloc, &mut self.table, Part::Stub, unit)
+                declare(alloc, &mut self.table, Part::Stub, package, pieces)
             }
-            ["same", one, other] => same_word(alloc, &self.table, *one, *other),
-            ["print", of] => print_word(alloc, &self.table, *of),
-            ["type", at] => type_word(alloc, &self.table, *at),
-            _ => Err(CaseFault::NotACase),
+            _ => ask(alloc, &self.table, words),
         }
     }
 }
 
-fn text_of(alloc: Global, word: &str) -> Result<String, CaseFault> {
-    Ok(String::from_str(alloc, word)?)
+// The calls that leave the table as it is.
+fn ask(alloc: Global, table: &Table, words: &[&str]) -> Result<String, CaseFault> {
+    match words {
+        ["same", one, other] => same_word(alloc, table, one, other),
+        ["type", at] => type_word(alloc, table, at),
+        [call, of] => given(alloc, words::mirror(alloc, of), |alloc, of: &Mirror| {
+            ask_of(alloc, table, call, of)
+        }),
+        _ => Err(CaseFault::NotACase),
+    }
 }
 
-fn fault_word(alloc: Global, fault: QueryFault) -> Result<String, CaseFault> {
+// The calls on one mirror.
+fn ask_of(alloc: Global, table: &Table, call: &str, of: &Mirror) -> Result<String, CaseFault> {
+    match call {
+        "print" => told(alloc, print(alloc, table, of), text_word, fault_word),
+        "boxed" => told(
+            alloc,
+            boxed(alloc, table, of),
+            shown::mirror_word,
+            fault_word,
+        ),
+        "unboxed" => told(
+            alloc,
+            unboxed(alloc, table, of),
+            shown::mirror_word,
+            fault_word,
+        ),
+        "erasure" => told(
+            alloc,
+            erasure(alloc, table, of),
+            shown::mirror_word,
+            fault_word,
+        ),
+        "direct" => told(
+            alloc,
+            direct_supertypes(alloc, table, of),
+            shown::mirror_words,
+            fault_word,
+        ),
+        _ => Err(CaseFault::NotACase),
+    }
+}
+
+fn fault_word(alloc: Global, fault: &QueryFault) -> Result<String, CaseFault> {
     match fault {
-        QueryFault::NoSuch => text_of(alloc, "no such"),
-        QueryFault::WrongKind => text_of(alloc, "wrong kind"),
-        QueryFault::TooDeep => text_of(alloc, "too deep"),
+        QueryFault::NoSuch => one_word(alloc, "no such"),
+        QueryFault::WrongKind => one_word(alloc, "wrong kind"),
+        QueryFault::TooDeep => one_word(alloc, "too deep"),
         QueryFault::Memory => Err(CaseFault::Memory),
     }
 }
 
-fn same_word(alloc: Global, table: &Table, one: &str, other: &str) -> Result<String, CaseFault> {
-    let one = words::mirror(alloc, one)?;
-    let other = words::mirror(alloc, other)?;
-    match is_same(table, &one, &other) {
-        Ok(same) => text_of(alloc, yes_or_no(same)),
-        Err(fault) => fault_word(alloc, fault),
-    }
+fn text_word(alloc: Global, text: &Name) -> Result<String, CaseFault> {
+    one_word(alloc, text.as_str())
 }
 
-fn print_word(alloc: Global, table: &Table, of: &str) -> Result<String, CaseFault> {
-    let of = words::mirror(alloc, of)?;
-    match print(alloc, table, &of) {
-        Ok(text) => text_of(alloc, text.as_str()),
-        Err(fault) => fault_word(alloc, fault),
-    }
+fn truth_word(alloc: Global, truth: &bool) -> Result<String, CaseFault> {
+    one_word(alloc, yes_or_no(*truth))
+}
+
+fn same_of(alloc: Global, table: &Table, both: &(Mirror, Mirror)) -> Result<String, CaseFault> {
+    told(
+        alloc,
+        is_same(table, &both.0, &both.1),
+        truth_word,
+        fault_word,
+    )
+}
+
+fn same_word(alloc: Global, table: &Table, one: &str, other: &str) -> Result<String, CaseFault> {
+    given(
+        alloc,
+        both(words::mirror(alloc, one), words::mirror(alloc, other)),
+        |alloc, both: &(Mirror, Mirror)| same_of(alloc, table, both),
+    )
+}
+
+fn type_at(alloc: Global, table: &Table, at: &ElementRef) -> Result<String, CaseFault> {
+    told(
+        alloc,
+        type_of(alloc, table, at),
+        shown::mirror_word,
+        fault_word,
+    )
 }
 
 fn type_word(alloc: Global, table: &Table, at: &str) -> Result<String, CaseFault> {
-    let at = words::element(alloc, at)?;
-    match type_of(alloc, table, &at) {
-        Ok(mirror) => shown::mirror_word(alloc, &mirror),
-        Err(fault) => fault_word(alloc, fault),
-    }
+    given(alloc, element(alloc, at), |alloc, at: &ElementRef| {
+        type_at(alloc, table, at)
+    })
+}
+
+// ---- units
+
+fn renew(alloc: Global, table: &mut Table) -> Result<String, CaseFault> {
+    put(table, Table::new(alloc));
+    one_word(alloc, "done")
 }
 
 fn refusal(fault: &EnterFault) -> &'static str {
@@ -108,18 +172,24 @@ fn refusal(fault: &EnterFault) -> &'static str {
     }
 }
 
-// A function of its own, so that what drops a unit is proved once.
-fn let_go(_fault: EnterFault) {}
+fn refused(alloc: Global, fault: &EnterFault) -> Result<String, CaseFault> {
+    one_word(alloc, refusal(fault))
+}
 
+// Enters a unit: `done`, or what stands against it.
 fn enter(alloc: Global, table: &mut Table, part: Part, unit: Unit) -> Result<String, CaseFault> {
-    match table.enter(part, unit) {
-        Ok(()) => text_of(alloc, "done"),
-        Err(fault) => {
-            let word = refusal(&fault);
-            let_go(fault);
-            text_of(alloc, word)
-        }
-    }
+    done_or(alloc, table.enter(part, unit), refused)
+}
+
+// Enters the unit of a package that the pieces declare.
+fn declare(
+    alloc: Global,
+    table: &mut Table,
+    part: Part,
+    package: &str,
+    pieces: &[&str],
+) -> Result<String, CaseFault> {
+    enter(alloc, table, part, declared::unit(alloc, package, pieces)?)
 }
 
 fn main(rt: HostRuntime) -> ExitCode {

@@ -1,44 +1,8 @@
 // Mirrors in words.
-use apt_base::ElementRef;
-use case_lines::CaseFault;
+use apt_base::{ElementRef, List};
+use case_lines::{CaseFault, Pieces};
 use std::alloc::Global;
 use type_mirror::{Around, BaseMirror, DeclaredMirror, ExecutableMirror, Mirror, PrimitiveKind};
-
-/// A text that is put together piece by piece. Want of memory leaves pieces out, and is told at the end.
-#[derive(Drop)]
-struct Pieces {
-    alloc: Global,
-    text: String,
-    complete: bool,
-}
-
-impl Pieces {
-    fn add(&mut self, piece: &str) {
-        if self.text.push_str(piece).is_err() {
-            self.complete = false;
-        }
-    }
-
-    // An element: its unit and the steps of its path.
-    fn element(&mut self, at: &ElementRef) {
-        self.add(at.unit.as_str());
-        for step in at.path.as_slice() {
-            match format!(in self.alloc; ":{step}") {
-                Ok(piece) => self.add(piece.as_str()),
-                Err(_) => self.complete = false,
-            }
-        }
-    }
-
-    fn into_string(self) -> Result<String, CaseFault> {
-        let Pieces { text, complete, .. } = self;
-        if complete {
-            Ok(text)
-        } else {
-            Err(CaseFault::Memory)
-        }
-    }
-}
 
 fn primitive(kind: PrimitiveKind) -> &'static str {
     match kind {
@@ -69,6 +33,15 @@ fn back(item: Around) -> &'static str {
     }
 }
 
+// An element: its unit and the steps of its path.
+fn element(pieces: &mut Pieces, at: &ElementRef) {
+    pieces.add(at.unit.as_str());
+    for step in at.path.as_slice() {
+        pieces.add(":");
+        pieces.number(*step as u64);
+    }
+}
+
 fn within(pieces: &mut Pieces, word: &str, piece: &str) {
     pieces.add(word);
     pieces.add("(");
@@ -95,7 +68,7 @@ fn base(pieces: &mut Pieces, of: &BaseMirror) {
         BaseMirror::Error(text) => within(pieces, "error", text.as_str()),
         BaseMirror::Variable(at) => {
             pieces.add("variable(");
-            pieces.element(at);
+            element(pieces, at);
             pieces.add(")")
         }
         BaseMirror::Wildcard => pieces.add("?"),
@@ -117,7 +90,7 @@ fn declared(pieces: &mut Pieces, of: &DeclaredMirror) {
             pieces.add(").")
         }
     }
-    pieces.element(&of.element);
+    element(pieces, &of.element);
     if of.arguments.is_empty() {
         return;
     }
@@ -143,7 +116,7 @@ fn executable(pieces: &mut Pieces, of: &ExecutableMirror) {
     let mut first = true;
     for each in of.variables.as_slice() {
         pieces.add(if first { "" } else { "," });
-        pieces.element(each);
+        element(pieces, each);
         first = false;
     }
     pieces.add(";");
@@ -157,11 +130,17 @@ fn executable(pieces: &mut Pieces, of: &ExecutableMirror) {
 
 /// The words of a mirror.
 pub fn mirror_word(alloc: Global, of: &Mirror) -> Result<String, CaseFault> {
-    let mut pieces = Pieces {
-        alloc,
-        text: String::new(alloc),
-        complete: true,
-    };
+    let mut pieces = Pieces::new(alloc);
     mirror(&mut pieces, of);
+    pieces.into_string()
+}
+
+/// The words of several mirrors, joined by commas, or `[]`.
+pub fn mirror_words(alloc: Global, list: &List<Mirror>) -> Result<String, CaseFault> {
+    let mut pieces = Pieces::new(alloc);
+    if list.is_empty() {
+        pieces.add("[]");
+    }
+    several(&mut pieces, list.as_slice());
     pieces.into_string()
 }

@@ -1,5 +1,6 @@
+pub mod BoxQuestions
 pub mod ListedTexts
 pub mod NamedElements
-pub mod PlacesOfElements
+pub mod TypeQuestions
 pub mod TypeTexts
 pub mod TypesAtElements

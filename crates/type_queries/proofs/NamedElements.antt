@@ -1,5 +1,5 @@
 -- Which elements a mirror names, by what it is made of.
-use Rattle.std.proofs.Common.{◌≡◌, ℕ, Bool, true, false, ◌&&◌, List, [], ◌∷◌, ◌++◌, map, flat_map, Option, None, Some, refl, sym, ap, ◌∙◌, append-nil}
+use Rattle.std.proofs.Common.{◌≡◌, ℕ, Bool, true, false, ◌&&◌, List, [], ◌∷◌, ◌++◌, map, Option, None, Some, refl, ap, ◌∙◌}
 use Rattle.std.specs.List.{list_all}
 use Rattle.std.specs.Option.{option_map, option_to_list}
 use Rattle.std.proofs.lemmas.List.Folds.{list_all-append}
@@ -15,7 +15,7 @@ use Rattle.type_mirror.specs.declared.mirror.ExecutableMirror.{ExecutableMirror,
 use Rattle.type_mirror.specs.Parts.{plain}
 use Rattle.type_layers.specs.Layers.{around_step}
 use Rattle.type_layers.proofs.BaseLayers.{by_layers-around, by_layers-Primitive, by_layers-Declared, by_layers-Error, by_layers-Variable, by_layers-Wildcard, by_layers-Executable, by_layers-Nothing, by_layers-Void, by_layers-Null, by_layers-Package}
-use Rattle.type_queries.specs.Elements.{is_there}
+use Rattle.type_relations.specs.Elements.{is_there}
 use Rattle.type_queries.specs.Verdicts.{parts_elements, layer_elements, elements_of, are_there}
 
 -- what stands around a base names nothing

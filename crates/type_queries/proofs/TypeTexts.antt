@@ -1,5 +1,5 @@
 -- The texts of types, by what they are made of.
-use Rattle.std.proofs.Common.{◌≡◌, ◌==◌, ℕ, false, length, List, [], ◌∷◌, ◌++◌, map, flat_map, Option, None, Some, codes, refl, sym, ap, ◌∙◌, append_assoc, append-nil}
+use Rattle.std.proofs.Common.{◌≡◌, ◌==◌, ℕ, false, length, List, [], ◌∷◌, ◌++◌, map, flat_map, codes, refl, sym, ap, ◌∙◌, append_assoc, append-nil}
 use Rattle.std.specs.List.{join_with_byte}
 use Rattle.std.specs.Option.{option_map}
 use Rattle.apt_base.specs.declared.element.ElementRef.{ElementRef}
@@ -8,14 +8,12 @@ use Rattle.type_mirror.specs.declared.mirror.PrimitiveKind.{PrimitiveKind}
 use Rattle.type_mirror.specs.declared.mirror.Around.{Around}
 use Rattle.type_mirror.specs.declared.mirror.Around.TheVariants as around
 use Rattle.type_mirror.specs.declared.mirror.Mirror.{Mirror, out-Mirror}
-use Rattle.type_mirror.specs.declared.mirror.BaseMirror.{BaseMirror}
 use Rattle.type_mirror.specs.declared.mirror.BaseMirror.TheVariants as base
 use Rattle.type_mirror.specs.declared.mirror.DeclaredMirror.{DeclaredMirror, out-DeclaredMirror}
 use Rattle.type_mirror.specs.declared.mirror.ExecutableMirror.{ExecutableMirror, out-ExecutableMirror}
-use Rattle.type_mirror.specs.Parts.{plain}
 use Rattle.type_layers.specs.Layers.{around_step}
 use Rattle.type_layers.proofs.BaseLayers.{by_layers-around, by_layers-Primitive, by_layers-Declared, by_layers-Error, by_layers-Variable, by_layers-Wildcard, by_layers-Executable, by_layers-Nothing, by_layers-Void, by_layers-Null, by_layers-Package}
-use Rattle.type_queries.specs.Elements.{parameter_name, name_by}
+use Rattle.type_relations.specs.Elements.{parameter_name, name_by}
 use Rattle.type_queries.specs.Print.{primitive_text, class_text, arguments_text, layer_text, text_of}
 use Rattle.type_queries.specs.Spelling.{front_of, back_of, base_text, declared_text, executable_text, types_text}
 

@@ -1,5 +1,5 @@
 -- The type of an element, by what stands there.
-use Rattle.std.proofs.Common.{◌≡◌, Bool, true, false, is_some, Option, None, Some, refl, sym, ap, ◌∙◌}
+use Rattle.std.proofs.Common.{◌≡◌, true, is_some, Option, None, Some, refl, ap, ◌∙◌}
 use Rattle.apt_base.specs.declared.element.ElementRef.{ElementRef}
 use Rattle.decl_elements.specs.Nodes.{Node}
 use Rattle.element_table.specs.TypeTable.{TypeTable}

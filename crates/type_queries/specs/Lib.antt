@@ -1,5 +1,3 @@
-pub mod Elements
-pub mod Named
 pub mod Print
 pub mod Questions
 pub mod Spelling

@@ -7,7 +7,7 @@ use Rattle.type_mirror.specs.declared.mirror.PrimitiveKind.{PrimitiveKind}
 use Rattle.type_mirror.specs.declared.mirror.PrimitiveKind.TheVariants as kind
 use Rattle.type_mirror.specs.declared.mirror.Mirror.{Mirror}
 use Rattle.type_layers.specs.Layers.{Layer, Primitive, Declared, Error, Variable, Array, Unbounded, Extends, Super, Executable, Nothing, Void, Null, Package, by_layers}
-use Rattle.type_queries.specs.Elements.{type_name, parameter_name, name_by, canonical_name}
+use Rattle.type_relations.specs.Elements.{type_name, parameter_name, name_by, canonical_name}
 
 abbrev pub primitive_text : PrimitiveKind → List ℕ
 primitive_text kind.Boolean = codes "boolean"

@@ -1,13 +1,17 @@
 -- The questions on types, one for each call: which elements have to be there, which kinds are wanted, and the answer.
-use Rattle.std.specs.Prelude.{ℕ, Bool, true, ◌&&◌, List}
+use Rattle.std.specs.Prelude.{ℕ, Bool, true, false, not, ◌&&◌, List, is_some}
 use Rattle.apt_base.specs.declared.element.ElementRef.{ElementRef}
 use Rattle.element_table.specs.TypeTable.{TypeTable}
 use Rattle.type_mirror.specs.declared.mirror.Mirror.{Mirror}
+use Rattle.type_layers.specs.Layers.{Layer, Executable, Package, layer}
 use Rattle.type_layers.specs.Same.{same}
-use Rattle.type_queries.specs.Elements.{is_there}
+use Rattle.type_relations.specs.Boxed.{boxed, unboxed}
+use Rattle.type_relations.specs.Direct.{all_steps, direct}
+use Rattle.type_relations.specs.Elements.{is_there}
+use Rattle.type_relations.specs.Erasure.{erasure}
 use Rattle.type_queries.specs.Print.{text_of}
 use Rattle.type_queries.specs.TypeOf.{type_of}
-use Rattle.type_queries.specs.Verdicts.{Verdict, Given, judged, are_there}
+use Rattle.type_queries.specs.Verdicts.{Verdict, Given, value, judged, are_there}
 
 -- mirrors of any kind
 unfoldable pub same_question : TypeTable → Mirror → Mirror → Verdict Bool
@@ -17,6 +21,34 @@ same_question table a b = judged (are_there table a && are_there table b) true (
 unfoldable pub print_question : TypeTable → Mirror → Verdict (List ℕ)
 print_question table m = judged (are_there table m) true (Given (text_of table m))
 
+-- a primitive type
+unfoldable pub boxed_question : TypeTable → Mirror → Verdict Mirror
+boxed_question table m = judged (are_there table m) (is_some (boxed table m)) (value (boxed table m))
+
+-- one of the eight boxes
+unfoldable pub unboxed_question : TypeTable → Mirror → Verdict Mirror
+unboxed_question table m = judged (are_there table m) (is_some (unboxed table m)) (value (unboxed table m))
+
 -- an element of any kind
 unfoldable pub type_question : TypeTable → ElementRef → Verdict Mirror
 type_question table at = judged (is_there table at) true (Given (type_of table at))
+
+-- ---- kinds
+
+abbrev pub is_executable : Layer Mirror → Bool
+is_executable (Executable variables parameters outcome thrown) = true
+is_executable _ = false
+
+abbrev pub is_package : Layer Mirror → Bool
+is_package (Package name) = true
+is_package _ = false
+
+-- ---- supertypes and erasures, within 64 steps
+
+-- no executable and no package
+unfoldable pub direct_question : TypeTable → Mirror → Verdict (List Mirror)
+direct_question table m = judged (are_there table m) (not (is_executable (layer m)) && not (is_package (layer m))) (value (direct table m))
+
+-- no package
+unfoldable pub erasure_question : TypeTable → Mirror → Verdict Mirror
+erasure_question table m = judged (are_there table m) (not (is_package (layer m))) (value (erasure table all_steps m))

@@ -11,8 +11,8 @@ use Rattle.element_table.specs.TypeTable.{TypeTable}
 use Rattle.element_table.specs.TableElements.{node_at}
 use Rattle.type_mirror.specs.declared.mirror.Mirror.{Mirror}
 use Rattle.type_layers.specs.Layers.{Variable, Nothing, Void, Package, mirror_of, array_of, declared_mirror, executable_mirror}
-use Rattle.type_queries.specs.Elements.{type_parameters, around_of, canonical_name}
-use Rattle.type_queries.specs.Named.{string, meaning_in}
+use Rattle.type_relations.specs.Elements.{type_parameters, around_of, canonical_name}
+use Rattle.type_relations.specs.Named.{string, meaning_in, written_types}
 
 -- type parameters as arguments
 abbrev pub own_arguments : List ElementRef → List Mirror
@@ -22,12 +22,9 @@ own_arguments parameters = map (λ parameter. mirror_of (Variable parameter)) pa
 abbrev pub own_type : TypeTable → ElementRef → Mirror
 own_type table at = declared_mirror at None (own_arguments (type_parameters table at))
 
--- what is written of several parameters, or of what is thrown
+-- what is written of several parameters
 abbrev pub parameter_types : TypeTable → ElementRef → List Param → List Mirror
 parameter_types table at parameters = map (λ p. meaning_in table at p.of) parameters
-
-abbrev pub written_types : TypeTable → ElementRef → List TypeText → List Mirror
-written_types table at texts = map (meaning_in table at) texts
 
 -- of a method or a constructor, by its result
 abbrev pub executable_type : TypeTable → ElementRef → List Param → Mirror → List TypeText → Mirror

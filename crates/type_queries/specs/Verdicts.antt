@@ -1,5 +1,5 @@
 -- What a question comes to: a fault, or an answer. The faults come in one order.
-use Rattle.std.specs.Prelude.{◌≡◌, Bool, true, false, List, [], ◌∷◌, ◌++◌, Result, Ok, Err}
+use Rattle.std.specs.Prelude.{◌≡◌, Bool, true, false, List, [], ◌∷◌, ◌++◌, Option, None, Some, Result, Ok, Err}
 use Rattle.std.specs.List.{list_all, flat_map}
 use Rattle.std.specs.Option.{option_to_list}
 use Rattle.apt_base.specs.declared.element.ElementRef.{ElementRef}
@@ -10,7 +10,7 @@ use Rattle.type_mirror.specs.declared.mirror.DeclaredMirror.{DeclaredMirror}
 use Rattle.type_mirror.specs.declared.mirror.ExecutableMirror.{ExecutableMirror}
 use Rattle.type_mirror.specs.Parts.{plain}
 use Rattle.type_layers.specs.Layers.{Layer, Declared, Variable, Array, Extends, Super, Executable, by_layers}
-use Rattle.type_queries.specs.Elements.{is_there}
+use Rattle.type_relations.specs.Elements.{is_there}
 use Rattle.type_queries.specs.declared.fault.QueryFault.{QueryFault}
 use Rattle.type_queries.specs.declared.fault.QueryFault.TheVariants as fault
 
@@ -22,6 +22,11 @@ pub data Verdict (A : Type 0) : Type 0 where
   -- there is no answer within 64 steps
   TooDeep : Verdict A
   Given : (answer : A) → Verdict A
+
+-- open is too deep
+abbrev pub value : {A : Type 0} → Option A → Verdict A
+value None = TooDeep
+value (Some x) = Given x
 
 -- an element that isn't there is told first, then a wrong kind
 abbrev pub judged : {A : Type 0} → Bool → Bool → Verdict A → Verdict A

@@ -1,16 +1,20 @@
 // The questions on types, one call each.
 ghost use Rattle.std.specs.Prelude.{◌≡◌};
-ghost use Rattle.type_queries.specs.Questions.{same_question, type_question, print_question};
+ghost use Rattle.type_queries.specs.Questions.{same_question, type_question, print_question, boxed_question, unboxed_question, direct_question, erasure_question};
 ghost use Rattle.type_queries.specs.Verdicts.{Gives};
 
 use crate::element_types::element_type;
 use crate::fault::QueryFault;
+use crate::kinds::{is_executable, is_package};
 use crate::printing::printed;
 use crate::there::are_there;
-use apt_base::{ElementRef, Name};
+use apt_base::{ElementRef, List, Name};
 use element_table::Table;
 use std::alloc::Global;
-use type_mirror::Mirror;
+use type_mirror::{BaseMirror, Mirror};
+use type_relations::{box_of, boxed_kind, direct, erasure_within, primitive_of};
+
+const ALL_STEPS: u32 = 64;
 
 /// Whether both are the same type, as `isSameType` of `javax.lang.model.util.Types` tells: equal mirrors, of which a wildcard is the same as nothing. `NoSuch` where one names an element that is not there. It takes no memory.
 #[tactic(auto, unfolding(crate::specs::Questions::same_question))]
@@ -43,4 +47,77 @@ pub fn print(alloc: Global, table: &Table, of: &Mirror) -> Result<Name, QueryFau
     }
     let text = printed(alloc, table, of)?;
     Ok(text)
+}
+
+/// The box of a primitive type (JLS 5.1.7), as `boxedClass` gives it: of the sources or of the stubs, and the error type with its name where the table does not have it. `NoSuch` where the type names an element that is not there, and `WrongKind` for any other type than a primitive one.
+#[tactic(auto, using(crate::proofs::BoxQuestions::boxes))]
+pub fn boxed(alloc: Global, table: &Table, of: &Mirror) -> Result<Mirror, QueryFault>
+    ensures { Gives result (boxed_question table.now of.now) }
+{
+    if !are_there(table, of) {
+        return Err(QueryFault::NoSuch);
+    }
+    match primitive_of(of) {
+        None => Err(QueryFault::WrongKind),
+        Some(kind) => {
+            let mirror = box_of(alloc, table, kind)?;
+            Ok(mirror)
+        }
+    }
+}
+
+/// The primitive type of one of the eight boxes (JLS 5.1.8), as `unboxedType` gives it. Where the table does not have a box, the error type with its name is the box. `NoSuch` where the type names an element that is not there, and `WrongKind` for any other type than a box.
+#[tactic(auto, using(crate::proofs::BoxQuestions::boxes))]
+pub fn unboxed(alloc: Global, table: &Table, of: &Mirror) -> Result<Mirror, QueryFault>
+    ensures { Gives result (unboxed_question table.now of.now) }
+{
+    if !are_there(table, of) {
+        return Err(QueryFault::NoSuch);
+    }
+    match boxed_kind(alloc, table, of)? {
+        None => Err(QueryFault::WrongKind),
+        Some(kind) => Ok(Mirror::plain(alloc, BaseMirror::Primitive(kind))),
+    }
+}
+
+/// The erasure of a type (JLS 4.6), as `erasure` of `javax.lang.model.util.Types` gives it. `NoSuch` where the type names an element that is not there, `WrongKind` for a package, and `TooDeep` where it is not found by 64 steps from a type variable to its first bound.
+#[tactic(auto, using(crate::proofs::TypeQuestions::erasures))]
+pub fn erasure(alloc: Global, table: &Table, of: &Mirror) -> Result<Mirror, QueryFault>
+    ensures { Gives result (erasure_question table.now of.now) }
+{
+    let is_there = are_there(table, of);
+    if !is_there {
+        return Err(QueryFault::NoSuch);
+    }
+    if is_package(of) {
+        return Err(QueryFault::WrongKind);
+    }
+    match erasure_within(alloc, table, ALL_STEPS, of)? {
+        None => Err(QueryFault::TooDeep),
+        Some(erased) => Ok(erased),
+    }
+}
+
+/// The direct supertypes of a type (JLS 4.10.1 to 4.10.3), the superclass first, as `directSupertypes` gives them. `NoSuch` where the type names an element that is not there, `WrongKind` for a package and for the types of a method or a constructor, and `TooDeep` where those of a raw type have no erasure within 64 steps.
+#[tactic(auto, using(crate::proofs::TypeQuestions::supertypes))]
+pub fn direct_supertypes(
+    alloc: Global,
+    table: &Table,
+    of: &Mirror,
+) -> Result<List<Mirror>, QueryFault>
+    ensures { Gives result (direct_question table.now of.now) }
+{
+    if !are_there(table, of) {
+        return Err(QueryFault::NoSuch);
+    }
+    if is_executable(of) {
+        return Err(QueryFault::WrongKind);
+    }
+    if is_package(of) {
+        return Err(QueryFault::WrongKind);
+    }
+    match direct(alloc, table, of)? {
+        None => Err(QueryFault::TooDeep),
+        Some(types) => Ok(types),
+    }
 }

@@ -7,28 +7,27 @@ ghost use Rattle.decl_elements.specs.Shown.{node_of};
 ghost use Rattle.element_table.specs.TableElements.{node_at};
 ghost use Rattle.type_layers.specs.Layers.{mirror_of, declared_mirror, executable_mirror};
 ghost use Rattle.type_layers.specs.Layers as layers;
-ghost use Rattle.name_resolve.specs.Shown.{find_of};
-ghost use Rattle.name_resolve.specs.Finds.{One};
-ghost use Rattle.name_resolve.specs.Mirrors.{found_mirror};
 ghost use Rattle.type_resolve.specs.Scopes.{IsElement};
-ghost use Rattle.type_queries.specs.Elements as elements;
-ghost use Rattle.type_queries.specs.Named.{stub_named, string};
+ghost use Rattle.type_relations.specs.Elements as elements;
+ghost use Rattle.type_relations.specs.Named.{string};
 ghost use Rattle.type_queries.specs.Questions.{type_question};
-ghost use Rattle.type_queries.specs.TypeOf.{own_type, own_arguments, parameter_types, written_types, executable_type, member_type, node_type};
+ghost use Rattle.type_queries.specs.TypeOf.{own_type, own_arguments, parameter_types, executable_type, member_type, node_type};
 ghost use Rattle.type_queries.specs.Verdicts.{Gives};
 
 use crate::fault::QueryFault;
-use crate::places::{around_of, canonical_name, place_of, type_parameters};
-use apt_base::{Boxed, ElementRef, List, Name, NoMemory};
+use apt_base::{ElementRef, List, NoMemory};
 use decl_elements::Place;
 use decl_tree::{ConstructorDecl, Member, MethodDecl, Param, TypeText};
-use element_table::{Part, Table, unit_name};
-use name_resolve::{Finds, Found, top_level, type_at};
+use element_table::{Part, Table};
 use std::alloc::Global;
-use type_mirror::{Around, BaseMirror, DeclaredMirror, ExecutableMirror, Mirror};
+use type_mirror::{BaseMirror, Mirror};
+use type_relations::{
+    around_of, array_of, canonical_name, class_type, executable, named_type, place_of,
+    type_parameters, written_types,
+};
 use type_resolve::resolve_type;
 
-// ---- mirrors of several parts
+// ---- mirrors
 
 #[tactic(auto, unfolding(type_layers::specs::Layers::mirror_of))]
 fn variable(alloc: Global, at: &ElementRef) -> Result<Mirror, NoMemory>
@@ -43,44 +42,6 @@ fn void(alloc: Global) -> Mirror
     ensures { result ≡ mirror_of layers.Void }
 {
     Mirror::plain(alloc, BaseMirror::Void)
-}
-
-fn array_of(alloc: Global, item: Mirror) -> Result<Mirror, NoMemory>
-    ensures { IfOk result (λ m. m ≡ layers.array_of item) }
-{
-    let mut around = List::new(alloc);
-    around.push(Around::Array)?;
-    item.wrapped(alloc, &around)
-}
-
-fn class_type(alloc: Global, element: ElementRef, arguments: List<Mirror>) -> Mirror
-    ensures { result ≡ declared_mirror element None arguments }
-{
-    let declared = DeclaredMirror {
-        element,
-        enclosing: None,
-        arguments,
-    };
-    Mirror::plain(alloc, BaseMirror::Declared(declared))
-}
-
-fn executable(
-    alloc: Global,
-    variables: List<ElementRef>,
-    parameters: List<Mirror>,
-    outcome: Mirror,
-    thrown: List<Mirror>,
-) -> Result<Mirror, NoMemory>
-    ensures { IfOk result (λ m. m ≡ executable_mirror variables parameters outcome thrown) }
-{
-    let result = Boxed::new(alloc, outcome)?;
-    let executable = ExecutableMirror {
-        variables,
-        parameters,
-        result,
-        thrown,
-    };
-    Ok(Mirror::plain(alloc, BaseMirror::Executable(executable)))
 }
 
 // ---- types
@@ -128,23 +89,6 @@ fn parameter_types(
     let mut list = List::new(alloc);
     for each in parameters {
         let one = resolve_type(alloc, table, at, &each.of)?;
-        list.push(one)?;
-    }
-    Ok(list)
-}
-
-fn written_types(
-    alloc: Global,
-    table: &Table,
-    at: &ElementRef,
-    texts: &[TypeText],
-) -> Result<List<Mirror>, NoMemory>
-    requires { IsElement table.now at.now }
-    ensures { IfOk result (λ list. list ≡ written_types table.now at.now texts.now) }
-{
-    let mut list = List::new(alloc);
-    for each in texts {
-        let one = resolve_type(alloc, table, at, each)?;
         list.push(one)?;
     }
     Ok(list)
@@ -217,36 +161,10 @@ fn member_type(
 
 // ---- what no source has
 
-// The type that was found, without arguments.
-fn found_type(alloc: Global, found: &Found<'_>) -> Result<Mirror, NoMemory>
-    ensures { IfOk result (λ m. m ≡ found_mirror (One (find_of found.now)) [] None []) }
-{
-    let unit = unit_name(alloc, found.unit)?;
-    let path = List::from_vec(Vec::from_slice(alloc, found.path.as_slice())?);
-    let element = ElementRef { unit, path };
-    match type_at(found) {
-        None => Ok(Mirror::plain(alloc, BaseMirror::Variable(element))),
-        Some(_) => Ok(class_type(alloc, element, List::new(alloc))),
-    }
-}
-
-// The type of this name among the stubs, or the error type with that text.
-#[tactic(auto, unfolding(crate::specs::Named::stub_named))]
-fn stub_type(alloc: Global, table: &Table, name: &str) -> Result<Mirror, NoMemory>
-    ensures { IfOk result (λ m. m ≡ stub_named table.now name.now) }
-{
-    let name = Name::new(alloc, name)?;
-    match top_level(alloc, table, Part::Stub, &name) {
-        Finds::One(found) => found_type(alloc, &found),
-        Finds::Nothing => Ok(Mirror::plain(alloc, BaseMirror::Error(name))),
-        Finds::Several => Ok(Mirror::plain(alloc, BaseMirror::Error(name))),
-    }
-}
-
 fn string(alloc: Global, table: &Table) -> Result<Mirror, NoMemory>
     ensures { IfOk result (λ m. m ≡ string table.now) }
 {
-    stub_type(alloc, table, "java.lang.String")
+    named_type(alloc, table, Part::Stub, "java.lang.String")
 }
 
 fn default_constructor_type(alloc: Global) -> Result<Mirror, NoMemory>

@@ -1,8 +1,8 @@
-//! Questions on the types of a table, as `Types` and `Elements` of `javax.lang.model.util` ask them: whether types are the same, the type of an element, and the text of a type.
+//! Questions on the types of a table, as `Types` and `Elements` of `javax.lang.model.util` ask them: whether types are the same, the type of an element, the text of a type, the boxes of primitive types, erasures and direct supertypes.
 //!
-//! `specs/Questions` has one definition for each call: which elements have to be there, which kinds are wanted, and the answer. `specs/TypeOf` has the types of elements, `specs/Print` the texts of types, and `Same` of `type_layers` when types are the same. They read the table by the look-ups of `type_resolve`, `name_resolve` and `element_table` alone.
+//! `specs/Questions` has one definition for each call: which elements have to be there, which kinds are wanted, and the answer. `specs/TypeOf` has the types of elements, `specs/Print` the texts of types, and `Same` of `type_layers` when types are the same; `type_relations` has the boxes, erasures and direct supertypes. They read the table by the look-ups of `type_relations`, `type_resolve`, `name_resolve` and `element_table` alone.
 //!
-//! The work of `is_same` is one step for each mirror that both hold, after a look-up of each element that they name; that of `print` one look-up for each class type and variable, and for the canonical name of a package without a unit a look at each unit of the table. `type_of` looks up each name that is written in the element.
+//! The work of `is_same` is one step for each mirror that both hold, after a look-up of each element that they name; that of `print` one look-up for each class type and variable, and for the canonical name of a package without a unit a look at each unit of the table. `type_of` looks up each name that is written in the element, `boxed` one name and `unboxed` up to eight. `erasure` looks up one bound for each step, and `direct_supertypes` each type that the header writes.
 //!
 //! Not promised: that memory is there, and that Java's compiler says the same where `docs/DECISIONS.md` tells a difference.
 #![tactic(auto)]
@@ -10,9 +10,9 @@
 mod calls;
 mod element_types;
 mod fault;
-mod places;
+mod kinds;
 mod printing;
 mod there;
 
-pub use calls::{is_same, print, type_of};
+pub use calls::{boxed, direct_supertypes, erasure, is_same, print, type_of, unboxed};
 pub use fault::QueryFault;

@@ -4,11 +4,11 @@ ghost use Rattle.std.specs.List.{flat_map};
 ghost use Rattle.type_queries.specs.Print.{primitive_text, arguments_text, text_of};
 ghost use Rattle.type_queries.specs.Spelling.{front_of, back_of, comma, base_text, name_text, declared_text, executable_text, types_text, IsAdded};
 
-use crate::places::{canonical_name, parameter_name, type_name};
 use apt_base::{Boxed, ElementRef, Name, NoMemory};
 use element_table::Table;
 use std::alloc::Global;
 use type_mirror::{Around, BaseMirror, DeclaredMirror, ExecutableMirror, Mirror, PrimitiveKind};
+use type_relations::{canonical_name, parameter_name, type_name};
 
 fn primitive_text(kind: PrimitiveKind) -> &'static str
     ensures { result.now ≡ primitive_text kind }

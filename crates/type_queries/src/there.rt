@@ -3,13 +3,13 @@ ghost use Rattle.std.specs.Prelude.{◌≡◌};
 ghost use Rattle.std.specs.List.{list_all};
 ghost use Rattle.std.specs.Option.{option_to_list};
 ghost use Rattle.type_mirror.specs.Parts.{plain};
-ghost use Rattle.type_queries.specs.Elements as elements;
+ghost use Rattle.type_relations.specs.Elements as elements;
 ghost use Rattle.type_queries.specs.Verdicts as verdicts;
 
-use crate::places::is_there;
 use apt_base::{Boxed, ElementRef};
 use element_table::Table;
 use type_mirror::{BaseMirror, DeclaredMirror, ExecutableMirror, Mirror};
+use type_relations::is_there;
 
 fn each_is_there(table: &Table, list: &[ElementRef]) -> bool
     ensures { result ≡ list_all (elements.is_there table.now) list.now }

@@ -1,6 +1,6 @@
 use Rattle.std.proofs.Common.{◌≡◌, drop}
 use Rattle.std.specs.List.{list_all}
-use Rattle.type_queries.specs.Elements.{is_there}
+use Rattle.type_relations.specs.Elements.{is_there}
 use Rattle.type_queries.proofs.there.each_is_there.Given as goal
 
 -- the rest decides

@@ -1,0 +1,32 @@
+// Which kinds of types a question wants.
+ghost use Rattle.std.specs.Prelude.{◌≡◌};
+ghost use Rattle.type_layers.specs.Layers.{layer};
+ghost use Rattle.type_queries.specs.Questions as questions;
+
+use type_mirror::{Around, BaseMirror, Mirror};
+
+/// Whether it is the types of a method or a constructor. It takes no memory.
+#[tactic(auto, unfolding(type_layers::specs::Layers::layer))]
+pub(crate) fn is_executable(of: &Mirror) -> bool
+    ensures { result ≡ questions.is_executable (layer of.now) }
+{
+    match of.around.as_slice() {
+        [Around::Array, ..] => false,
+        [Around::Extends, ..] => false,
+        [Around::Super, ..] => false,
+        [] => matches!(&of.base, BaseMirror::Executable(_)),
+    }
+}
+
+/// Whether it stands for a package. It takes no memory.
+#[tactic(auto, unfolding(type_layers::specs::Layers::layer))]
+pub(crate) fn is_package(of: &Mirror) -> bool
+    ensures { result ≡ questions.is_package (layer of.now) }
+{
+    match of.around.as_slice() {
+        [Around::Array, ..] => false,
+        [Around::Extends, ..] => false,
+        [Around::Super, ..] => false,
+        [] => matches!(&of.base, BaseMirror::Package(_)),
+    }
+}

@@ -1,0 +1,9 @@
+pub mod BoundsOfElements
+pub mod BoxesOfTypes
+pub mod ClosedLists
+pub mod DirectTypes
+pub mod EntriesOfTypes
+pub mod ErasedTypes
+pub mod PartsByLayers
+pub mod PlacesOfElements
+pub mod SimpleTypes
