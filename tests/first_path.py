@@ -13,10 +13,10 @@ import subprocess
 import sys
 import time
 
-from host import (ACCEPTED, BAD_CONFIG, BAD_SOURCE, BAD_WORDS, CHILD_FAULT, CLAIM_BROKEN, CREATE, DONE, DONE_STATUS,
-                  DUPLICATE_TYPE, EXISTS, FIRST_ROUND, HELLO, INIT, KINDS, LAST_ROUND, PAST_A_LIMIT, SECONDS, SERVICES,
-                  SINK_FAULT, SOURCE, TREE_FAULT, UNBUILT_TALK, UNKNOWN_PROCESSOR, Cases, Failure, NotRun, by_hand,
-                  expect, former_stands, frames, processes_of, program, record_of, refused, say, says)
+from host import (ACCEPTED, BAD_CONFIG, BAD_SOURCE, BAD_STUB, BAD_WORDS, CHILD_FAULT, CLAIM_BROKEN, CREATE, DONE,
+                  DONE_STATUS, DUPLICATE_TYPE, EXISTS, FIRST_ROUND, HELLO, INIT, KINDS, LAST_ROUND, PAST_A_LIMIT,
+                  SECONDS, SERVICES, SINK_FAULT, SOURCE, TREE_FAULT, UNBUILT_TALK, UNKNOWN_PROCESSOR, Cases, Failure,
+                  NotRun, by_hand, expect, former_stands, frames, processes_of, program, record_of, refused, say, says)
 
 # The steps of a child that creates one file, and of one that creates nothing.
 CREATES = ["read", say(HELLO), "read", say(CREATE), "read", say(DONE), "read", say(DONE), "rest"]
@@ -65,6 +65,32 @@ def two_sources_of_one_type(project):
     project.write("src/b/U.java", b"package a; class User {}")
     refused(project, project.scripted(CREATES), DUPLICATE_TYPE, "DuplicateType(a.User, src/a/User.java, src/b/U.java)")
     expect("whether the child was started", os.path.exists(project.record), False)
+
+
+@case
+def a_stub_that_is_no_java_file(project):
+    project.write("stubs/X.java", b'"')
+    project.write("src/a/X.java", b"class {")
+    refused(project, project.scripted(CREATES), BAD_STUB, "BadStub(stubs/X.java, 0)")
+    expect("whether the child was started", os.path.exists(project.record), False)
+
+
+@case
+def a_source_of_a_type_that_a_stub_has(project):
+    project.write("stubs/z/User.java", b"package a;\npublic class User {}\n")
+    project.write("src/b/U.java", b"package a; class User {}")
+    refused(project, project.scripted(CREATES), DUPLICATE_TYPE, "DuplicateType(a.User, stubs/z/User.java, src/b/U.java)")
+    expect("whether the child was started", os.path.exists(project.record), False)
+
+
+@case
+def stubs_are_no_roots(project):
+    project.write("stubs/q/A.java", b"package q; public @interface A {}")
+    project.write("stubs/r/B.java", b"package r; @q.B class B {}")
+    run = project.run(project.scripted(CREATES))
+    expect("the output", run.output, REPORT_OF_ONE_FILE)
+    expect("the status", run.status, DONE_STATUS)
+    expect("what the child was sent", project.sent(), INIT + FIRST_ROUND + ACCEPTED + LAST_ROUND)
 
 
 @case

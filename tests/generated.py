@@ -210,6 +210,20 @@ def a_path_that_is_created_twice(project):
 
 
 @case
+def a_source_of_a_type_that_a_stub_has_is_not_created(project):
+    project.write("stubs/p/D.java", b"package p; class D {} class F {}")
+    publishes(project, [[create_source("p.D"), create_source("p.F"), create_source("p.E")], [], []],
+              ["file SOURCE_OUTPUT/p/E.java 26", done(3, 1)], {"SOURCE_OUTPUT/p/E.java": source_of("p.E")},
+              sent=[FIRST_ROUND, EXISTS, EXISTS, ACCEPTED, round_frame(2, ["p.E"]), last_round(3)])
+
+
+@case
+def a_created_source_that_gives_a_type_of_a_stub(project):
+    project.write("stubs/p/D.java", b"package p; class D {}")
+    refuses(project, [[create_source("p.E", source_of("p.D"))]], GENERATED_DUPLICATE, "GeneratedDuplicate(p.D)")
+
+
+@case
 def an_error_ends_the_build(project):
     errs(project, [[by_hand("0000000a 45 00 00 00000003 626164")], []],
          ["error: [maker] bad", "errors: 2 rounds, 1 errors, 0 warnings"],

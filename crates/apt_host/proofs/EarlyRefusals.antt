@@ -6,7 +6,7 @@ use Rattle.apt_outside.specs.Files.{Files}
 use Rattle.apt_outside.specs.Child.{State}
 use Rattle.tree_store.specs.declared.fault.StoreFault.{StoreFault}
 use Rattle.tree_store.specs.declared.fault.StoreFault.TheVariants as store
-use Rattle.round_engine.specs.Refusals.{Refusal, BadWords, BadConfig, UnknownProcessor, BadSource, DuplicateType, BadGenerated, UnbuiltTalk, TooManyQuestions, ClaimBroken, GeneratedDuplicate, TooManyRounds, TooLarge}
+use Rattle.round_engine.specs.Refusals.{Refusal, BadWords, BadConfig, UnknownProcessor, BadStub, BadSource, DuplicateType, BadGenerated, UnbuiltTalk, TooManyQuestions, ClaimBroken, GeneratedDuplicate, TooManyRounds, TooLarge}
 use Rattle.apt_host.specs.Words.{Options, Request, Build, Bad}
 use Rattle.apt_host.specs.Configuration.{is_of_project}
 use Rattle.apt_host.specs.Project.{read_of}
@@ -66,6 +66,7 @@ module _ (old new : State) where
   due_project (Refused (BadWords at)) none due = tt
   due_project (Refused (BadConfig path place)) none due = due
   due_project (Refused (UnknownProcessor name)) none due = tt
+  due_project (Refused (BadStub path place)) none due = tt
   due_project (Refused (BadSource path place)) none due = tt
   due_project (Refused (DuplicateType name first second)) none due = tt
   due_project (Refused (BadGenerated path place)) none due = tt

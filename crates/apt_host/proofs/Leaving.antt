@@ -8,7 +8,7 @@ use Rattle.round_engine.specs.Refusals.{Refusal, Tree, Sink, Children}
 use Rattle.apt_host.specs.Words.{Request, Build, Bad}
 use Rattle.apt_host.specs.Verdicts.{Verdict, Done, Errors, Refused, Failed, Memory, OrMemory}
 use Rattle.apt_host.specs.Project.{Read, read_of}
-use Rattle.apt_host.specs.Promises.{Leaves, Finishes, ShowsOver, ShowsRun}
+use Rattle.apt_host.specs.Promises.{Leaves, KeepsOutput, Finishes, ShowsOver, ShowsRun}
 use Rattle.apt_host.proofs.Writing.{memory_or_not}
 
 -- ---- the tree
@@ -33,6 +33,10 @@ leaves_memory (Failed Tree) old new ne leaves = leaves
 leaves_memory (Failed Sink) old new ne leaves = leaves
 leaves_memory (Failed (Children processor)) old new ne leaves = adds_same old new leaves
 leaves_memory Memory old new ne leaves = leaves
+
+-- the former output stands where no other one was published
+pub leaves_keep : (v : Verdict) (old new : Files) → Leaves v old new → KeepsOutput old new v
+leaves_keep v old new leaves = λ undone stand. (leaves_memory v old new undone leaves).output stand
 
 -- and each store file that the record names
 pub stands_by : (v : Verdict) (old new : Files) → v ≢ Done → Leaves v old new → StoresStand old → StoresStand new

@@ -1,5 +1,6 @@
 pub mod Refusing
 pub mod SourcesOfAProject
+pub mod LeastPath
 pub mod ProjectLemmas
 pub mod Early
 pub mod Writing

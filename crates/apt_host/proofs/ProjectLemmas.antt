@@ -1,28 +1,32 @@
 -- From what its files come to, to what a project is read as.
-use Rattle.std.proofs.Common.{◌≡◌, ℕ, List, Result, Ok, Err, None, refl, ap, ◌∙◌}
+use Rattle.std.proofs.Common.{◌≡◌, ℕ, Bool, ◌≤◌, List, [], length, subst, Result, Ok, Err, None, refl, sym, ap, ◌∙◌}
 use Rattle.apt_base.specs.declared.kinds.What.{What}
 use Rattle.apt_outside.specs.Files.{Files}
 use Rattle.element_table.specs.TypeTable.{TypeTable}
 use Rattle.tree_store.specs.declared.fault.SourceReadFault.{SourceReadFault}
 use Rattle.tree_store.specs.declared.fault.SourceReadFault.TheVariants as reads
-use Rattle.tree_store.specs.declared.sources.RawSource.{RawSource}
+use Rattle.tree_store.specs.declared.sources.RawSources.{RawSources}
 use Rattle.tree_store.specs.Cause.{HasSourceCause}
 use Rattle.tree_store.specs.Sources.{sources_of, Gives}
+use Rattle.round_engine.specs.declared.project.Key.{Key}
+use Rattle.round_engine.specs.declared.project.Project.{Project}
 use Rattle.round_engine.specs.Refusals.{Refusal}
 use Rattle.round_engine.specs.Run.{Plan}
+use Rattle.round_engine.specs.Clean.{plan_of}
 use Rattle.round_engine.specs.Units.{and_then}
-use Rattle.apt_host.specs.declared.sources.ReadSource.{ReadSource}
+use Rattle.apt_host.specs.declared.sources.Tables.{Tables}
 use Rattle.apt_host.specs.Words.{Options}
-use Rattle.apt_host.specs.Configuration.{Configuration, files_of, plan_by}
-use Rattle.apt_host.specs.Project.{Read, read_all, enter_all, table_of, read_with, look_into, within_limits, read_behind, read_of}
+use Rattle.apt_host.specs.Shown.{shown_project}
+use Rattle.apt_host.specs.Configuration.{Configuration, files_of, plan_by, with_stubs, IsKeyOf}
+use Rattle.apt_host.specs.Project.{Read, tables_of, read_with, look_into, within_limits, read_behind, read_of, KeepsAll, Keeps}
 use Rattle.apt_host.specs.Verdicts.{Verdict, is_tree, named_in, HasCause}
 use Rattle.apt_host.specs.Endings.{EndsEarly}
 use Rattle.apt_host.specs.Entering.{of_sources, RefusesAs, IsDueRead}
 use Rattle.apt_host.proofs.Refusing.{refuses_then, refuses_behind}
 
--- ---- sources that were not read
+-- ---- sources and stubs that were not read
 
-pub sources_as : (due : Result (List RawSource) What) (fault : SourceReadFault) → Gives due (Err fault) → RefusesAs (within_limits due) (of_sources fault)
+pub sources_as : (due : Result RawSources What) (fault : SourceReadFault) → Gives due (Err fault) → RefusesAs (within_limits due) (of_sources fault)
 sources_as due reads.Failed gives = refl
 sources_as due (reads.TooLarge limit) gives = ap within_limits gives
 sources_as due reads.Memory gives = tt
@@ -54,43 +58,56 @@ pub refuses_files : (options : Options) (project : Files) (v : Verdict) → Refu
 refuses_files options project v refuses = refuses_then (files_of project) v (read_behind options project) refuses
 
 module _ (options : Options) (project : Files) (c : Configuration) (files : files_of project ≡ Ok c) where
-  -- one whose sources are not given
+  -- one whose sources and stubs are not given
   pub refuses_sources : (v : Verdict) → RefusesAs (within_limits (sources_of project)) v → RefusesAs (read_of options project) v
   refuses_sources v refuses =
       refuses_behind (files_of project) v c (read_behind options project) files (refuses_then (within_limits (sources_of project)) v (look_into options c) refuses)
 
-  module _ (sources : List RawSource) (given : sources_of project ≡ Ok sources) where
-    within_is : within_limits (sources_of project) ≡ Ok sources
-    within_is = ap within_limits given
+  module _ (given : RawSources) (are : sources_of project ≡ Ok given) where
+    within_is : within_limits (sources_of project) ≡ Ok given
+    within_is = ap within_limits are
 
-    looked : (v : Verdict) → RefusesAs (look_into options c sources) v → RefusesAs (read_of options project) v
-    looked v refuses = refuses_behind (files_of project) v c (read_behind options project) files (refuses_behind (within_limits (sources_of project)) v sources (look_into options c) within_is refuses)
+    looked : (v : Verdict) → RefusesAs (look_into options c given) v → RefusesAs (read_of options project) v
+    looked v refuses = refuses_behind (files_of project) v c (read_behind options project) files (refuses_behind (within_limits (sources_of project)) v given (look_into options c) within_is refuses)
 
     abbrev with_table : Plan → Result Read Refusal
-    with_table plan = read_with plan (table_of sources)
+    with_table plan = read_with plan (tables_of given)
 
     -- one whose configuration is refused
     pub refuses_plan : (v : Verdict) → RefusesAs (plan_by options c) v → RefusesAs (read_of options project) v
     refuses_plan v refuses = looked v (refuses_then (plan_by options c) v with_table refuses)
 
     module _ (plan : Plan) (is : plan_by options c ≡ Ok plan) where
-      abbrev as_read : TypeTable → Result Read Refusal
-      as_read table = Ok (record { plan = plan; table = table })
+      abbrev as_read : Tables → Result Read Refusal
+      as_read tables = Ok (record { plan = plan; table = tables.initial })
 
-      tabled : (v : Verdict) → RefusesAs (table_of sources) v → RefusesAs (read_of options project) v
-      tabled v refuses = looked v (refuses_behind (plan_by options c) v plan with_table is (refuses_then (table_of sources) v as_read refuses))
+      -- one of whose files one gives no units, or one of whose units is not entered
+      pub refuses_tables : (v : Verdict) → RefusesAs (tables_of given) v → RefusesAs (read_of options project) v
+      refuses_tables v refuses = looked v (refuses_behind (plan_by options c) v plan with_table is (refuses_then (tables_of given) v as_read refuses))
 
-      -- one of whose sources one gives no units
-      pub refuses_reading : (v : Verdict) → RefusesAs (read_all sources) v → RefusesAs (read_of options project) v
-      refuses_reading v refuses = tabled v (refuses_then (read_all sources) v enter_all refuses)
+      -- one that is read
+      pub project_is : (tables : Tables) → tables_of given ≡ Ok tables → read_of options project ≡ as_read tables
+      project_is tables entered =
+          ap (λ r. and_then r (read_behind options project)) files ∙ ap (λ r. and_then r (look_into options c)) within_is ∙ ap (λ r. and_then r with_table) is
+          ∙ ap (read_with plan) entered
 
-      module _ (read : List ReadSource) (read_is : read_all sources ≡ Ok read) where
-        -- one of whose units one is not entered
-        pub refuses_entering : (v : Verdict) → RefusesAs (enter_all read) v → RefusesAs (read_of options project) v
-        refuses_entering v refuses = tabled v (refuses_behind (read_all sources) v read enter_all read_is refuses)
+-- ---- the project that is kept
 
-        -- one that is read
-        pub project_is : (table : TypeTable) → enter_all read ≡ Ok table → read_of options project ≡ as_read table
-        project_is table entered =
-            ap (λ r. and_then r (read_behind options project)) files ∙ ap (λ r. and_then r (look_into options c)) within_is ∙ ap (λ r. and_then r with_table) is
-            ∙ ap (read_with plan) (ap (λ r. and_then r enter_all) read_is ∙ entered)
+module _ (key : Key) (stubs : List (List ℕ × List ℕ)) (tables : Tables) (project : Project) (same : project.key ≡ with_stubs key stubs) (initial : project.initial ≡ tables.initial) where
+  pub shown-kept : shown_project project ≡ record { plan = plan_of key; table = tables.initial }
+  shown-kept =
+      ap (λ (k : Key). record { plan = plan_of k; table = project.initial }) same ∙ ap (λ (t : TypeTable). record { plan = plan_of key; table = t }) initial
+
+  pub tables-kept : (due : Result Tables Refusal) → project.stubs ≡ tables.stubs → due ≡ Ok tables → due ≡ Ok (record { stubs = project.stubs; initial = project.initial })
+  tables-kept due alone is =
+      is ∙ ap (λ (t : TypeTable). Ok (record { stubs = t; initial = tables.initial })) (sym alone) ∙ ap (λ (t : TypeTable). Ok (record { stubs = project.stubs; initial = t })) (sym initial)
+
+  pub few-kept : length key.processors ≤ 64 → length project.key.processors ≤ 64
+  few-kept few = subst (λ (k : Key). length k.processors ≤ 64) (sym same) few
+
+  pub key-kept : (options : Options) (c : Configuration) → IsKeyOf options c [] key → IsKeyOf options c stubs project.key
+  key-kept options c whole = record { settings = whole.settings; are_settings = whole.are_settings; is = same ∙ ap (λ (k : Key). with_stubs k stubs) whole.is }
+
+pub keeps-all : (tells : Bool) (options : Options) (files : Files) (project : Project) → KeepsAll tells options files project → Keeps tells options files project
+unfolding Keeps
+keeps-all tells options files project all = all

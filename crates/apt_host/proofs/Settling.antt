@@ -1,5 +1,6 @@
 -- From what reading and settling a configuration give to what a project's run is told.
-use Rattle.std.proofs.Common.{◌≡◌, ℕ, ◌≤◌, true, false, cond, List, [], ◌∷◌, map, length, None, Some, Ok, Err, inl, inr, refl, sym, ap, ◌∙◌, subst, arith}
+use Rattle.std.proofs.Common.{◌≡◌, ℕ, ◌≤◌, true, false, cond, List, [], ◌∷◌, map, length, None, Some, Result, Ok, Err, inl, inr, refl, sym, ap, ◌∙◌, subst, arith}
+use Rattle.std.specs.Prelude.{IfOk}
 use Rattle.std.proofs.lemmas.List.{length-map}
 use Rattle.apt_base.specs.declared.kinds.What.{What}
 use Rattle.apt_base.specs.declared.kinds.What.TheVariants as what
@@ -12,17 +13,20 @@ use Rattle.tree_store.specs.Cause.{HasConfigCause}
 use Rattle.tree_store.specs.Config as tree
 use Rattle.project_config.specs.declared.fault.ConfigFault.{ConfigFault}
 use Rattle.project_config.specs.declared.fault.ConfigFault.TheVariants as wrong
+use Rattle.project_config.specs.declared.processor.Processor.{Processor}
 use Rattle.project_config.specs.declared.settings.Settings.{Settings}
 use Rattle.project_config.specs.Answers as reading
 use Rattle.project_config.specs.Discovery.{settings_of}
 use Rattle.project_config.specs.Settled.{IsSettled}
 use Rattle.round_engine.specs.declared.project.Key.{Key}
+use Rattle.round_engine.specs.declared.project.KeyProcessor.{KeyProcessor}
 use Rattle.round_engine.specs.Refusals.{past}
 use Rattle.round_engine.specs.Run.{Plan}
 use Rattle.round_engine.specs.Clean.{plan_of, try_of, inits_fit}
 use Rattle.round_engine.specs.Units.{and_then}
+use Rattle.apt_host.specs.declared.status.Status.{Status}
 use Rattle.apt_host.specs.Words.{Options}
-use Rattle.apt_host.specs.Configuration.{Configuration, within, lists_in, with_lists, lists_behind, files_of, said, on_form, settings_in, try_in, plan_in, fitting}
+use Rattle.apt_host.specs.Configuration.{Configuration, within, lists_in, with_lists, lists_behind, files_of, said, on_form, settings_in, try_in, plan_in, fitting, key_processor, key_in, IsKeyOf}
 use Rattle.apt_host.specs.Verdicts.{Verdict, Refused, OrMemory, is_tree, named_in, HasCause}
 use Rattle.apt_host.specs.Endings.{EndsEarly}
 use Rattle.apt_host.specs.Entering.{of_read, of_config, RefusesAs, IsDueRead}
@@ -111,8 +115,23 @@ due_past limited v is = subst IsDueRead (sym is) refl
 abbrev plan_with : ℕ → Options → List Try → Plan
 plan_with level options tries = record { level = level; options = options; processors = tries }
 
-pub plans_same : (level : ℕ) (options : Options) (tries others : List Try) → tries ≡ others → plan_with level options tries ≡ plan_with level options others
-plans_same level options tries others same = ap (plan_with level options) same
+-- the run tries the processors of a key
+tries_same : (processors : List Processor) → map try_of (map key_processor processors) ≡ map try_in processors
+tries_same [] = refl
+tries_same (processor ∷ processors) = ap (λ tries. try_in processor ∷ tries) (tries_same processors)
+
+pub plan_same : (key : Key) (settings : Settings) (stubs : List (List ℕ × List ℕ)) → key ≡ key_in settings stubs → plan_of key ≡ plan_in settings
+plan_same key settings stubs is = ap plan_of is ∙ ap (plan_with settings.level settings.options) (tries_same settings.processors)
+
+abbrev key_with : Settings → List KeyProcessor → List (List ℕ × List ℕ) → Key
+key_with settings processors stubs = record { level = settings.level; options = settings.options; processors = processors; stubs = stubs }
+
+pub keys_same : (settings : Settings) (processors : List KeyProcessor) (stubs : List (List ℕ × List ℕ)) → processors ≡ map key_processor settings.processors → stubs ≡ [] → key_with settings processors stubs ≡ key_in settings []
+keys_same settings processors stubs same none = ap (λ ps. key_with settings ps stubs) same ∙ ap (key_with settings (map key_processor settings.processors)) none
+
+pub key_whole : (options : Options) (c : Configuration) (settings : Settings) (result : Result Key Status) → settings_in options c ≡ Ok settings → IfOk result (λ key. key ≡ key_in settings []) → IfOk result (IsKeyOf options c [])
+key_whole options c settings (Ok key) are is = record { settings = settings; are_settings = are; is = is }
+key_whole options c settings (Err status) are is = tt
 
 -- a key of settled settings has no more processors than these
 module _ (key : Key) (settings : Settings) (same : plan_of key ≡ plan_in settings) (settled : IsSettled settings) where

@@ -14,7 +14,9 @@ use Rattle.project_config.specs.declared.settings.Settings.{Settings}
 use Rattle.project_config.specs.Answers as reading
 use Rattle.project_config.specs.Reading.{has_order}
 use Rattle.project_config.specs.Discovery.{settings_of}
-use Rattle.round_engine.specs.Refusals.{Refusal, BadConfig, UnknownProcessor, BadSource, DuplicateType, Place, Json, Item, Line, past}
+use Rattle.round_engine.specs.declared.project.Key.{Key}
+use Rattle.round_engine.specs.declared.project.KeyProcessor.{KeyProcessor}
+use Rattle.round_engine.specs.Refusals.{Refusal, BadConfig, UnknownProcessor, BadStub, BadSource, DuplicateType, Place, Json, Item, Line, past}
 use Rattle.round_engine.specs.Units.{and_then}
 use Rattle.round_engine.specs.Run.{Plan}
 use Rattle.round_engine.specs.Clean.{inits_fit}
@@ -77,6 +79,7 @@ IsPlaceOf path (Line line) = (path ≡ tree.path_of file.Services) ⊎ (path ≡
 abbrev pub is_of_project : Refusal → Bool
 is_of_project (BadConfig path place) = true
 is_of_project (UnknownProcessor name) = true
+is_of_project (BadStub path place) = true
 is_of_project (BadSource path place) = true
 is_of_project (DuplicateType name first second) = true
 is_of_project other = false
@@ -103,3 +106,23 @@ settings_fit settings = fitting (plan_in settings)
 -- what the run of a project with this configuration is told, with these options of the words, or the first refusal
 abbrev pub plan_by : Options → Configuration → Result Plan Refusal
 plan_by options c = and_then (settings_in options c) settings_fit
+
+-- ---- the key of a build
+
+-- a processor as the key has it
+abbrev pub key_processor : Processor → KeyProcessor
+key_processor p = record { name = p.name; command = p.command; version = p.version; kind = p.kind }
+
+-- these settings as a key, with these stub files
+abbrev pub key_in : Settings → List (List ℕ × List ℕ) → Key
+key_in settings stubs = record { level = settings.level; options = settings.options; processors = map key_processor settings.processors; stubs = stubs }
+
+-- a key with other stub files
+abbrev pub with_stubs : Key → List (List ℕ × List ℕ) → Key
+with_stubs key stubs = record { level = key.level; options = key.options; processors = key.processors; stubs = stubs }
+
+-- the key of a build with this configuration, these options of the words over it, and these stub files
+pub record IsKeyOf (options : Options) (c : Configuration) (stubs : List (List ℕ × List ℕ)) (key : Key) : Type 0 where
+  pub settings : Settings
+  pub are_settings : settings_in options c ≡ Ok settings
+  pub is : key ≡ key_in settings stubs

@@ -1,9 +1,10 @@
--- What reading a project gives: its configuration, its sources, and their units, which are entered one after another.
+-- What reading a project gives: its configuration, its sources and stubs, and their units, which are entered one after another.
 use Rattle.std.specs.Prelude.{◌≡◌, ℕ, not, true, List, Result, Ok, Err, IfErr}
 use Rattle.apt_base.specs.declared.kinds.What.TheVariants as what
 use Rattle.decl_parser.specs.declared.parsing.FileFault.{FileFault}
 use Rattle.decl_parser.specs.declared.parsing.FileFault.TheVariants as file
 use Rattle.file_answers.specs.Flaws.{Bad, TooLarge}
+use Rattle.element_table.specs.declared.part.Part.{Part}
 use Rattle.element_table.specs.TypeTable.{TypeTable}
 use Rattle.tree_store.specs.declared.fault.ConfigReadFault.{ConfigReadFault}
 use Rattle.tree_store.specs.declared.fault.ConfigReadFault.TheVariants as reads
@@ -45,21 +46,25 @@ of_config wrong.TooManyProcessors = Refused (refusal_by wrong.TooManyProcessors)
 of_config (wrong.UnknownProcessor name) = Refused (refusal_by (wrong.UnknownProcessor name))
 of_config wrong.Memory = Memory
 
--- sources that were not read
+-- sources and stubs that were not read
 abbrev pub of_sources : SourceReadFault → Verdict
 of_sources source_reads.Failed = Failed Tree
 of_sources (source_reads.TooLarge limit) = Refused (past limit)
 of_sources source_reads.Memory = Memory
 
--- why a source at this path is refused
-abbrev pub of_unread : List ℕ → FileFault → Verdict
-of_unread path (file.Bad place) = Refused (unread_at path (Bad place))
-of_unread path (file.TooLarge limit) = Refused (unread_at path (TooLarge limit))
-of_unread path file.Memory = Memory
+-- why a file of this part, at this path, is refused
+abbrev pub of_unread : Part → List ℕ → FileFault → Verdict
+of_unread part path (file.Bad place) = Refused (unread_at part path (Bad place))
+of_unread part path (file.TooLarge limit) = Refused (unread_at part path (TooLarge limit))
+of_unread part path file.Memory = Memory
 
--- why its units are not entered behind those of these sources
+-- a file at this path gives a name that one of these files gave
+abbrev pub given_again : List EnteredSource → List ℕ → List ℕ → Verdict
+given_again before name path = Refused (DuplicateType name (first_with name before path) path)
+
+-- why its units are not entered behind those of these files
 abbrev pub of_units : List EnteredSource → List ℕ → UnitFault → Verdict
-of_units before path (unit.Duplicate name) = Refused (DuplicateType name (first_with name before path) path)
+of_units before path (unit.Duplicate name) = given_again before name path
 of_units before path unit.TooMany = Refused (past what.Types)
 of_units before path unit.Memory = Memory
 
@@ -101,15 +106,15 @@ pub record IsWithin (raw : RawConfiguration) : Type 0 where
 
 -- ---- the units
 
--- a table and the sources so far
+-- a table and the files so far
 abbrev pub filled : TypeTable → List EnteredSource → Filled
 filled table sources = record { table = table; sources = sources }
 
--- the units of a source were entered, or they are refused
+-- the units of a file, or of several, were entered, or they are refused
 abbrev pub Fills : Result Filled stop.Refusal → TypeTable → List EnteredSource → Result Unit Status → Type 0
 Fills due table sources (Ok done) = due ≡ Ok (filled table sources)
 Fills due table sources (Err status) = RefusesAs due (verdict status)
 
--- sources are refused by the least path of one that has no reading, or passes a limit
-abbrev pub StopsLeast : List RawSource → Result (List ReadSource) Status → Type 0
-StopsLeast sources result = IfErr result (λ status. (refusal : stop.Refusal) → verdict status ≡ Refused refusal → StopsAt sources refusal)
+-- files of one part are refused by the least path of one that has no reading, or passes a limit
+abbrev pub StopsLeast : Part → List RawSource → Result (List ReadSource) Status → Type 0
+StopsLeast part sources result = IfErr result (λ status. (refusal : stop.Refusal) → verdict status ≡ Refused refusal → StopsAt part sources refusal)

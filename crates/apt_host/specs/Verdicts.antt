@@ -1,12 +1,13 @@
 -- How a call ends, as a value: its number, its line, and which ends may come at any point.
-use Rattle.std.specs.Prelude.{◌≡◌, ◌⊎◌, ℕ, ◌≤◌, Bool, true, false, List, [], ◌++◌, Option, None, Some, codes, decimal}
+use Rattle.std.specs.Prelude.{◌≡◌, ◌⊎◌, ℕ, ◌≤◌, Bool, true, false, List, [], ◌++◌, Option, None, Some, String, codes, decimal, string_bytes}
+use Rattle.std.specs.declared.alloc.Global.{Global}
 use Rattle.apt_outside.specs.Count.{Rose}
 use Rattle.apt_base.specs.declared.kinds.Claim.{Claim}
 use Rattle.apt_base.specs.declared.kinds.Claim.TheVariants as claim
 use Rattle.apt_base.specs.declared.kinds.What.{What}
 use Rattle.apt_base.specs.declared.kinds.What.TheVariants as what
 use Rattle.round_engine.specs.Refusals as stop
-use Rattle.round_engine.specs.Refusals.{Refusal, BadWords, BadConfig, UnknownProcessor, BadSource, DuplicateType, BadGenerated, UnbuiltTalk, TooManyQuestions, ClaimBroken, GeneratedDuplicate, TooManyRounds, TooLarge, Place, Object, Tree, Sink, Children, Stop, processor_of}
+use Rattle.round_engine.specs.Refusals.{Refusal, BadWords, BadConfig, UnknownProcessor, BadStub, BadSource, DuplicateType, BadGenerated, UnbuiltTalk, TooManyQuestions, ClaimBroken, GeneratedDuplicate, TooManyRounds, TooLarge, Place, Object, Tree, Sink, Children, Stop, processor_of}
 use Rattle.apt_host.specs.declared.status.Place as status
 use Rattle.apt_host.specs.declared.status.Place.TheVariants as code_place
 use Rattle.apt_host.specs.declared.status.Status.{Status}
@@ -36,6 +37,7 @@ verdict (code.Errors count) = Errors count
 verdict (code.BadWords at) = Refused (BadWords at)
 verdict (code.BadConfig path place) = Refused (BadConfig path (shown_place place))
 verdict (code.UnknownProcessor name) = Refused (UnknownProcessor name)
+verdict (code.BadStub path place) = Refused (BadStub path place)
 verdict (code.BadSource path place) = Refused (BadSource path place)
 verdict (code.DuplicateType name first second) = Refused (DuplicateType name first second)
 verdict (code.BadGenerated path place) = Refused (BadGenerated path place)
@@ -142,6 +144,7 @@ number_of (BadWords at) = 2
 number_of (TooManyQuestions processor most) = 11
 number_of (ClaimBroken processor declared said) = 12
 number_of (BadConfig path place) = 13
+number_of (BadStub path place) = 14
 number_of (BadSource path place) = 15
 number_of (DuplicateType name first second) = 16
 number_of (UnknownProcessor name) = 17
@@ -201,6 +204,7 @@ abbrev pub line_of : Refusal → List ℕ
 line_of (BadWords at) = codes "refused: BadWords(" ++ (decimal at ++ codes ")\n")
 line_of (BadConfig path place) = codes "refused: BadConfig(" ++ (path ++ (codes ", " ++ (place_text place ++ codes ")\n")))
 line_of (UnknownProcessor name) = codes "refused: UnknownProcessor(" ++ (name ++ codes ")\n")
+line_of (BadStub path place) = codes "refused: BadStub(" ++ (path ++ (codes ", " ++ (decimal place ++ codes ")\n")))
 line_of (BadSource path place) = codes "refused: BadSource(" ++ (path ++ (codes ", " ++ (decimal place ++ codes ")\n")))
 line_of (DuplicateType name first second) =
     codes "refused: DuplicateType(" ++ (name ++ (codes ", " ++ (first ++ (codes ", " ++ (second ++ codes ")\n")))))
@@ -212,6 +216,10 @@ line_of (ClaimBroken processor declared said) =
 line_of (GeneratedDuplicate name) = codes "refused: GeneratedDuplicate(" ++ (name ++ codes ")\n")
 line_of TooManyRounds = codes "refused: TooManyRounds(64)\n"
 line_of (TooLarge what limit) = codes "refused: TooLarge(" ++ (what_text what ++ (codes ", " ++ (decimal limit ++ codes ")\n")))
+
+-- a text is the line of this refusal
+abbrev pub IsLineOf : Refusal → String Global → Type 0
+IsLineOf refusal text = string_bytes text ≡ line_of refusal
 
 abbrev pub line_of_failure : Object → List ℕ
 line_of_failure Tree = codes "refused: TreeFault\n"

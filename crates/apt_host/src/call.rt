@@ -93,7 +93,7 @@ fn finish<W: Sink>(alloc: Global, status: Status, output: &mut W) -> Status
 /// Does what the words say over a tree of files, children, a source and a sink. It has no condition.
 ///
 /// The one command so far is `build`, behind which `--full` may stand once and any number of options `KEY=VALUE`. A build reads
-/// the configuration, `apt.json` with the file of services and that of kinds, and the `.java` files below `src`. It runs the
+/// the configuration, `apt.json` with the file of services and that of kinds, and the `.java` files below `src` and `stubs`. It runs the
 /// processors over them in rounds (JSR 269, `Processor` and `RoundEnvironment`), with these options over those of `apt.json`,
 /// and publishes what they created and a report at once, or nothing. Where a processor printed an error the report is written
 /// alone. After any other status but success a line says what was refused. After any status but success the former output

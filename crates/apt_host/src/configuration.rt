@@ -1,11 +1,11 @@
 // The configuration of a project.
-ghost use Rattle.std.specs.Prelude.{◌≡◌, ◌≤◌, length, map, IfOk, IfErr, None, false};
+ghost use Rattle.std.specs.Prelude.{◌≡◌, ◌≤◌, [], length, map, IfOk, IfErr, None, false};
 ghost use Rattle.apt_outside.specs.Count.{Told};
 ghost use Rattle.tree_store.specs.Config.{path_of};
 ghost use Rattle.project_config.specs.Settled.{IsSettled};
 ghost use Rattle.round_engine.specs.Refusals.{BadConfig, past};
-ghost use Rattle.round_engine.specs.Clean.{try_of, plan_of};
-ghost use Rattle.apt_host.specs.Configuration.{files_of, said, settings_in, try_in, plan_in, fitting, plan_by};
+ghost use Rattle.round_engine.specs.Clean.{plan_of};
+ghost use Rattle.apt_host.specs.Configuration.{files_of, said, settings_in, plan_in, fitting, plan_by, key_processor, key_in, IsKeyOf};
 ghost use Rattle.apt_host.specs.Verdicts.{verdict, shown_place, named_in, Refused, OrMemory, is_tree, HasCause};
 ghost use Rattle.apt_host.specs.Endings.{ended, EndsEarly};
 ghost use Rattle.apt_host.specs.Entering.{of_read, of_config, IsDueRead, ComesAs, ComesTo, shown_configuration, IsWithin};
@@ -137,7 +137,7 @@ fn settings_in(
 // ---- the key
 
 fn key_processor(processor: Processor) -> KeyProcessor
-    ensures { try_of result ≡ try_in processor }
+    ensures { result ≡ key_processor processor }
 {
     let Processor {
         name,
@@ -157,7 +157,7 @@ fn key_processors(
     alloc: Global,
     processors: List<Processor>,
 ) -> Result<List<KeyProcessor>, NoMemory>
-    ensures { IfOk result (λ list. map try_of list ≡ map try_in processors) }
+    ensures { IfOk result (λ list. list ≡ map key_processor processors) }
 {
     let mut list = List::new(alloc);
     for processor in processors.into_vec() {
@@ -167,7 +167,7 @@ fn key_processors(
 }
 
 fn key_by(alloc: Global, settings: Settings) -> Result<Key, NoMemory>
-    ensures { IfOk result (λ key. plan_of key ≡ plan_in settings) }
+    ensures { IfOk result (λ key. key ≡ key_in settings []) }
 {
     let Settings {
         level,
@@ -191,6 +191,7 @@ fn fitting(alloc: Global, settings: Settings) -> Result<Key, Status>
     ensures due { IfErr result (λ status. IsDueRead (verdict status)) }
     ensures few { IfOk result (λ key. length key.processors ≤ 64) }
     ensures plan { ComesAs (fitting (plan_in settings)) plan_of result }
+    ensures whole { IfOk result (λ key. key ≡ key_in settings []) }
 {
     let key = key_by(alloc, settings)?;
     let fit = inits_fit(alloc, &key)?;
@@ -200,7 +201,7 @@ fn fitting(alloc: Global, settings: Settings) -> Result<Key, Status>
     Err(past_limit(What::Frame))
 }
 
-/// The key of a build with this configuration and these options of the words over its own.
+/// The key of a build with this configuration and these options of the words over its own, without stub files.
 pub fn key_of(
     alloc: Global,
     raw: &RawConfiguration,
@@ -212,6 +213,7 @@ pub fn key_of(
     ensures due { IfErr result (λ status. IsDueRead (verdict status)) }
     ensures few { IfOk result (λ key. length key.processors ≤ 64) }
     ensures plan { ComesAs (plan_by options.now (shown_configuration raw.now)) plan_of result }
+    ensures whole { IfOk result (IsKeyOf options.now (shown_configuration raw.now) []) }
 {
     let settings = settings_in(alloc, raw, options)?;
     fitting(alloc, settings)

@@ -1,20 +1,21 @@
-// A project: its configuration and its type table.
-ghost use Rattle.std.specs.Prelude.{◌≡◌, ◌≤◌, length, IfOk, IfErr, None};
+// A project: its configuration, its files and its type tables.
+ghost use Rattle.std.specs.Prelude.{◌≡◌, ◌≤◌, length, map, IfOk, IfErr, None};
 ghost use Rattle.apt_outside.specs.Count.{Told};
 ghost use Rattle.apt_host.specs.Verdicts.{verdict, named_in, is_tree, HasCause};
 ghost use Rattle.apt_host.specs.Endings.{ended, EndsEarly};
 ghost use Rattle.apt_host.specs.Shown.{shown_project};
-ghost use Rattle.apt_host.specs.Project.{read_of};
+ghost use Rattle.apt_host.specs.Configuration.{with_stubs};
+ghost use Rattle.apt_host.specs.Project.{read_of, named, Keeps};
 ghost use Rattle.apt_host.specs.Entering.{of_sources, IsDueRead, ComesAs};
 
 use crate::Status;
 use crate::configuration::{key_of, read_files};
-use crate::sources::{enter_all, read_all};
-use apt_base::{List, Name};
+use crate::sources::{Tables, named_files, tables_of};
+use apt_base::{List, Name, NoMemory};
 use apt_outside::Tree;
-use round_engine::{Project, limit_of};
+use round_engine::{Key, Project, limit_of};
 use std::alloc::Global;
-use tree_store::{SourceReadFault, read_sources};
+use tree_store::{RawSources, SourceReadFault, read_sources};
 
 impl From<SourceReadFault> for Status {
     ghost from_gives = { λ fault e. verdict e ≡ of_sources fault };
@@ -31,9 +32,46 @@ impl From<SourceReadFault> for Status {
     }
 }
 
+// The key with these stub files.
+fn with_stubs(key: Key, stubs: List<(Name, List<u8>)>) -> Key
+    ensures { result ≡ with_stubs key stubs }
+{
+    let Key {
+        level,
+        options,
+        processors,
+        stubs: _,
+    } = key;
+    Key {
+        level,
+        options,
+        processors,
+        stubs,
+    }
+}
+
+// The project with this key, these files and the tables of their units.
+fn kept(alloc: Global, key: Key, files: RawSources, tables: Tables) -> Result<Project, NoMemory>
+    ensures key { IfOk result (λ project. project.key ≡ with_stubs key (map named files.stubs)) }
+    ensures sources { IfOk result (λ project. project.sources ≡ map named files.sources) }
+    ensures stubs { IfOk result (λ project. project.stubs ≡ tables.stubs) }
+    ensures initial { IfOk result (λ project. project.initial ≡ tables.initial) }
+{
+    let RawSources { sources, stubs } = files;
+    let sources = named_files(alloc, sources)?;
+    let key = with_stubs(key, named_files(alloc, stubs)?);
+    let Tables { stubs, initial } = tables;
+    Ok(Project {
+        key,
+        sources,
+        stubs,
+        initial,
+    })
+}
+
 /// Reads a project, with these options of the words over those of its configuration: first all of its files, those of the
-/// configuration before the sources; then what they say, the configuration before the sources, which are all read before the first
-/// enters the type table.
+/// configuration, the sources, and the stubs; then what they say, the configuration before the stubs and the stubs before the sources;
+/// and then their units enter the type table, in this order.
 pub fn read_project<T: Tree>(
     alloc: Global,
     options: &List<(Name, Name)>,
@@ -46,11 +84,11 @@ pub fn read_project<T: Tree>(
     ensures same { Told T.tells (T.files tree.new ≡ T.files tree.old) }
     ensures few { IfOk result (λ project. length project.key.processors ≤ 64) }
     ensures read { Told T.tells (ComesAs (read_of options.now (T.files tree.old)) shown_project result) }
+    ensures keeps { IfOk result (Keeps T.tells options.now (T.files tree.old)) }
 {
     let raw = read_files(alloc, tree)?;
-    let sources = read_sources(alloc, tree)?;
+    let files = read_sources(alloc, tree)?;
     let key = key_of(alloc, &raw, options)?;
-    let read = read_all(alloc, sources)?;
-    let initial = enter_all(alloc, read)?;
-    Ok(Project { key, initial })
+    let tables = tables_of(alloc, &files)?;
+    Ok(kept(alloc, key, files, tables)?)
 }

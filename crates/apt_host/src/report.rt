@@ -2,8 +2,8 @@
 ghost use Rattle.std.specs.Prelude.{◌≡◌, ◌++◌, [], IfOk, OnOk, codes, string_bytes, map, slice_index_or};
 ghost use Rattle.std.specs.List.{flat_map};
 ghost use Rattle.apt_host.specs.Report.{kind_text, escaped, message_text, message_line, message_lines, unread_line, first_lines, file_line, file_lines, errors_report};
-ghost use Rattle.round_engine.specs.Refusals.{BadConfig, BadSource, DuplicateType, BadGenerated, ClaimBroken};
-ghost use Rattle.apt_host.specs.Verdicts.{verdict, shown_place, what_text, claim_text, place_text, line_of, refusal_of};
+ghost use Rattle.round_engine.specs.Refusals.{BadConfig, BadStub, BadSource, DuplicateType, BadGenerated, ClaimBroken};
+ghost use Rattle.apt_host.specs.Verdicts.{IsLineOf, verdict, shown_place, what_text, claim_text, place_text, line_of, refusal_of};
 ghost use Rattle.apt_host.specs.Listed.{listed, summary_of, report_for};
 
 use crate::Status;
@@ -276,6 +276,12 @@ fn claim_line(
     format!(in alloc; "refused: ClaimBroken({processor}, {declared}, {said})\n")
 }
 
+fn bad_stub_line(alloc: Global, path: &str, place: u32) -> Result<String, AllocError>
+    ensures { IfOk result (λ text. string_bytes text ≡ line_of (BadStub path.now place)) }
+{
+    format!(in alloc; "refused: BadStub({path}, {place})\n")
+}
+
 fn bad_source_line(alloc: Global, path: &str, place: u32) -> Result<String, AllocError>
     ensures { IfOk result (λ text. string_bytes text ≡ line_of (BadSource path.now place)) }
 {
@@ -294,7 +300,7 @@ fn duplicate_line(
     first: &str,
     second: &str,
 ) -> Result<String, AllocError>
-    ensures { IfOk result (λ text. string_bytes text ≡ line_of (DuplicateType name.now first.now second.now)) }
+    ensures { IfOk result (IsLineOf (DuplicateType name.now first.now second.now)) }
 {
     format!(in alloc; "refused: DuplicateType({name}, {first}, {second})\n")
 }
@@ -311,6 +317,7 @@ pub fn refusal(alloc: Global, status: &Status) -> Result<String, AllocError>
             let name = name.as_str();
             format!(in alloc; "refused: UnknownProcessor({name})\n")
         }
+        Status::BadStub { path, place } => bad_stub_line(alloc, path.as_str(), *place),
         Status::BadSource { path, place } => bad_source_line(alloc, path.as_str(), *place),
         Status::DuplicateType {
             name,

@@ -61,6 +61,13 @@ pub enum Status {
         /// The first such name, in the order of discovery.
         name: Name,
     },
+    /// A stub has no reading.
+    BadStub {
+        /// The least path of such a stub.
+        path: Name,
+        /// The offset of its first fault, in bytes.
+        place: u32,
+    },
     /// A source has no reading.
     BadSource {
         /// The least path of such a source.
@@ -68,11 +75,11 @@ pub enum Status {
         /// The offset of its first fault, in bytes.
         place: u32,
     },
-    /// Two places of the project give one name: two sources, or one source twice.
+    /// Two places of the project give one name: two of its sources and stubs, or one of them twice.
     DuplicateType {
         /// The canonical name of the type, or that of the unit of its package, which ends in `package-info`.
         name: Name,
-        /// The path of the source that gave it first, in the order of the paths.
+        /// The path of the file that gave it first: the stubs come before the sources, and each in the order of their paths.
         first: Name,
         /// The path of the one that gave it again.
         second: Name,
@@ -113,9 +120,9 @@ pub enum Status {
     },
     /// Round 64 would not be the last.
     TooManyRounds,
-    /// What is counted passes its limit: the bytes of a file of the configuration, the sources, the bytes of one or of all of them,
-    /// the processors, the bytes of a first frame to a processor, what is nested in a source, the children of an element, the bytes of
-    /// a canonical name, or the types of the table.
+    /// What is counted passes its limit: the bytes of a file of the configuration, the sources or the stubs, the bytes of one of them or
+    /// of all sources or all stubs, the processors, the bytes of a first frame to a processor, what is nested in a Java file, the children
+    /// of an element, the bytes of a canonical name, or the types of the table.
     TooLarge {
         /// Which limit.
         what: What,
@@ -218,6 +225,10 @@ impl Status {
             Status::UnknownProcessor { name } => Ok(Status::UnknownProcessor {
                 name: name.copy()?,
             }),
+            Status::BadStub { path, place } => Ok(Status::BadStub {
+                path: path.copy()?,
+                place: *place,
+            }),
             Status::BadSource { path, place } => Ok(Status::BadSource {
                 path: path.copy()?,
                 place: *place,
@@ -283,6 +294,7 @@ impl Status {
             Status::TooManyQuestions { .. } => 11,
             Status::ClaimBroken { .. } => 12,
             Status::BadConfig { .. } => 13,
+            Status::BadStub { .. } => 14,
             Status::BadSource { .. } => 15,
             Status::DuplicateType { .. } => 16,
             Status::UnknownProcessor { .. } => 17,

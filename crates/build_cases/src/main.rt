@@ -9,6 +9,7 @@
 //! | `tree NUMBER..` | begins an empty tree, whose calls of these numbers fail | `ok` |
 //! | `put PATH PIECE..` | puts a file into the tree | `ok` |
 //! | `sources COUNT` | puts this many empty sources into the tree, `src/m/0.java` and so on | `ok` |
+//! | `stubs COUNT` | the same of stubs, `stubs/m/0.java` and so on | `ok` |
 //! | `sink NUMBER..` | has the calls of these numbers of the next build's output fail | `ok` |
 //! | `script NAME ANSWER..` | gives the next build a child that says these, each a piece, the k-th after k frames | `ok` |
 //! | `run WORD..` | runs the host with these words, the scripts and a new output | the exit status |

@@ -33,7 +33,8 @@ impl Calls for Objects {
             ["classes", name, count] => self.name_classes(alloc, name, count.parse::<u32>()?),
             ["tree", failing @ ..] => self.begin_tree(alloc, failing),
             ["put", path, pieces @ ..] => self.put_file(alloc, path, pieces),
-            ["sources", count] => self.put_sources(alloc, count.parse::<u32>()?),
+            ["sources", count] => self.put_empty(alloc, "src", count.parse::<u32>()?),
+            ["stubs", count] => self.put_empty(alloc, "stubs", count.parse::<u32>()?),
             ["sink", failing @ ..] => self.plan_sink(alloc, failing),
             ["script", name, answers @ ..] => self.add_script(alloc, name, answers),
             ["run", words @ ..] => self.run(alloc, words),
@@ -94,10 +95,10 @@ impl Objects {
         }
     }
 
-    // Puts this many sources, each without a byte.
-    fn put_sources(&mut self, alloc: Global, count: u32) -> Result<String, CaseFault> {
+    // Puts this many Java files into a folder, each without a byte.
+    fn put_empty(&mut self, alloc: Global, folder: &str, count: u32) -> Result<String, CaseFault> {
         for number in 0..count {
-            let path = format!(in alloc; "src/m/{number}.java")?;
+            let path = format!(in alloc; "{folder}/m/{number}.java")?;
             if self.tree.put(path.as_str(), b"").is_err() {
                 return Err(CaseFault::Memory);
             }

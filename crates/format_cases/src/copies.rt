@@ -3,7 +3,7 @@ use crate::base::{ElementRef, List, element, element_word, name_word};
 use crate::{encoded, frame_read};
 use case_lines::{CaseFault, hex_bytes, hex_digits, name, push_word};
 use std::alloc::Global;
-use tree_store::{RawSource, StoredFile};
+use tree_store::{RawSource, RawSources, StoredFile};
 use wire_frames::Frame;
 
 /// The words for the value of a kind, and behind them those for its copy.
@@ -13,6 +13,9 @@ pub fn copied(alloc: Global, kind: &str, value: &[&str]) -> Result<String, CaseF
         _ => match *value {
             [word] => one_word(alloc, kind, word),
             [path, bytes] if kind == "raw_source" => source(alloc, path, bytes),
+            [path, bytes, stub, stub_bytes] if kind == "raw_sources" => {
+                sources(alloc, (path, bytes), (stub, stub_bytes))
+            }
             [path, store, length] if kind == "stored_file" => stored(alloc, [path, store, length]),
             _ => Err(CaseFault::NotACase),
         },
@@ -101,10 +104,15 @@ fn source_words(alloc: Global, source: &RawSource) -> Result<String, CaseFault> 
     Ok(format!(in alloc; "path={path} bytes={bytes}")?)
 }
 
-fn source(alloc: Global, path: &str, bytes: &str) -> Result<String, CaseFault> {
+fn source_read(alloc: Global, path: &str, bytes: &str) -> Result<RawSource, CaseFault> {
     let bytes = List::from_vec(hex_bytes(alloc, bytes)?);
     let path = name(alloc, path)?;
-    source_twice(alloc, &RawSource { path, bytes })
+    Ok(RawSource { path, bytes })
+}
+
+fn source(alloc: Global, path: &str, bytes: &str) -> Result<String, CaseFault> {
+    let source = source_read(alloc, path, bytes)?;
+    source_twice(alloc, &source)
 }
 
 fn source_twice(alloc: Global, source: &RawSource) -> Result<String, CaseFault> {
@@ -115,4 +123,44 @@ fn source_twice(alloc: Global, source: &RawSource) -> Result<String, CaseFault> 
 fn source_copy(alloc: Global, source: &RawSource) -> Result<String, CaseFault> {
     let copy = source.copy(alloc)?;
     source_words(alloc, &copy)
+}
+
+// One file, by its path and its bytes.
+fn one_file(alloc: Global, file: (&str, &str)) -> Result<List<RawSource>, CaseFault> {
+    let mut files = List::new(alloc);
+    files.push(source_read(alloc, file.0, file.1)?)?;
+    Ok(files)
+}
+
+// A project with one source and one stub.
+fn sources(alloc: Global, source: (&str, &str), stub: (&str, &str)) -> Result<String, CaseFault> {
+    let sources = one_file(alloc, source)?;
+    let stubs = one_file(alloc, stub)?;
+    sources_twice(alloc, &RawSources { sources, stubs })
+}
+
+fn files_words(alloc: Global, files: &List<RawSource>) -> Result<String, CaseFault> {
+    let mut words = String::new(alloc);
+    for file in files.as_slice() {
+        let word = source_words(alloc, file)?;
+        push_word(&mut words, word.as_str())?;
+    }
+    Ok(words)
+}
+
+fn sources_words(alloc: Global, files: &RawSources) -> Result<String, CaseFault> {
+    both(
+        files_words(alloc, &files.sources)?,
+        files_words(alloc, &files.stubs)?,
+    )
+}
+
+fn sources_twice(alloc: Global, files: &RawSources) -> Result<String, CaseFault> {
+    let value = sources_words(alloc, files)?;
+    both(value, sources_copy(alloc, files)?)
+}
+
+fn sources_copy(alloc: Global, files: &RawSources) -> Result<String, CaseFault> {
+    let copy = files.copy(alloc)?;
+    sources_words(alloc, &copy)
 }

@@ -6,8 +6,8 @@
 //! are to fail, `source new abc 2` a source of these bytes whose second call is to fail, `sink new 2` the like of a sink. The
 //! library `case_lines` says how texts and lists are written; the bytes of files, streams and children are written as texts.
 //!
-//! A run has the sources and the processors that lines before it named, `run source` with the file's text and `run processor` with a name
-//! and with what its child says, the k-th after k frames, as bytes. `run clean` runs it with fresh children, of which the calls of
+//! A run has the sources, the stubs and the processors that lines before it named, `run source` and `run stub` with the file's text and
+//! `run processor` with a name and with what its child says, the k-th after k frames, as bytes. `run clean` runs it with fresh children, of which the calls of
 //! children tell then, `children frames` the frames that one was sent, as bytes. It gives counts, the files with their numbers, the
 //! messages, each as round, processor, number, kind and text, and the names of the sources that are not read; or the refusal.
 #![tactic(auto)]

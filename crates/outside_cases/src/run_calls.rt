@@ -6,7 +6,7 @@ use crate::number_calls::made_word;
 use apt_outside::{Script, ScriptChildren};
 use case_lines::{CaseFault, escaped, hex_bytes, joined, name, text, text_bytes, yes_or_no};
 use decl_parser::ParseFault;
-use element_table::Table;
+use element_table::{Part, Table};
 use file_readings::read_declarations;
 use round_engine::{
     Finished, Key, KeyProcessor, Placed, Project, Refusal, UnitFault, clean, enter_units,
@@ -17,10 +17,10 @@ use std::mem;
 /// A run has no more processors than this.
 const MOST: usize = 64;
 
-/// A source that is read has no more bytes than this.
+/// A file that is read has no more bytes than this.
 const MOST_BYTES: usize = 8_388_608;
 
-/// A project without sources, options and processors.
+/// A project without sources, stubs, options and processors.
 pub fn empty_project(alloc: Global) -> Project {
     let key = Key {
         level: 11,
@@ -30,6 +30,8 @@ pub fn empty_project(alloc: Global) -> Project {
     };
     Project {
         key,
+        sources: List::new(alloc),
+        stubs: Table::new(alloc),
         initial: Table::new(alloc),
     }
 }
@@ -52,7 +54,7 @@ fn refused_name(alloc: Global, refusal: &str, name: &Name) -> Result<String, Cas
     Ok(format!(in alloc; "{refusal}({name})")?)
 }
 
-// What a source gives that has no reading, or is past a limit.
+// What a file gives that has no reading, or is past a limit.
 fn unread(alloc: Global, fault: ParseFault) -> Result<String, CaseFault> {
     match fault {
         ParseFault::Bad { place } => Ok(format!(in alloc; "Bad({place})")?),
@@ -142,15 +144,21 @@ impl Outside {
     /// A call on what is to be run, whose words stand behind its name: what it gives, or `NotACase` where there is no such call.
     pub fn call_run(&mut self, alloc: Global, words: &[&str]) -> Result<String, CaseFault> {
         match words {
-            ["source", content] => self.enter_source(alloc, content),
+            ["source", content] => self.enter_file(alloc, Part::Source, content),
+            ["stub", content] => self.enter_file(alloc, Part::Stub, content),
             ["processor", name, answers @ ..] => self.add_processor(alloc, name, answers),
             ["clean"] => self.run_clean(alloc),
             _ => Err(CaseFault::NotACase),
         }
     }
 
-    // The names of the units that a source gives, of whichever path.
-    fn enter_source(&mut self, alloc: Global, content: &str) -> Result<String, CaseFault> {
+    // The names of the units that a source or a stub gives, of whichever path.
+    fn enter_file(
+        &mut self,
+        alloc: Global,
+        part: Part,
+        content: &str,
+    ) -> Result<String, CaseFault> {
         let content = text_bytes(alloc, content)?;
         if content.len() > MOST_BYTES {
             return Err(CaseFault::NotACase);
@@ -159,7 +167,7 @@ impl Outside {
             Ok(parsed) => parsed.units,
             Err(fault) => return unread(alloc, fault),
         };
-        match enter_units(alloc, &mut self.project.initial, units) {
+        match enter_units(alloc, &mut self.project.initial, part, units) {
             Ok(names) => names_word(alloc, &names),
             Err(fault) => unentered(alloc, fault),
         }

@@ -8,7 +8,9 @@ use crate::base::{List, What};
 use apt_outside::{Fault, MemoryTree};
 use case_lines::{CaseFault, escaped, joined, numbers, text_bytes};
 use std::alloc::Global;
-use tree_store::{RawSource, SourceReadFault, commit, put_files, read_sources, taken_numbers};
+use tree_store::{
+    RawSource, RawSources, SourceReadFault, commit, put_files, read_sources, taken_numbers,
+};
 
 fn bytes_of(alloc: Global, word: &str) -> Result<List<u8>, CaseFault> {
     Ok(List::from_vec(text_bytes(alloc, word)?))
@@ -29,9 +31,9 @@ fn two_files(
     Ok(files)
 }
 
-fn sources_word(alloc: Global, sources: &List<RawSource>) -> Result<String, CaseFault> {
+fn files_word(alloc: Global, files: &List<RawSource>) -> Result<String, CaseFault> {
     let mut words = Vec::new(alloc);
-    for source in sources.as_slice() {
+    for source in files.as_slice() {
         let path = escaped(alloc, source.path.as_str().as_bytes())?;
         let bytes = escaped(alloc, source.bytes.as_slice())?;
         words.push(format!(in alloc; "{path}:{bytes}")?)?;
@@ -39,17 +41,24 @@ fn sources_word(alloc: Global, sources: &List<RawSource>) -> Result<String, Case
     joined(alloc, &words)
 }
 
-// A limit that sources pass.
+fn sources_word(alloc: Global, files: &RawSources) -> Result<String, CaseFault> {
+    let sources = files_word(alloc, &files.sources)?;
+    let stubs = files_word(alloc, &files.stubs)?;
+    Ok(format!(in alloc; "sources={sources} stubs={stubs}")?)
+}
+
+// A limit that sources or stubs pass.
 fn limit_word(what: What) -> &'static str {
     match what {
         What::Files => "TooLarge(Files)",
         What::FileBytes => "TooLarge(FileBytes)",
         What::SourceBytes => "TooLarge(SourceBytes)",
+        What::StubBytes => "TooLarge(StubBytes)",
         _ => "TooLarge",
     }
 }
 
-// What a call gives whose sources were not read.
+// What a call gives whose sources and stubs were not read.
 fn unread(alloc: Global, fault: SourceReadFault) -> Result<String, CaseFault> {
     match fault {
         SourceReadFault::Failed => refused(alloc, Fault::Failed),
@@ -93,7 +102,7 @@ impl Outside {
 
     fn read_sources(&mut self, alloc: Global) -> Result<String, CaseFault> {
         match read_sources(alloc, &mut self.tree) {
-            Ok(sources) => sources_word(alloc, &sources),
+            Ok(files) => sources_word(alloc, &files),
             Err(fault) => unread(alloc, fault),
         }
     }

@@ -35,6 +35,7 @@ due_of_hello (stop.Refused (stop.UnbuiltTalk processor)) is = tt
 due_of_hello (stop.Refused (stop.BadWords at)) is = tt
 due_of_hello (stop.Refused (stop.BadConfig path place)) is = tt
 due_of_hello (stop.Refused (stop.UnknownProcessor name)) is = tt
+due_of_hello (stop.Refused (stop.BadStub path place)) is = tt
 due_of_hello (stop.Refused (stop.BadSource path place)) is = tt
 due_of_hello (stop.Refused (stop.DuplicateType name first second)) is = tt
 due_of_hello (stop.Refused (stop.BadGenerated path place)) is = tt

@@ -16,6 +16,7 @@ pub due_unnamed : (s : Stop) → named_by s ≡ None → IsDueStop s
 due_unnamed (stop.Refused (stop.BadWords at)) is = tt
 due_unnamed (stop.Refused (stop.BadConfig path place)) is = tt
 due_unnamed (stop.Refused (stop.UnknownProcessor name)) is = tt
+due_unnamed (stop.Refused (stop.BadStub path place)) is = tt
 due_unnamed (stop.Refused (stop.BadSource path place)) is = tt
 due_unnamed (stop.Refused (stop.DuplicateType name first second)) is = tt
 due_unnamed (stop.Refused (stop.BadGenerated path place)) is = tt

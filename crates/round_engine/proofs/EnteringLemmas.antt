@@ -10,6 +10,7 @@ use Rattle.file_answers.specs.Flaws.{TooLarge, Reading}
 use Rattle.file_readings.specs.FileReadings.{reading_of, Parses, GivesUnits}
 use Rattle.element_table.specs.declared.fault.EnterFault.{EnterFault}
 use Rattle.element_table.specs.declared.fault.EnterFault.TheVariants as enter
+use Rattle.element_table.specs.declared.part.Part.{Part}
 use Rattle.element_table.specs.declared.part.Part.TheVariants.{Source}
 use Rattle.element_table.specs.UnitNames.{unit_name}
 use Rattle.element_table.specs.TypeTable.{TypeTable, answer_to, entered, Answers, unit_back}
@@ -25,24 +26,24 @@ use Rattle.round_engine.specs.Entering.{Reports, Obstructs, EntersEach, EntersUn
 -- ---- one unit
 
 -- a unit that the table took
-pub enters_unit : (table next : TypeTable) (unit : UnitText) → Answers (answer_to table unit) (Ok tt) → next ≡ entered Source unit table → EntersEach (enter_unit table unit) next (Ok tt)
-enters_unit table next unit answer is = ap (enter_by (unit_name unit)) (outcome_of-Ok Source table unit next answer is)
+pub enters_unit : (part : Part) (table next : TypeTable) (unit : UnitText) → Answers (answer_to table unit) (Ok tt) → next ≡ entered part unit table → EntersEach (enter_unit part table unit) next (Ok tt)
+enters_unit part table next unit answer is = ap (enter_by (unit_name unit)) (outcome_of-Ok part table unit next answer is)
 
 -- a unit that it did not take
-pub enters_unit-not : (table next : TypeTable) (unit : UnitText) (fault : EnterFault) (told : UnitFault) → Answers (answer_to table unit) (Err fault) → unit_back fault ≡ unit → Reports fault told → EntersEach (enter_unit table unit) next (Err told)
-enters_unit-not table next unit (enter.Duplicate back) (code.Duplicate name) answer is told = ap (enter_by (unit_name unit)) (outcome_of-Duplicate Source table unit back answer) ∙ ap (λ n. Err (Duplicate n)) (sym (told ∙ ap unit_name is))
-enters_unit-not table next unit (enter.Duplicate back) code.TooMany answer is told = absurd told
-enters_unit-not table next unit (enter.TooMany back) (code.Duplicate name) answer is told = absurd told
-enters_unit-not table next unit (enter.TooMany back) code.TooMany answer is told = ap (enter_by (unit_name unit)) (outcome_of-TooMany Source table unit back answer)
-enters_unit-not table next unit (enter.Memory back) (code.Duplicate name) answer is told = absurd told
-enters_unit-not table next unit (enter.Memory back) code.TooMany answer is told = absurd told
-enters_unit-not table next unit fault code.Memory answer is told = tt
+pub enters_unit-not : (part : Part) (table next : TypeTable) (unit : UnitText) (fault : EnterFault) (told : UnitFault) → Answers (answer_to table unit) (Err fault) → unit_back fault ≡ unit → Reports fault told → EntersEach (enter_unit part table unit) next (Err told)
+enters_unit-not part table next unit (enter.Duplicate back) (code.Duplicate name) answer is told = ap (enter_by (unit_name unit)) (outcome_of-Duplicate part table unit back answer) ∙ ap (λ n. Err (Duplicate n)) (sym (told ∙ ap unit_name is))
+enters_unit-not part table next unit (enter.Duplicate back) code.TooMany answer is told = absurd told
+enters_unit-not part table next unit (enter.TooMany back) (code.Duplicate name) answer is told = absurd told
+enters_unit-not part table next unit (enter.TooMany back) code.TooMany answer is told = ap (enter_by (unit_name unit)) (outcome_of-TooMany part table unit back answer)
+enters_unit-not part table next unit (enter.Memory back) (code.Duplicate name) answer is told = absurd told
+enters_unit-not part table next unit (enter.Memory back) code.TooMany answer is told = absurd told
+enters_unit-not part table next unit fault code.Memory answer is told = tt
 
 -- ---- more units
 
 -- one that entered decides nothing
-pub enters_more : (table next : TypeTable) (unit : UnitText) (units : List UnitText) → enter_unit table unit ≡ Ok next → enter_each table (unit ∷ units) ≡ enter_each next units
-enters_more table next unit units is = ap (λ o. and_then o (λ t. enter_each t units)) is
+pub enters_more : (part : Part) (table next : TypeTable) (unit : UnitText) (units : List UnitText) → enter_unit part table unit ≡ Ok next → enter_each part table (unit ∷ units) ≡ enter_each part next units
+enters_more part table next unit units is = ap (λ o. and_then o (λ t. enter_each part t units)) is
 
 obstructs_then : {A B : Type 0} (outcome : Result A Obstacle) (fault : UnitFault) (next : A → Result B Obstacle) → Obstructs outcome fault → Obstructs (and_then outcome next) fault
 obstructs_then outcome (code.Duplicate name) next is = ap (λ o. and_then o next) is
@@ -50,17 +51,17 @@ obstructs_then outcome code.TooMany next is = ap (λ o. and_then o next) is
 obstructs_then outcome code.Memory next is = tt
 
 -- the first that did not
-pub enters_no_more : (table : TypeTable) (unit : UnitText) (units : List UnitText) (fault : UnitFault) → Obstructs (enter_unit table unit) fault → Obstructs (enter_each table (unit ∷ units)) fault
-enters_no_more table unit units fault stands = obstructs_then (enter_unit table unit) fault (λ t. enter_each t units) stands
+pub enters_no_more : (part : Part) (table : TypeTable) (unit : UnitText) (units : List UnitText) (fault : UnitFault) → Obstructs (enter_unit part table unit) fault → Obstructs (enter_each part table (unit ∷ units)) fault
+enters_no_more part table unit units fault stands = obstructs_then (enter_unit part table unit) fault (λ t. enter_each part t units) stands
 
 -- ---- with their names
 
-pub enters_named : (table next : TypeTable) (units : List UnitText) (names : List (List ℕ)) → enter_each table units ≡ Ok next → names ≡ map unit_name units → EntersUnits (enter_units table units) next (Ok names)
-enters_named table next units names each named =
+pub enters_named : (part : Part) (table next : TypeTable) (units : List UnitText) (names : List (List ℕ)) → enter_each part table units ≡ Ok next → names ≡ map unit_name units → EntersUnits (enter_units part table units) next (Ok names)
+enters_named part table next units names each named =
     ap (λ o. and_then o (λ t. Ok (record { table = t; names = map unit_name units }))) each ∙ ap (λ ns. Ok (record { table = next; names = ns })) (sym named)
 
-pub enters_unnamed : (table next : TypeTable) (units : List UnitText) (fault : UnitFault) → Obstructs (enter_each table units) fault → EntersUnits (enter_units table units) next (Err fault)
-enters_unnamed table next units fault stands = obstructs_then (enter_each table units) fault (λ t. Ok (record { table = t; names = map unit_name units })) stands
+pub enters_unnamed : (part : Part) (table next : TypeTable) (units : List UnitText) (fault : UnitFault) → Obstructs (enter_each part table units) fault → EntersUnits (enter_units part table units) next (Err fault)
+enters_unnamed part table next units fault stands = obstructs_then (enter_each part table units) fault (λ t. Ok (record { table = t; names = map unit_name units })) stands
 
 -- ---- a created source is read
 
@@ -101,7 +102,7 @@ module _ (before : Gathered) (path bytes : List ℕ) where
 
   -- it gives units, and what comes of these comes of it
   pub gathers-read : (units : List UnitText) (table : TypeTable) (roots : NameSet) (result : Result Unit declared.Refusal) → GivesUnits (created_reading path bytes) (Ok units)
-      → Gathers (gather before.roots (enter_units before.table units)) table roots result → Gathers (enter_created before (path, bytes)) table roots result
+      → Gathers (gather before.roots (enter_units Source before.table units)) table roots result → Gathers (enter_created before (path, bytes)) table roots result
   gathers-read units table roots result is gathers = subst (λ (o : Result Gathered Refusal). Gathers o table roots result) (sym (ap (enter_read before path) is)) gathers
 
 refused_by : (roots : NameSet) (outcome : Result Entered Obstacle) (fault : UnitFault) → Obstructs outcome fault → RefusesAs (gather roots outcome) (of_units fault)

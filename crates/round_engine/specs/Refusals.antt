@@ -20,9 +20,11 @@ pub data Refusal : Type 0 where
   BadConfig : (path : List ℕ) (place : Place) → Refusal
   -- `apt.json` has no row for this processor, the first such that is named
   UnknownProcessor : (name : List ℕ) → Refusal
-  -- a source has no reading: the least path of such a one, and the place of its first fault
+  -- a stub has no reading: the least path of such a one, and the place of its first fault
+  BadStub : (path : List ℕ) (place : ℕ) → Refusal
+  -- so has a source
   BadSource : (path : List ℕ) (place : ℕ) → Refusal
-  -- two places of the project give this name: the path of the source that gave it first, and that of the one that gave it again
+  -- two places of the project give this name: the path of the file that gave it first, stubs before sources, and that of the one that gave it again
   DuplicateType : (name first second : List ℕ) → Refusal
   -- a created source has no reading: its path in the output, and the place of its first fault
   BadGenerated : (path : List ℕ) (place : ℕ) → Refusal

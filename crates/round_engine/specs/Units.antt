@@ -6,6 +6,7 @@ use Rattle.apt_base.specs.declared.kinds.What.TheVariants.{Types, FileBytes}
 use Rattle.decl_tree.specs.declared.compilation.UnitText.{UnitText}
 use Rattle.file_answers.specs.Flaws.{Flaw, Bad, TooLarge, Reading}
 use Rattle.file_readings.specs.FileReadings.{reading_of}
+use Rattle.element_table.specs.declared.part.Part.{Part}
 use Rattle.element_table.specs.declared.part.Part.TheVariants.{Source}
 use Rattle.element_table.specs.UnitNames.{unit_name}
 use Rattle.element_table.specs.TypeTable.{TypeTable, unit_of, Against, IsThere, IsFull, outcome_of}
@@ -38,7 +39,7 @@ pub data Obstacle : Type 0 where
   -- with its types the table would have too many
   Full : Obstacle
 
--- a table, and the names of the units that were entered into its sources
+-- a table, and the names of the units that were entered into it
 pub record Entered : Type 0 where
   pub table : TypeTable
   pub names : List (List ℕ)
@@ -48,22 +49,22 @@ enter_by name (Ok table) = Ok table
 enter_by name (Err IsThere) = Err (Duplicate name)
 enter_by name (Err IsFull) = Err Full
 
-abbrev pub enter_unit : TypeTable → UnitText → Result TypeTable Obstacle
-enter_unit table unit = enter_by (unit_name unit) (outcome_of Source unit table)
+abbrev pub enter_unit : Part → TypeTable → UnitText → Result TypeTable Obstacle
+enter_unit part table unit = enter_by (unit_name unit) (outcome_of part unit table)
 
 -- what comes next, unless something stands against it
 abbrev pub and_then : {A B E : Type 0} → Result A E → (A → Result B E) → Result B E
 and_then (Ok value) next = next value
 and_then (Err why) next = Err why
 
--- units are entered one after another, up to the first that can't be
-abbrev pub enter_each : TypeTable → List UnitText → Result TypeTable Obstacle
-enter_each table [] = Ok table
-enter_each table (unit ∷ units) = and_then (enter_unit table unit) (λ next. enter_each next units)
+-- units are entered into a part of the table one after another, up to the first that can't be
+abbrev pub enter_each : Part → TypeTable → List UnitText → Result TypeTable Obstacle
+enter_each part table [] = Ok table
+enter_each part table (unit ∷ units) = and_then (enter_unit part table unit) (λ next. enter_each part next units)
 
 -- the same, with their names
-abbrev pub enter_units : TypeTable → List UnitText → Result Entered Obstacle
-enter_units table units = and_then (enter_each table units) (λ next. Ok (record { table = next; names = map unit_name units }))
+abbrev pub enter_units : Part → TypeTable → List UnitText → Result Entered Obstacle
+enter_units part table units = and_then (enter_each part table units) (λ next. Ok (record { table = next; names = map unit_name units }))
 
 -- ---- created sources
 
@@ -91,7 +92,7 @@ gather roots (Ok next) = Ok (record { table = next.table; roots = with_names roo
 gather roots (Err obstacle) = Err (unentered obstacle)
 
 abbrev pub enter_read : Gathered → List ℕ → Reading → Result Gathered Refusal
-enter_read gathered path (Ok units) = gather gathered.roots (enter_units gathered.table units)
+enter_read gathered path (Ok units) = gather gathered.roots (enter_units Source gathered.table units)
 enter_read gathered path (Err flaw) = Err (unread_at path flaw)
 
 -- a source, by its path and its bytes, is read, and its units are entered

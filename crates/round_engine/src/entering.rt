@@ -3,6 +3,7 @@ ghost use Rattle.std.specs.Prelude.{◌≡◌, map, IfOk, IfErr, OnOk, None};
 ghost use Rattle.std.specs.FinMap as fin;
 ghost use Rattle.file_readings.specs.FileReadings.{GivesUnits};
 ghost use Rattle.element_table.specs.UnitNames.{unit_name};
+ghost use Rattle.element_table.specs.declared.part.Part.TheVariants.{Source};
 ghost use Rattle.round_engine.specs.Names.{with_names};
 ghost use Rattle.round_engine.specs.Units.{enter_unit, enter_each, enter_units, created_reading, gather, enter_all};
 ghost use Rattle.round_engine.specs.Run.{sources_among};
@@ -44,10 +45,10 @@ fn reported(alloc: Global, fault: &EnterFault) -> UnitFault
 // A function of its own, so that what drops a unit is proved once.
 fn let_go(_fault: EnterFault) {}
 
-fn enter_unit(alloc: Global, table: &mut Table, unit: Unit) -> Result<(), UnitFault>
-    ensures { EntersEach (enter_unit table.old unit) table.new result }
+fn enter_unit(alloc: Global, table: &mut Table, part: Part, unit: Unit) -> Result<(), UnitFault>
+    ensures { EntersEach (enter_unit part table.old unit) table.new result }
 {
-    match table.enter(Part::Source, unit) {
+    match table.enter(part, unit) {
         Ok(()) => Ok(()),
         Err(fault) => {
             let told = reported(alloc, &fault);
@@ -57,11 +58,16 @@ fn enter_unit(alloc: Global, table: &mut Table, unit: Unit) -> Result<(), UnitFa
     }
 }
 
-fn enter_each(alloc: Global, table: &mut Table, units: List<Unit>) -> Result<(), UnitFault>
-    ensures { EntersEach (enter_each table.old units) table.new result }
+fn enter_each(
+    alloc: Global,
+    table: &mut Table,
+    part: Part,
+    units: List<Unit>,
+) -> Result<(), UnitFault>
+    ensures { EntersEach (enter_each part table.old units) table.new result }
 {
     for unit in units.into_vec() {
-        enter_unit(alloc, table, unit)?;
+        enter_unit(alloc, table, part, unit)?;
     }
     Ok(())
 }
@@ -76,9 +82,9 @@ fn names_of(alloc: Global, units: &[Unit]) -> Result<List<Name>, NoMemory>
     Ok(names)
 }
 
-/// Enters units into the sources of the table, one after another, and gives their names, in order. The first of these holds:
+/// Enters units into this part of the table, one after another, and gives their names, in order. The first of these holds:
 ///
-/// - `Duplicate`: the table has the name of one of them, or an earlier one has it.
+/// - `Duplicate`: the table has the name of one of them, in either part, or an earlier one has it.
 /// - `TooMany`: with the types of one of them the table would have more than 50,000.
 /// - all are entered.
 ///
@@ -87,12 +93,13 @@ fn names_of(alloc: Global, units: &[Unit]) -> Result<List<Name>, NoMemory>
 pub fn enter_units(
     alloc: Global,
     table: &mut Table,
+    part: Part,
     units: List<Unit>,
 ) -> Result<List<Name>, UnitFault>
-    ensures { EntersUnits (enter_units table.old units) table.new result }
+    ensures { EntersUnits (enter_units part table.old units) table.new result }
 {
     let names = names_of(alloc, units.as_slice())?;
-    enter_each(alloc, table, units)?;
+    enter_each(alloc, table, part, units)?;
     Ok(names)
 }
 
@@ -156,7 +163,7 @@ fn add_names(roots: &mut Names, names: &[Name]) -> Result<(), NoMemory>
     Ok(())
 }
 
-// Enters the units of a created source, and adds their names.
+// Enters the units of a created source among the sources, and adds their names.
 fn gather(
     alloc: Global,
     table: &mut Table,
@@ -164,9 +171,9 @@ fn gather(
     units: List<Unit>,
 ) -> Result<(), Refusal>
     ensures unnamed { IfErr result (λ refusal. named_by (stop_of refusal) ≡ None) }
-    ensures gathers { Gathers (gather roots.old (enter_units table.old units)) table.new roots.new result }
+    ensures gathers { Gathers (gather roots.old (enter_units Source table.old units)) table.new roots.new result }
 {
-    match enter_units(alloc, table, units) {
+    match enter_units(alloc, table, Part::Source, units) {
         Ok(names) => {
             add_names(roots, names.as_slice())?;
             Ok(())

@@ -46,19 +46,23 @@ fn copy_processors(
     Ok(copies)
 }
 
-fn copy_stub(alloc: Global, stub: &(Name, List<u8>)) -> Result<(Name, List<u8>), NoMemory>
-    ensures { IfOk result (λ copy. copy ≡ stub.now) }
+// An equal Java file, by its path and its bytes.
+fn copy_java_file(alloc: Global, file: &(Name, List<u8>)) -> Result<(Name, List<u8>), NoMemory>
+    ensures { IfOk result (λ copy. copy ≡ file.now) }
 {
-    let bytes = List::from_vec(stub.1.as_slice().to_vec(alloc)?);
-    Ok((stub.0.copy()?, bytes))
+    let bytes = List::from_vec(file.1.as_slice().to_vec(alloc)?);
+    Ok((file.0.copy()?, bytes))
 }
 
-fn copy_stubs(alloc: Global, stubs: &[(Name, List<u8>)]) -> Result<List<(Name, List<u8>)>, NoMemory>
-    ensures { IfOk result (λ list. list ≡ stubs.now) }
+fn copy_java_files(
+    alloc: Global,
+    files: &[(Name, List<u8>)],
+) -> Result<List<(Name, List<u8>)>, NoMemory>
+    ensures { IfOk result (λ list. list ≡ files.now) }
 {
     let mut copies = List::new(alloc);
-    for each in stubs {
-        copies.push(copy_stub(alloc, each)?)?;
+    for each in files {
+        copies.push(copy_java_file(alloc, each)?)?;
     }
     Ok(copies)
 }
@@ -85,7 +89,7 @@ impl Key {
             level: self.level,
             options: copy_options(alloc, self.options.as_slice())?,
             processors: copy_processors(alloc, self.processors.as_slice())?,
-            stubs: copy_stubs(alloc, self.stubs.as_slice())?,
+            stubs: copy_java_files(alloc, self.stubs.as_slice())?,
         })
     }
 }
@@ -95,7 +99,11 @@ impl Key {
 pub struct Project {
     /// All on which its build depends, but for its sources.
     pub key: Key,
-    /// Its units.
+    /// The source files, as paths and their bytes, ascending by path.
+    pub sources: List<(Name, List<u8>)>,
+    /// The units of the stub files of its key, all among the stubs.
+    pub stubs: Table,
+    /// The same units, and among the sources those of its source files.
     pub initial: Table,
 }
 
@@ -106,6 +114,8 @@ impl Project {
     {
         Ok(Project {
             key: self.key.copy(alloc)?,
+            sources: copy_java_files(alloc, self.sources.as_slice())?,
+            stubs: self.stubs.copy(alloc)?,
             initial: self.initial.copy(alloc)?,
         })
     }

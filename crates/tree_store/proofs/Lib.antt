@@ -7,3 +7,4 @@ pub mod Reading
 pub mod SourceLimits
 pub mod ConfigLemmas
 pub mod Publishing
+pub mod Ascending

@@ -3,12 +3,14 @@
 
 mod config;
 mod fault;
+mod laws;
 mod record;
 mod sources;
 mod store;
 
 pub use config::{ConfigFile, RawLists, read_config, read_lists};
 pub use fault::{ConfigReadFault, SourceReadFault, StoreFault};
+pub use laws::files_ascend;
 pub use record::{StoredFile, encode_record};
-pub use sources::{RawSource, read_sources};
+pub use sources::{RawSource, RawSources, read_sources};
 pub use store::{commit, put_files, taken_numbers};

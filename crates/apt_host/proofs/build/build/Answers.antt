@@ -16,6 +16,7 @@ use Rattle.apt_host.specs.Entering.{IsDueRead}
 use Rattle.apt_host.specs.Promises.{Answers, RefusesRead, IsDue, Leaves, IsFront, Adds, ShowsOver, processors_in}
 use Rattle.apt_host.proofs.Early.{not_done_early, unfinished_early, not_run_early, no_sink_early, store_early, store_free, store_unnamed, unnamed_concluded}
 use Rattle.apt_host.proofs.EarlyRefusals.{refuses_read, refuses_free, refuses_concluded, refuses_after, due_project, due_store, due_concluded}
+use Rattle.apt_host.proofs.Leaving.{leaves_keep}
 use Rattle.apt_host.proofs.Writing.{begins_with_nothing}
 use Rattle.apt_host.proofs.MakingLemmas.{names_are, count_tries}
 use Rattle.apt_host.proofs.Using.{uses_none, uses_key}
@@ -336,3 +337,11 @@ returns-clause-stand g c = λ told stand.
     let taken = subst (λ tree. AreTaken tree c.in_ok-taken.taken) (sym (c.in_ok-taken.ensures.same told)) (c.in_ok-taken.ensures.taken told) in
     stores_stand c.in_ok-taken.taken c.in_ok-finished.finished c.in_ok-finished.ensures.numbered (closed c.conclude.result) (T.files c.taken_numbers.new.tree) (T.files c.conclude.new.tree) taken (c.conclude.ensures.placed told) (c.conclude.ensures.leaves told)
     (subst StoresStand (sym same) stand)
+
+pub returns-clause-kept : goal.returns-clause-kept
+returns-clause-kept g c = λ told.
+    let T = g.T.Tree in
+    let same : T.files c.taken_numbers.new.tree ≡ T.files c.args.tree.now = c.in_ok-taken.ensures.same told ∙ c.in_ok-project.ensures.same told in
+    let taken = subst (λ tree. AreTaken tree c.in_ok-taken.taken) (sym (c.in_ok-taken.ensures.same told)) (c.in_ok-taken.ensures.taken told) in
+    leaves_keep (closed c.conclude.result) (T.files c.args.tree.now) (T.files c.conclude.new.tree) (subst (λ old. Leaves (closed c.conclude.result) old (T.files c.conclude.new.tree)) same
+    (leaves_all c.in_ok-taken.taken c.in_ok-finished.finished c.in_ok-finished.ensures.numbered (closed c.conclude.result) (T.files c.taken_numbers.new.tree) (T.files c.conclude.new.tree) taken (c.conclude.ensures.placed told) (c.conclude.ensures.leaves told)))

@@ -5,6 +5,7 @@ use Rattle.apt_host.specs.Configuration.{settings_in, settings_fit, plan_by}
 use Rattle.apt_host.specs.Verdicts.{verdict}
 use Rattle.apt_host.specs.Entering.{ComesAs, RefusesAs, shown_configuration}
 use Rattle.apt_host.proofs.Refusing.{refuses_then, comes_behind}
+use Rattle.apt_host.proofs.Settling.{key_whole}
 use Rattle.apt_host.proofs.configuration.key_of.Goals as goal
 
 pub returns-in_err-settings-clause-plan : goal.returns-in_err-settings-clause-plan
@@ -19,3 +20,6 @@ returns-in_err-settings-clause-plan c =
 pub returns-clause-plan : goal.returns-clause-plan
 returns-clause-plan c =
     comes_behind (settings_in c.args.options.now (shown_configuration c.args.raw.now)) c.in_ok-settings.settings settings_fit plan_of c.fitting.result c.in_ok-settings.ensures.settings c.fitting.ensures.plan
+
+pub returns-clause-whole : goal.returns-clause-whole
+returns-clause-whole c = key_whole c.args.options.now (shown_configuration c.args.raw.now) c.in_ok-settings.settings c.fitting.result c.in_ok-settings.ensures.settings c.fitting.ensures.whole

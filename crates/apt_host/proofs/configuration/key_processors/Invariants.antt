@@ -1,8 +1,7 @@
 use Rattle.std.proofs.Common.{◌≡◌, map}
-use Rattle.round_engine.specs.Clean.{try_of}
-use Rattle.apt_host.specs.Configuration.{try_in}
+use Rattle.apt_host.specs.Configuration.{key_processor}
 use Rattle.apt_host.proofs.configuration.key_processors.Given as goal
 
 -- the processors so far
 abbrev pub invariant-loop-processor : goal.invariant-loop-processor
-invariant-loop-processor l = map try_of l.list ≡ map try_in l.yielded
+invariant-loop-processor l = l.list ≡ map key_processor l.yielded

@@ -1,6 +1,6 @@
 use Rattle.std.proofs.Common.{◌≡◌, ◌∷◌, Ok, ap, sym, ◌∙◌, subst, rules}
 use Rattle.std.proofs.lemmas.Result.{err_from_is_err_and}
-use Rattle.apt_host.specs.Project.{enter_next, enter_from}
+use Rattle.apt_host.specs.Project.{enter_next, enter_all}
 use Rattle.apt_host.specs.Verdicts.{verdict}
 use Rattle.apt_host.specs.Entering.{filled, RefusesAs}
 use Rattle.apt_host.proofs.SourcesOfAProject.{fills-more, fills-no-more}
@@ -11,14 +11,14 @@ loop-source-preserved c =
     let rest : c.loop-source.source-iterator.rest.items ≡ c.in-Some.source ∷ c.next.new.self.rest.items = search rules in
     let so_far = filled c.loop-source.table c.loop-source.before in
     let next = filled c.enter_next.new.table c.enter_next.new.before in
-    let is : enter_next so_far c.in-Some.source ≡ Ok next = search rules in
-    sym (fills-more so_far next c.in-Some.source c.next.new.self.rest.items is) ∙ ap (enter_from so_far) (sym rest) ∙ c.loop-source.invariant
+    let is : enter_next c.args.part so_far c.in-Some.source ≡ Ok next = search rules in
+    sym (fills-more c.args.part so_far next c.in-Some.source c.next.new.self.rest.items is) ∙ ap (enter_all c.args.part so_far) (sym rest) ∙ c.loop-source.invariant
 
-pub returns-in_err-enter_next-clause-units : goal.returns-in_err-enter_next-clause-units
-returns-in_err-enter_next-clause-units c =
+pub returns-in_err-enter_next-clause-enters : goal.returns-in_err-enter_next-clause-enters
+returns-in_err-enter_next-clause-enters c =
     let p = err_from_is_err_and c.from_residual.result c.from_residual.ensures.1 in
     let rest : c.loop-source.source-iterator.rest.items ≡ c.in-Some.source ∷ c.next.new.self.rest.items = search rules in
     let so_far = filled c.loop-source.table c.loop-source.before in
-    let refuses : RefusesAs (enter_next so_far c.in-Some.source) (verdict c.in_err-enter_next.field-0.0) = search rules in
-    rw (p.1, p.2) (subst (λ o. RefusesAs o (verdict c.in_err-enter_next.field-0.0)) (ap (enter_from so_far) (sym rest) ∙ c.loop-source.invariant)
-    (fills-no-more so_far c.in-Some.source c.next.new.self.rest.items (verdict c.in_err-enter_next.field-0.0) refuses))
+    let refuses : RefusesAs (enter_next c.args.part so_far c.in-Some.source) (verdict c.in_err-enter_next.field-0.0) = search rules in
+    rw (p.1, p.2) (subst (λ o. RefusesAs o (verdict c.in_err-enter_next.field-0.0)) (ap (enter_all c.args.part so_far) (sym rest) ∙ c.loop-source.invariant)
+    (fills-no-more c.args.part so_far c.in-Some.source c.next.new.self.rest.items (verdict c.in_err-enter_next.field-0.0) refuses))

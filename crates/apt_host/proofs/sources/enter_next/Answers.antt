@@ -8,9 +8,9 @@ pub returns-in_ok-push-in-Ok-clause-enters : goal.returns-in_ok-push-in-Ok-claus
 returns-in_ok-push-in-Ok-clause-enters c =
     let source = c.args.source in
     let more : c.push.new.self ≡ c.args.before.now ++ (record { path = source.path; names = c.in-Ok.names }) ∷ [] = search rules in
-    fills c.args.before.now source.path (enter_units c.args.table.now source.units) c.enter_units.new.table c.in-Ok.names c.push.new.self c.in-Ok.ensures more
+    fills c.args.before.now source.path (enter_units c.args.part c.args.table.now source.units) c.enter_units.new.table c.in-Ok.names c.push.new.self c.in-Ok.ensures more
 
 pub returns-in-Err-clause-enters : goal.returns-in-Err-clause-enters
 returns-in-Err-clause-enters c =
     let source = c.args.source in
-    obstructed-as c.args.before.now source.path (enter_units c.args.table.now source.units) c.in-Err.fault (verdict c.unentered.result) c.in-Err.ensures (rw c.as_slice.ensures at c.unentered.ensures.is)
+    obstructed-as c.args.before.now source.path (enter_units c.args.part c.args.table.now source.units) c.in-Err.fault (verdict c.unentered.result) c.in-Err.ensures (rw c.as_slice.ensures at c.unentered.ensures.is)

@@ -1,4 +1,5 @@
 use Rattle.std.proofs.Common.{ap, ◌∙◌}
+use Rattle.element_table.specs.declared.part.Part.TheVariants.{Source}
 use Rattle.round_engine.specs.Names.{with_names}
 use Rattle.round_engine.specs.Units.{enter_units}
 use Rattle.round_engine.specs.Faults.{stop_of}
@@ -7,9 +8,9 @@ use Rattle.round_engine.proofs.entering.gather.Goals as goal
 
 pub returns-in_ok-add_names-in-Ok-clause-gathers : goal.returns-in_ok-add_names-in-Ok-clause-gathers
 returns-in_ok-add_names-in-Ok-clause-gathers c =
-    gathers-entered c.args.roots.now c.add_names.new.roots (enter_units c.args.table.now c.args.units) c.enter_units.new.table c.in-Ok.names c.in-Ok.ensures
+    gathers-entered c.args.roots.now c.add_names.new.roots (enter_units Source c.args.table.now c.args.units) c.enter_units.new.table c.in-Ok.names c.in-Ok.ensures
     (c.in_ok-add_names-in-Ok.ensures ∙ ap (with_names c.args.roots.now) c.as_slice.ensures)
 
 pub returns-in-Err-clause-gathers : goal.returns-in-Err-clause-gathers
 returns-in-Err-clause-gathers c =
-    gathers-unentered c.args.roots.now (enter_units c.args.table.now c.args.units) c.in-Err.fault (stop_of c.unentered.result) c.in-Err.ensures c.unentered.ensures.is
+    gathers-unentered c.args.roots.now (enter_units Source c.args.table.now c.args.units) c.in-Err.fault (stop_of c.unentered.result) c.in-Err.ensures c.unentered.ensures.is

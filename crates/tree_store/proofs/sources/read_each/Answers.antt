@@ -12,7 +12,10 @@ pub loop-path-init : goal.loop-path-init
 loop-path-init g c = record {
   later = omega arith;
   same = λ told. refl;
-  way = λ told. subst (λ sources. AreOnTheWay (g.T.Tree.files c.args.tree.now) c.args.paths.now 0 sources most_in_all) (sym c.new-sources.ensures) (begins-way (g.T.Tree.files c.args.tree.now) c.args.paths.now);
+  way = λ told.
+      subst (λ left. AreOnTheWay c.args.folder (g.T.Tree.files c.args.tree.now) c.args.paths.now 0 c.new-sources.result left) (sym c.most-left.ensures)
+      (subst (λ sources. AreOnTheWay c.args.folder (g.T.Tree.files c.args.tree.now) c.args.paths.now 0 sources (most_in_all c.args.folder)) (sym c.new-sources.ensures)
+      (begins-way c.args.folder (g.T.Tree.files c.args.tree.now) c.args.paths.now));
   short = subst AreShort (sym c.new-sources.ensures) tt;
 }
 
@@ -29,9 +32,9 @@ loop-path-preserved g c =
       way = λ told.
           let gives : source_at files (string_bytes c.path-item.result) ≡ c.in_ok-source.field-0 = rw (c.as_str.ensures.value, c.loop-path.invariant.same told) at (c.in_ok-source.ensures.source told) in
           elim c.match-branch-2.branch [
-            | in-Some+in_ok-push w ↦ more-way files items c.loop-path.path-index c.path-item.result c.loop-path-test.true c.path-item.is left c.loop-path.sources (c.loop-path.invariant.way told)
+            | in-Some+in_ok-push w ↦ more-way c.args.folder files items c.loop-path.path-index c.path-item.result c.loop-path-test.true c.path-item.is left c.loop-path.sources (c.loop-path.invariant.way told)
                 w.in-Some.source (sym w.in-Some.is ∙ sym gives) (within w.in-Some.source w.in-Some.is) _ _ (w.sources-is ∙ w.in_ok-push.ensures.ok) (w.left-is ∙ ap (λ n. left - n) w.len-left.ensures)
-            | in_default w ↦ none-way files items c.loop-path.path-index c.path-item.result c.loop-path-test.true c.path-item.is left c.loop-path.sources (c.loop-path.invariant.way told)
+            | in_default w ↦ none-way c.args.folder files items c.loop-path.path-index c.path-item.result c.loop-path-test.true c.path-item.is left c.loop-path.sources (c.loop-path.invariant.way told)
                 (sym w.in_default.is ∙ sym gives) _ _ w.sources-is w.left-is
           ];
       short = elim c.match-branch-2.branch [
@@ -48,10 +51,10 @@ returns-in_err-source-clause-sources g c = λ told.
     let p = err_from_is_err_and c.from_residual.result c.from_residual.ensures.1 in
     let left = c.loop-path.left in
     let path = string_bytes c.path-item.result in
-    let here : GivesOne left (source_at (g.T.Tree.files c.loop-path.tree) path) (Err fault) = subst (λ at. GivesOne left (source_at (g.T.Tree.files c.loop-path.tree) at) (Err fault)) c.as_str.ensures.value (c.in_err-source.ensures.source told) in
-    let gives : GivesOne left (source_at files path) (Err fault) = subst (λ (held : Files). GivesOne left (source_at held path) (Err fault)) (c.loop-path.invariant.same told) here in
-    rw (p.1, p.2) (stops-way files items c.loop-path.path-index c.path-item.result c.loop-path-test.true c.path-item.is left c.loop-path.sources (c.loop-path.invariant.way told) fault gives)
+    let here : GivesOne c.args.folder left (source_at (g.T.Tree.files c.loop-path.tree) path) (Err fault) = subst (λ at. GivesOne c.args.folder left (source_at (g.T.Tree.files c.loop-path.tree) at) (Err fault)) c.as_str.ensures.value (c.in_err-source.ensures.source told) in
+    let gives : GivesOne c.args.folder left (source_at files path) (Err fault) = subst (λ (held : Files). GivesOne c.args.folder left (source_at held path) (Err fault)) (c.loop-path.invariant.same told) here in
+    rw (p.1, p.2) (stops-way c.args.folder files items c.loop-path.path-index c.path-item.result c.loop-path-test.true c.path-item.is left c.loop-path.sources (c.loop-path.invariant.way told) fault gives)
 
 pub returns-clause-sources : goal.returns-clause-sources
 returns-clause-sources g c = λ told.
-    ends-way (g.T.Tree.files c.args.tree.now) c.args.paths.now c.loop-path.path-index c.loop-path-test.false c.loop-path.left c.loop-path.sources (c.loop-path.invariant.way told)
+    ends-way c.args.folder (g.T.Tree.files c.args.tree.now) c.args.paths.now c.loop-path.path-index c.loop-path-test.false c.loop-path.left c.loop-path.sources (c.loop-path.invariant.way told)

@@ -11,6 +11,6 @@ invariant-loop-path g l =
     record {
       later : T.faults l.fn.tree ≤ T.faults l.tree;
       same : Told T.tells (T.files l.tree ≡ T.files l.fn.tree);
-      way : Told T.tells (AreOnTheWay (T.files l.fn.tree) l.paths l.path-index l.sources l.left);
+      way : Told T.tells (AreOnTheWay l.folder (T.files l.fn.tree) l.paths l.path-index l.sources l.left);
       short : AreShort l.sources;
     }

@@ -14,5 +14,5 @@ returns-clause-source g c = λ told.
     let java : is_java path ≡ true = search rules in
     let here : source_at files path ≡ option_map (source_of path) stands = ap (λ b. cond b (option_map (source_of path) stands) None) java in
     let reads : option_map (λ (bytes : Vec ℕ Global). bytes.items) c.in_ok-found.found ≡ option_map (take (most_in_one + 1)) stands = c.in_ok-found.ensures.bytes told in
-    subst (λ o. GivesOne left o c.within_limits.result) (sym here)
-    (gives-whole left path stands c.within_limits.result c.within_limits.ensures.within (rw reads at c.within_limits.ensures.source))
+    subst (λ o. GivesOne c.args.folder left o c.within_limits.result) (sym here)
+    (gives-whole c.args.folder left path stands c.within_limits.result c.within_limits.ensures.within (rw reads at c.within_limits.ensures.source))
