@@ -32,6 +32,7 @@ impl Model for Asked {
 }
 
 impl Asked {
+    /// No questions.
     pub fn new(alloc: Global) -> Asked
         ensures { result ≡ [] }
     {
@@ -40,6 +41,7 @@ impl Asked {
         }
     }
 
+    /// The questions, in the order in which they were first asked.
     pub fn as_slice(&self) -> &[Pair]
         ensures { result.now ≡ self.now }
     {

@@ -11,6 +11,7 @@ pub struct Budget {
 }
 
 impl Budget {
+    /// All of 65,536.
     pub fn new() -> Budget {
         Budget { left: MOST_NAMED }
     }
