@@ -201,7 +201,7 @@ fn enter_next(
     part: Part,
     source: ReadSource,
 ) -> Result<(), Status>
-    ensures enters { Fills (enter_next part (filled table.old before.old) source) table.new before.new result }
+    ensures fills { Fills (enter_next part (filled table.old before.old) source) table.new before.new result }
     ensures early { IfErr result (λ status. EndsEarly (λ _. false) (verdict status)) }
     ensures unnamed { IfErr result (λ status. named_in (verdict status) ≡ None) }
 {
@@ -223,7 +223,7 @@ fn enter_each(
     part: Part,
     sources: List<ReadSource>,
 ) -> Result<(), Status>
-    ensures enters { Fills (enter_all part (filled table.old before.old) sources) table.new before.new result }
+    ensures fills { Fills (enter_all part (filled table.old before.old) sources) table.new before.new result }
     ensures early { IfErr result (λ status. EndsEarly (λ _. false) (verdict status)) }
     ensures unnamed { IfErr result (λ status. named_in (verdict status) ≡ None) }
 {

@@ -2,7 +2,7 @@
 ghost use Rattle.std.specs.Prelude.{◌≡◌, ◌<◌, ◌≤◌, [], List, length, if◌then◌else◌, ◌+◌, IfOk, MatchResult, Some, None, string_bytes, drop};
 ghost use Rattle.std.specs.List.{position_or_len};
 ghost use Rattle.decl_grammar.specs.Reading.{UnlessMemory};
-ghost use Rattle.decl_grammar.specs.Constants.{is_name, is_literal, is_numeral, is_plus, dotted_name, symbol_seen, TwoRead, text_alone, dim_here, class_here, type_of, chain_from, chain_of, class_end, class_named, class_primitive, class_void, class_of, literal_of, negated_of, plain_of, parts_of, two_or_more, joined_of, constant_of, expression_of, name_part};
+ghost use Rattle.decl_grammar.specs.Constants.{is_name, is_literal, is_numeral, is_plus, symbol_seen, TwoRead, DottedRead, text_alone, dim_here, class_here, type_of, chain_from, chain_of, class_end, class_named, class_primitive, class_void, class_of, literal_of, negated_of, plain_of, parts_of, two_or_more, joined_of, constant_of, expression_of, name_part};
 ghost use Rattle.decl_tree.specs.declared.annotation.ValueText.TheVariants as value;
 ghost use Rattle.decl_grammar.specs.declared.fault.ReadFault.TheVariants as faults;
 
@@ -39,7 +39,7 @@ fn is_numeral_symbol(symbol: &Symbol<'_>) -> bool
 fn dotted_step<'a, 's>(
     symbols: &'s [Symbol<'a>],
 ) -> Result<(Option<&'s Symbol<'a>>, &'s [Symbol<'a>]), ReadFault>
-    ensures { MatchResult result (λ x. TwoRead (symbol_seen x.0) (dotted_name symbols.now) x.1.now symbols.now) (λ e. ⊥) }
+    ensures { MatchResult result (λ x. DottedRead (symbol_seen x.0) x.1.now symbols.now) (λ e. ⊥) }
 {
     match symbols {
         [] => Ok((None, symbols)),

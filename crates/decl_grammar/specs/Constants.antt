@@ -58,6 +58,10 @@ behind_two (s ∷ n ∷ ss) = ss
 abbrev pub TwoRead : {A : Type 0} → A → A → List Symbol → List Symbol → Type 0
 TwoRead got wanted rest ts = (got ≡ wanted) × (rest ≡ behind_two ts)
 
+-- the name behind the dot that stands first, where both are there
+abbrev pub DottedRead : Option Symbol → List Symbol → List Symbol → Type 0
+DottedRead got rest ts = TwoRead got (dotted_name ts) rest ts
+
 -- a text, where nothing is behind it
 abbrev pub text_alone : List ℕ → List Symbol → Option (List ℕ)
 text_alone t [] = Some t

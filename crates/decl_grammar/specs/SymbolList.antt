@@ -3,6 +3,8 @@ use Rattle.std.specs.Prelude.{ℕ, ◌+◌, ◌==◌, Bool, true, false, List, [
 use Rattle.java_tokens.specs.declared.token.TokenKind.{TokenKind}
 use Rattle.java_tokens.specs.declared.token.TokenKind.TheVariants.{Identifier, Reserved, Integer, Floating, Character, Text, TextBlock, Operator, Truth, Null}
 use Rattle.java_tokens.specs.Tokens.{Lexeme}
+use Rattle.java_tokens.specs.declared.token.Token.{Token}
+use Rattle.java_tokens.specs.TokensShown.{shown_token, shown_tokens}
 use Rattle.decl_grammar.specs.declared.symbol.Symbol.{Symbol}
 
 -- a sort of which no form has a symbol; no token has a number beyond its table
@@ -57,3 +59,7 @@ symbols_before t ts = symbols_at (sort_of t.kind) t ts
 abbrev pub symbols_of : List Lexeme → List Symbol
 symbols_of [] = []
 symbols_of (t ∷ ts) = symbols_before t ts ++ symbols_of ts
+
+-- those of a token before others, as code has them
+abbrev pub shown_before : Token → List Token → List Symbol
+shown_before token others = symbols_before (shown_token token) (shown_tokens others)

@@ -1,7 +1,7 @@
 // The symbols of a list of tokens.
 ghost use Rattle.std.specs.Prelude.{◌≡◌, ◌++◌, [], ◌∷◌, List, IfOk};
 ghost use Rattle.java_tokens.specs.TokensShown.{shown_doc, shown_token, shown_tokens};
-ghost use Rattle.decl_grammar.specs.SymbolList.{word_sort, operator_sort, sort_of, is_before, sort_before, symbol_of, symbols_before, symbols_of};
+ghost use Rattle.decl_grammar.specs.SymbolList.{word_sort, operator_sort, sort_of, is_before, sort_before, symbol_of, symbols_of, shown_before};
 
 use crate::symbol::{Symbol, TokenText};
 use apt_base::NoMemory;
@@ -93,7 +93,7 @@ fn add_symbols<'a>(
     token: &Token<'a>,
     others: &[Token<'a>],
 ) -> Result<(), NoMemory>
-    ensures { IfOk result (λ u. all.new.items ≡ all.old.items ++ symbols_before (shown_token token.now) (shown_tokens others.now)) }
+    ensures { IfOk result (λ u. all.new.items ≡ all.old.items ++ shown_before token.now others.now) }
 {
     let sort = kind_sort(token.kind);
     if sort == 98 {

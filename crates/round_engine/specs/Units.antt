@@ -66,6 +66,10 @@ enter_each part table (unit ∷ units) = and_then (enter_unit part table unit) (
 abbrev pub enter_units : Part → TypeTable → List UnitText → Result Entered Obstacle
 enter_units part table units = and_then (enter_each part table units) (λ next. Ok (record { table = next; names = map unit_name units }))
 
+-- the same among the sources
+abbrev pub enter_sources : TypeTable → List UnitText → Result Entered Obstacle
+enter_sources table units = enter_units Source table units
+
 -- ---- created sources
 
 -- What a created source at this path of the output reads as. No filer takes one that is longer than a file may be.

@@ -5,7 +5,7 @@ ghost use Rattle.file_readings.specs.FileReadings.{GivesUnits};
 ghost use Rattle.element_table.specs.UnitNames.{unit_name};
 ghost use Rattle.element_table.specs.declared.part.Part.TheVariants.{Source};
 ghost use Rattle.round_engine.specs.Names.{with_names};
-ghost use Rattle.round_engine.specs.Units.{enter_unit, enter_each, enter_units, created_reading, gather, enter_all};
+ghost use Rattle.round_engine.specs.Units.{enter_unit, enter_each, enter_units, enter_sources, created_reading, gather, enter_all};
 ghost use Rattle.round_engine.specs.Run.{sources_among};
 ghost use Rattle.round_engine.specs.Refusals.{named_by, OrMemory};
 ghost use Rattle.round_engine.specs.Faults.{stop_of};
@@ -171,7 +171,7 @@ fn gather(
     units: List<Unit>,
 ) -> Result<(), Refusal>
     ensures unnamed { IfErr result (λ refusal. named_by (stop_of refusal) ≡ None) }
-    ensures gathers { Gathers (gather roots.old (enter_units Source table.old units)) table.new roots.new result }
+    ensures gathers { Gathers (gather roots.old (enter_sources table.old units)) table.new roots.new result }
 {
     match enter_units(alloc, table, Part::Source, units) {
         Ok(names) => {

@@ -4,7 +4,10 @@ use Rattle.std.specs.List.{zip, list_any}
 use Rattle.apt_base.specs.declared.element.ElementRef.{ElementRef}
 use Rattle.element_table.specs.TypeTable.{TypeTable}
 use Rattle.type_mirror.specs.declared.mirror.Mirror.{Mirror}
-use Rattle.type_mirror.specs.Substitution.{Replacements, same_element}
+use Rattle.type_mirror.specs.declared.mirror.BaseMirror.TheVariants as base
+use Rattle.type_mirror.specs.declared.mirror.DeclaredMirror.{DeclaredMirror}
+use Rattle.type_mirror.specs.Parts.{plain}
+use Rattle.type_mirror.specs.Substitution.{Replacements, same_element, substituted}
 use Rattle.type_layers.specs.Layers.{Layer, Declared, layer, Held, by_parts}
 use Rattle.type_relations.specs.Elements.{type_parameters, has_type_parameters}
 
@@ -46,3 +49,10 @@ once_behind by more = fold added by more
 
 unfoldable pub replacements : TypeTable → Mirror → Replacements
 replacements table m = once_behind [] (entries table m)
+
+abbrev pub type_of_class : DeclaredMirror → Mirror
+type_of_class d = plain (base.Declared d)
+
+-- types with what this class type puts in the place of type parameters
+abbrev pub replaced_by : TypeTable → DeclaredMirror → List Mirror → List Mirror
+replaced_by table d types = map (substituted (replacements table (type_of_class d))) types

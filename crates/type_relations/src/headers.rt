@@ -119,7 +119,7 @@ fn or_object(
 
 /// The supertypes of a type in the table as its header has them, the superclass before the interfaces. An interface without any has `java.lang.Object`; what is no type has none.
 #[tactic(auto, unfolding(crate::specs::Named::declared_supertypes))]
-pub(crate) fn declared_supertypes(
+pub fn declared_supertypes(
     alloc: Global,
     table: &Table,
     at: &ElementRef,

@@ -121,8 +121,8 @@ fn parameter_count(table: &Table, at: &ElementRef) -> u16
     }
 }
 
-/// Whether it declares any.
-pub(crate) fn has_type_parameters(table: &Table, at: &ElementRef) -> bool
+/// Whether an element declares type parameters.
+pub fn has_type_parameters(table: &Table, at: &ElementRef) -> bool
     ensures { result ≡ elements.has_type_parameters table.now at.now }
 {
     parameter_count(table, at) != 0

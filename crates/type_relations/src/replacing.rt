@@ -3,7 +3,6 @@ ghost use Rattle.std.specs.Prelude.{◌≡◌, map, OnOk, IfOk};
 ghost use Rattle.std.specs.List.{zip};
 ghost use Rattle.type_mirror.specs.Parts.{plain};
 ghost use Rattle.type_mirror.specs.Substitution.{same_element, substituted, AreDistinct};
-ghost use Rattle.type_mirror.specs.declared.mirror.BaseMirror.TheVariants as base;
 ghost use Rattle.type_relations.specs.RawTypes as raw;
 ghost use Rattle.type_relations.specs.RawTypes.{added, entries, once_behind};
 
@@ -79,7 +78,7 @@ fn add_declared(
     of: &DeclaredMirror,
 ) -> Result<(), NoMemory>
     requires { AreDistinct by.old }
-    ensures value { OnOk result (by.new ≡ once_behind by.old (entries table.now (plain (base.Declared of.now)))) }
+    ensures value { OnOk result (by.new ≡ once_behind by.old (entries table.now (raw.type_of_class of.now))) }
     ensures distinct { OnOk result (AreDistinct by.new) }
 {
     let parameters = type_parameters(alloc, table, &of.element)?;
@@ -141,7 +140,7 @@ fn replacements(
     table: &Table,
     of: &DeclaredMirror,
 ) -> Result<List<(ElementRef, Mirror)>, NoMemory>
-    ensures value { IfOk result (λ by. by ≡ raw.replacements table.now (plain (base.Declared of.now))) }
+    ensures value { IfOk result (λ by. by ≡ raw.replacements table.now (raw.type_of_class of.now)) }
     ensures distinct { IfOk result (λ by. AreDistinct by) }
 {
     let mut by = List::new(alloc);
@@ -172,7 +171,7 @@ pub(crate) fn replaced_by(
     types: &[Mirror],
     of: &DeclaredMirror,
 ) -> Result<List<Mirror>, NoMemory>
-    ensures { IfOk result (λ list. list ≡ map (substituted (raw.replacements table.now (plain (base.Declared of.now)))) types.now) }
+    ensures { IfOk result (λ list. list ≡ raw.replaced_by table.now of.now types.now) }
 {
     let by = replacements(alloc, table, of)?;
     replaced(alloc, types, &by)

@@ -14,8 +14,8 @@ loop-source-preserved c =
     let is : enter_next c.args.part so_far c.in-Some.source ≡ Ok next = search rules in
     sym (fills-more c.args.part so_far next c.in-Some.source c.next.new.self.rest.items is) ∙ ap (enter_all c.args.part so_far) (sym rest) ∙ c.loop-source.invariant
 
-pub returns-in_err-enter_next-clause-enters : goal.returns-in_err-enter_next-clause-enters
-returns-in_err-enter_next-clause-enters c =
+pub returns-in_err-enter_next-clause-fills : goal.returns-in_err-enter_next-clause-fills
+returns-in_err-enter_next-clause-fills c =
     let p = err_from_is_err_and c.from_residual.result c.from_residual.ensures.1 in
     let rest : c.loop-source.source-iterator.rest.items ≡ c.in-Some.source ∷ c.next.new.self.rest.items = search rules in
     let so_far = filled c.loop-source.table c.loop-source.before in

@@ -4,13 +4,13 @@ use Rattle.apt_host.specs.Verdicts.{verdict}
 use Rattle.apt_host.proofs.SourcesOfAProject.{fills, obstructed-as}
 use Rattle.apt_host.proofs.sources.enter_next.Goals as goal
 
-pub returns-in_ok-push-in-Ok-clause-enters : goal.returns-in_ok-push-in-Ok-clause-enters
-returns-in_ok-push-in-Ok-clause-enters c =
+pub returns-in_ok-push-in-Ok-clause-fills : goal.returns-in_ok-push-in-Ok-clause-fills
+returns-in_ok-push-in-Ok-clause-fills c =
     let source = c.args.source in
     let more : c.push.new.self ≡ c.args.before.now ++ (record { path = source.path; names = c.in-Ok.names }) ∷ [] = search rules in
     fills c.args.before.now source.path (enter_units c.args.part c.args.table.now source.units) c.enter_units.new.table c.in-Ok.names c.push.new.self c.in-Ok.ensures more
 
-pub returns-in-Err-clause-enters : goal.returns-in-Err-clause-enters
-returns-in-Err-clause-enters c =
+pub returns-in-Err-clause-fills : goal.returns-in-Err-clause-fills
+returns-in-Err-clause-fills c =
     let source = c.args.source in
     obstructed-as c.args.before.now source.path (enter_units c.args.part c.args.table.now source.units) c.in-Err.fault (verdict c.unentered.result) c.in-Err.ensures (rw c.as_slice.ensures at c.unentered.ensures.is)
