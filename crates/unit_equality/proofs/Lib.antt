@@ -1,0 +1,2 @@
+pub mod PartsEqual
+pub mod SameShapes
