@@ -17,6 +17,8 @@
 //! | `interfaces UNIT PATH` | its interfaces, or `[]` |
 //! | `candidates UNIT` | the candidates of that unit, as a list |
 //! | `reach UNIT` | the reach of that name, as a list |
+//! | `kept` | `done`: a copy of the table is kept from now on, in the place of the one that was |
+//! | `agree NAMES` | whether the table that is kept and the present one agree on the names of this list: `yes` or `no` |
 //!
 //! What is found is a unit and the steps of a path, joined by colons; it is `none` where the name means nothing, and `several` where it is ambiguous.
 //!
@@ -39,10 +41,11 @@ use element_table::{EnterFault, Part, Table};
 use std::alloc::Global;
 use std::process::ExitCode;
 
-/// The look-ups over one table.
+/// The look-ups over one table, and a table that is kept beside it.
 #[derive(Drop)]
 struct Names {
     table: Table,
+    kept: Table,
 }
 
 impl Calls for Names {
@@ -85,6 +88,11 @@ impl Calls for Names {
             }
             ["candidates", unit] => reaches::candidate_words(alloc, &self.table, *unit),
             ["reach", unit] => reaches::reach_words(alloc, &self.table, *unit),
+            ["kept"] => {
+                self.kept = self.table.copy(alloc)?;
+                text_of(alloc, "done")
+            }
+            ["agree", list] => reaches::agree_word(alloc, &self.kept, &self.table, *list),
             _ => Err(CaseFault::NotACase),
         }
     }
@@ -146,5 +154,6 @@ fn chain(alloc: Global, table: &mut Table, last: u32) -> Result<String, CaseFaul
 
 fn main(rt: HostRuntime) -> ExitCode {
     let table = Table::new(rt.alloc());
-    run(&rt, &mut Names { table })
+    let kept = Table::new(rt.alloc());
+    run(&rt, &mut Names { table, kept })
 }

@@ -1,8 +1,8 @@
-// Candidates and reaches in words.
+// Candidates, reaches and the names on which tables agree, in words.
 use apt_base::{List, Name};
-use case_lines::{CaseFault, joined, name};
+use case_lines::{CaseFault, joined, name, names};
 use element_table::Table;
-use reach_map::{candidates, reach};
+use reach_map::{agrees, candidates, reach};
 use std::alloc::Global;
 
 fn name_words(alloc: Global, names: &List<Name>) -> Result<String, CaseFault> {
@@ -28,4 +28,20 @@ pub fn candidate_words(alloc: Global, table: &Table, word: &str) -> Result<Strin
 pub fn reach_words(alloc: Global, table: &Table, word: &str) -> Result<String, CaseFault> {
     let names = reach(alloc, table, &name(alloc, word)?)?;
     name_words(alloc, &names)
+}
+
+/// `yes` where the tables agree on the names of a list, and `no` where they do not.
+pub fn agree_word(
+    alloc: Global,
+    one: &Table,
+    other: &Table,
+    word: &str,
+) -> Result<String, CaseFault> {
+    let list = names(alloc, word)?;
+    let said = if agrees(one, other, &list) {
+        "yes"
+    } else {
+        "no"
+    };
+    Ok(String::from_str(alloc, said)?)
 }

@@ -62,7 +62,7 @@ module _ (table : TypeTable) (names : List ℕ → Bool) where
   chosen true t o = refl
   chosen false t o = absurd t
 
-  get_cut : (name : List ℕ) → fin.get (fin.retain_keys table.source names) name ≡ cond (names name) (fin.get table.source name) None
+  pub get_cut : (name : List ℕ) → fin.get (fin.retain_keys table.source names) name ≡ cond (names name) (fin.get table.source name) None
   get_cut name = fin.get-retain_keys table.source names name (λ x e. ap names (sym (fin.slice_cmp-IsAntisymmetric fin.nat_cmp-IsAntisymmetric name x e)))
 
   kept : (name : List ℕ) → T (names name) → fin.get (fin.retain_keys table.source names) name ≡ fin.get table.source name

@@ -7,5 +7,6 @@ pub mod NamesLemmas
 pub mod ReachLemmas
 pub mod SameMirrors
 pub mod SameSupertypes
+pub mod SharedReaches
 pub mod SourceUnits
 pub mod WrittenChains

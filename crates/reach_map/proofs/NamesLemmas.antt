@@ -103,11 +103,11 @@ has_new names list q t = subst T (sym (holds-with_names names list q)) (or_left 
 
 -- ---- its names ascend
 
-front : (a b : Bool) → T (a && b) → T a
+pub front : (a b : Bool) → T (a && b) → T a
 front true b t = tt
 front false b t = absurd t
 
-back : (a b : Bool) → T (a && b) → T b
+pub back : (a b : Bool) → T (a && b) → T b
 back true b t = t
 back false b t = absurd t
 

@@ -1,3 +1,4 @@
+pub mod Agree
 pub mod CandidateSets
 pub mod Candidates
 pub mod Chains

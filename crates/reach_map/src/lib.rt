@@ -4,9 +4,12 @@
 //!
 //! `candidates` lists the candidates of a unit, in time that is linear in what the unit declares but for the logarithm of how many candidates it has.
 //!
+//! `reach` lists the reach of a unit, and `agrees` says whether two tables have the same source units under some names.
+//!
 //! Not promised: that memory is there.
 #![tactic(auto)]
 
+mod agreeing;
 mod chains;
 mod gathered;
 mod members;
@@ -21,6 +24,7 @@ ghost use Rattle.std.specs.Option.{option_copied};
 ghost use Rattle.element_table.specs.TypeTable.{unit_of, part_of};
 ghost use Rattle.reach_map.specs.ClosedCuts.{among, cut, is_cut_off, IsKept, KeepsMeanings};
 
+pub use agreeing::agrees;
 use apt_base::{List, Name};
 use decl_tree::Unit;
 use element_table::{Part, Table};

@@ -13,8 +13,8 @@ use element_table::{Part, Table};
 use name_index::Names;
 use std::alloc::Global;
 
-// The source unit of this name.
-fn source<'a>(table: &'a Table, name: &Name) -> Option<&'a Unit>
+/// The source unit of this name.
+pub(crate) fn source<'a>(table: &'a Table, name: &Name) -> Option<&'a Unit>
     ensures { option_copied result ≡ fin.get table.now.source name.now }
 {
     match table.part(name)? {
