@@ -1,0 +1,2 @@
+pub mod ReplacedLayers
+pub mod ReplacedSteps

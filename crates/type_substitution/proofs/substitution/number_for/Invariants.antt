@@ -1,0 +1,7 @@
+use Rattle.std.proofs.Common.{◌≡◌, drop}
+use Rattle.type_substitution.specs.Replaced.{number_for}
+use Rattle.type_substitution.proofs.substitution.number_for.Given as goal
+
+-- what is left has the same for the variable
+abbrev pub invariant-loop-pair : goal.invariant-loop-pair
+invariant-loop-pair l = number_for (drop l.pair-index l.by) l.element ≡ number_for l.by l.element
