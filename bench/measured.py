@@ -1,12 +1,13 @@
 #!/usr/bin/env python3
-"""Builds the program that declarations.py, frames.py, shapes.py and tokens.py measure, where it is not built yet, and prints its path.
+"""Builds the program that declarations.py, frames.py, names.py, shapes.py and tokens.py measure, where it is not built yet, and prints its path.
 
     bench/measured.py
 
 The program measures the library and is no part of it, so its sources stand in bench/measured and not among the crates:
 the gate proves and builds what stands there, and takes no other file of the language, so these end in .rattle. To build
-the program, a temporary repository gets copies of it and of the crates below it, and `rt run` is called there. The first
-time, that proves the program and each of these crates of which no proof is kept on this machine, which takes minutes.
+the program, a temporary repository gets copies of it and of the crates below it, and `rt ci` is called there. That takes
+over what an earlier `rt ci` on this machine has proved of the same files, as the gate of this repository does. With all
+crates below kept it proves the program alone, which takes minutes; else it proves each of them first.
 
 The built program is kept in bench/built until a file that it is made of changes.
 """
@@ -24,7 +25,13 @@ BUILT = os.path.join(HERE, "built")
 NAME = "measured"
 
 # The crates that the program names.
-USED = ["apt_base", "decl_syntax", "decl_parser", "java_tokens", "wire_frames", "frame_stream"]
+USED = [
+    "apt_base", "decl_tree", "decl_syntax", "decl_parser", "element_table", "type_mirror", "type_resolve", "java_tokens", "wire_frames",
+    "frame_stream",
+]
+
+# The words with which `rt ci` runs the program, which is to print nothing then.
+PRINTS_NOTHING = ["files", "whole", os.devnull]
 
 
 def listed_crates():
@@ -64,6 +71,8 @@ def lay_out(folder):
     for source in os.listdir(SOURCES):
         called, _ = os.path.splitext(source)
         shutil.copy(os.path.join(SOURCES, source), os.path.join(crate, "src", called + ".rt"))
+    with open(os.path.join(crate, "args"), "w", encoding="ascii") as file:
+        file.writelines(f"{word}\n" for word in PRINTS_NOTHING)
     return crate
 
 
@@ -89,11 +98,15 @@ def kept_checksum():
 
 
 def build(crate, made_of):
-    run = subprocess.run(["rt", "run"], cwd=crate, stdout=subprocess.PIPE, check=False)
-    if run.returncode != 0:
-        sys.exit(f"bench/measured was not built, or did not run: rt ended with status {run.returncode}")
+    ci = subprocess.run(["rt", "ci"], cwd=os.path.dirname(os.path.dirname(crate)), stdout=sys.stderr, check=False)
+    if ci.returncode != 0:
+        sys.exit(f"bench/measured was not built: rt ended with status {ci.returncode}")
+    built = os.path.join(crate, "out", NAME)
+    each = subprocess.run([built], stdout=subprocess.DEVNULL, check=False)
+    if each.returncode != 0:
+        sys.exit(f"bench/measured does not run: it ended with status {each.returncode}")
     os.makedirs(BUILT, exist_ok=True)
-    shutil.copy(os.path.join(crate, "out", NAME), BUILT)
+    shutil.copy(built, BUILT)
     with open(os.path.join(BUILT, NAME + ".checksum"), "w", encoding="ascii") as file:
         file.write(made_of)
 

@@ -1,0 +1,224 @@
+#!/usr/bin/env python3
+"""Measures look-ups of the names of types: over tables of 5,000 and 50,000 types, and of all types of fields that the
+JDK's java.util declares, beside javac's attribution of the same declarations, in turn in one run.
+
+    bench/names.py SOURCES [PROGRAM]
+
+SOURCES is the archive src.zip of a JDK's sources, such as that of the Debian package openjdk-17-source. PROGRAM is the
+one that bench/measured.py builds where it is left out. The time of a round is the processor time of a run with many
+rounds less that of a run with few, so that what a run does once, as making the table, is not in it. Each look-up is one
+call of `resolve_type`, of `superclass` or of `interfaces`, with the test of its condition, and remembers nothing of the
+one before.
+
+The tables hold units of two types each, which import and extend each other. A round looks one field of each unit up: of
+a type of its own file, by a single import, of another type of its package, by an import on demand, an inherited member
+type, a member type by its canonical name, or of a type that is nowhere. The growth is that of the time for each look-up
+from the small table to the large one.
+
+Of the JDK's module java.base javac writes spaces over the methods, constructors and initializer blocks, so that types,
+their type parameters, their supertypes and their fields are left, and an A over each escape of a surrogate, of which
+alone the program makes no character. Of what is left those files are taken that have units by the program, so that both
+sides read the same. The program has all of them in one table and looks up the types of fields, and the supertypes;
+javac enters them (`-proc:only`) and has a processor ask each field for its type. Of javac the time counts from where
+the files are read and parsed, for the package java.util once with the types of all other packages from the JDK's class
+files, which it reads within that time, and once, over all of the files, with no need of these. It checks besides what
+it enters, and the program does not. What javac does for its last round, all of it once more, is not counted. The JVM is
+warm: rounds before the measured ones are not counted, and only the processor time of the thread that compiles is.
+
+What both find is compared line by line, for java.util and for all of the packages: the type of each field and the
+supertypes of each type, with type arguments and without what encloses a member type. How many are different is printed,
+and the first of them.
+
+Nothing but the ratios means anything on another machine, and no test depends on them.
+"""
+import os
+import shutil
+import statistics
+import subprocess
+import sys
+import tempfile
+import zipfile
+
+import measured
+
+HERE = os.path.dirname(os.path.abspath(__file__))
+PROGRAM = None
+MODULE, PACKAGE = "java.base/", "java/util/"
+FORMS = ("own", "single", "beside", "demand", "inherited", "qualified", "absent")
+SMALL, LARGE, TURNS, FEW, GOAL = 5_000, 50_000, 5, 1, 1.6
+
+# How many rounds more the longer run has: at LARGE, at SMALL ten times as many, and over the files of one package or of
+# all. What a run does once takes seconds, and the rounds are to take as long.
+MORE, MORE_OF_PACKAGE, MORE_OF_ALL = 5, 100, 10
+
+# How many rounds only warm the JDK up, over the files of one package and of all.
+WARM, WARM_OF_ALL = 20, 4
+
+# How many differences are printed.
+TOLD = 20
+
+# The C library keeps what is freed.
+SETTINGS = dict(os.environ, MALLOC_TRIM_THRESHOLD_=str(4 << 30), MALLOC_MMAP_THRESHOLD_=str(1 << 30))
+
+
+def run(words, rounds):
+    """The processor seconds of one run, its peak memory in bytes, and the look-ups of a round."""
+    seconds, peak, said = measured.run(PROGRAM, ["names", *words, str(rounds)], SETTINGS)
+    return seconds, peak, int(said[1])
+
+
+def seconds_of_round(words, more):
+    """The processor seconds of one round, the peak memory, and the look-ups of a round."""
+    few = run(words, FEW)[0]
+    many, peak, count = run(words, FEW + more)
+    return (many - few) / more, peak, count
+
+
+# ---- tables
+
+
+def measure_tables():
+    taken, peaks = {}, {}
+    for _ in range(TURNS):
+        for form in FORMS:
+            for types in (SMALL, LARGE):
+                seconds, peaks[form, types], count = seconds_of_round([form, str(types)], MORE * LARGE // types)
+                taken.setdefault((form, types), []).append(seconds / count)
+    median = {key: statistics.median(all_taken) for key, all_taken in taken.items()}
+    for form in FORMS:
+        growth = median[form, LARGE] / median[form, SMALL]
+        print(f"{form}: {1 / median[form, LARGE]:,.0f} look-ups a second over {LARGE} types, {growth:.2f} times the time for each over {SMALL} "
+              f"(goal: at most {GOAL}), peak {peaks[form, LARGE] / 1e6:.0f} MB")
+
+
+# ---- the JDK's declarations
+
+
+def write_list(folder, name, paths):
+    listed = os.path.join(folder, name)
+    with open(listed, "w", encoding="utf-8") as file:
+        file.writelines(f"{path}\n" for path in paths)
+    return listed
+
+
+def java(words):
+    return ["java", "-Xmx3g", "-cp", words[0], "NameBench", *words[1:]]
+
+
+def whole_files(listed):
+    whole = subprocess.run([PROGRAM, "files", "whole", listed], stdout=subprocess.PIPE, encoding="utf-8", check=True)
+    return whole.stdout.splitlines()
+
+
+def files_of_jdk(folder, sources):
+    """The stripped files of the module that have units, in a folder of all and in one of the package alone, each with a list."""
+    with zipfile.ZipFile(sources) as archive:
+        names = sorted(name for name in archive.namelist() if name.startswith(MODULE) and name.endswith(".java")
+                       and not name.endswith(("/package-info.java", "/module-info.java")))
+        archive.extractall(folder, names)
+    module, package = os.path.join(folder, MODULE), os.path.join(folder, "package")
+    every = [os.path.join(folder, name) for name in names]
+    listed = write_list(folder, "every", every)
+    subprocess.run(java([folder, "strip", module, listed]), check=True)
+    paths = whole_files(listed)
+    for path in set(every) - set(paths):
+        os.remove(path)
+    of_package = []
+    for path in paths:
+        below = os.path.relpath(path, module)
+        if os.path.dirname(below) + "/" == PACKAGE:
+            os.makedirs(os.path.join(package, PACKAGE), exist_ok=True)
+            of_package.append(shutil.copy(path, os.path.join(package, below)))
+    print(f"{len(paths)} files of {MODULE[:-1]}, {len(of_package)} of them of java.util; {len(names) - len(paths)} have no units")
+    return module, write_list(folder, "files", paths), package, write_list(folder, "package-files", of_package)
+
+
+def called(package):
+    return "all packages" if package == "-" else package
+
+
+def start_jdk(folder, below, listed):
+    return subprocess.Popen(java([folder, "rounds", below, listed]), stdin=subprocess.PIPE, stdout=subprocess.PIPE, encoding="ascii")
+
+
+def round_of_jdk(jdk):
+    """The processor time of one round in seconds, the number of fields and that of errors."""
+    jdk.stdin.write("round\n")
+    jdk.stdin.flush()
+    line = jdk.stdout.readline()
+    if not line:
+        sys.exit(f"the JDK ended with {jdk.wait()}")
+    seconds, fields, errors = line.split()
+    return float(seconds), int(fields), int(errors)
+
+
+def measure_package(folder, of_jdk, package, listed, more, warm):
+    """Of javac over some files, and of the program over the declarations of a package in a table of all of them."""
+    jdk = start_jdk(folder, *of_jdk)
+    try:
+        for _ in range(warm):
+            round_of_jdk(jdk)
+        taken = {"fields": [], "supertypes": [], "javac": []}
+        counts = {}
+        for _ in range(TURNS):
+            for step in ("fields", "supertypes"):
+                seconds, _, counts[step] = seconds_of_round([step, package, listed], more)
+                taken[step].append(seconds)
+            seconds, counts["javac"], errors = round_of_jdk(jdk)
+            taken["javac"].append(seconds)
+    finally:
+        jdk.stdin.close()
+        jdk.wait()
+    if counts["javac"] != counts["fields"]:
+        print(f"javac has {counts['javac']} fields there")
+    median = {step: statistics.median(all_taken) for step, all_taken in taken.items()}
+    both = median["fields"] + median["supertypes"]
+    print(f"{called(package)}: {counts['fields']} types of fields in {median['fields'] * 1e3:.1f} ms, the supertypes of "
+          f"{counts['supertypes']} types in {median['supertypes'] * 1e3:.1f} ms; javac {median['javac'] * 1e3:.1f} ms, {errors} errors")
+    print(f"  the fields take {median['fields'] / median['javac']:.2f} times javac's time, with the supertypes {both / median['javac']:.2f} times")
+
+
+def found_by_name(words):
+    """What is found of each field and each type, by its name."""
+    done = subprocess.run(words, stdout=subprocess.PIPE, encoding="utf-8", check=True)
+    lines = (line.split(" ", 2) for line in done.stdout.splitlines())
+    return {(around, name): found for around, name, found in lines}
+
+
+def compare(folder, of_jdk, package, listed):
+    """Prints what is different for the program and for javac."""
+    ours = found_by_name([PROGRAM, "names", "said", package, listed])
+    theirs = found_by_name(java([folder, "said", *of_jdk]))
+    both = ours.keys() & theirs.keys()
+    differences = sorted(name for name in both if ours[name] != theirs[name])
+    print(f"{called(package)}: {len(both)} types of fields and headers of types are found by both, {len(differences)} of them are different; "
+          f"{len(ours) - len(both)} are found by the program alone and {len(theirs) - len(both)} by javac alone")
+    for name in differences[:TOLD]:
+        print(f"  {' '.join(name)}: {ours[name]}; javac {theirs[name]}")
+
+
+def measure_jdk(sources):
+    with tempfile.TemporaryDirectory(prefix="apt-bench-names-") as folder:
+        subprocess.run(["javac", "-d", folder, os.path.join(HERE, "NameBench.java")], check=True)
+        module, listed, package, of_package = files_of_jdk(folder, sources)
+        compare(folder, (package, of_package), "java.util", listed)
+        compare(folder, (module, listed), "-", listed)
+        measure_package(folder, (package, of_package), "java.util", listed, MORE_OF_PACKAGE, WARM)
+        measure_package(folder, (module, listed), "-", listed, MORE_OF_ALL, WARM_OF_ALL)
+
+
+def main():
+    global PROGRAM
+    if len(sys.argv) < 2:
+        sys.exit(__doc__)
+    PROGRAM = os.path.abspath(sys.argv[2]) if len(sys.argv) > 2 else measured.program()
+    print(f"load {os.getloadavg()[0]:.1f}")
+    measure_tables()
+    if shutil.which("javac") is None or shutil.which("java") is None:
+        print("there is no JDK")
+    else:
+        measure_jdk(sys.argv[1])
+
+
+if __name__ == "__main__":
+    main()
