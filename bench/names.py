@@ -26,12 +26,13 @@ it enters, and the program does not. What javac does for its last round, all of 
 warm: rounds before the measured ones are not counted, and only the processor time of the thread that compiles is.
 
 What both find is compared line by line, for java.util and for all of the packages: the type of each field and the
-supertypes of each type, with type arguments and without what encloses a member type. How many are different is printed,
-and the first of them.
+supertypes of each type, with type arguments and without what encloses a member type. How many have an error type for
+the program, and how many others are different, is printed, and the first of these.
 
 Nothing but the ratios means anything on another machine, and no test depends on them.
 """
 import os
+import re
 import shutil
 import statistics
 import subprocess
@@ -49,7 +50,7 @@ SMALL, LARGE, TURNS, FEW, GOAL = 5_000, 50_000, 5, 1, 1.6
 
 # How many rounds more the longer run has: at LARGE, at SMALL ten times as many, and over the files of one package or of
 # all. What a run does once takes seconds, and the rounds are to take as long.
-MORE, MORE_OF_PACKAGE, MORE_OF_ALL = 5, 100, 10
+MORE, MORE_OF_PACKAGE, MORE_OF_ALL = 5, 200, 20
 
 # How many rounds only warm the JDK up, over the files of one package and of all.
 WARM, WARM_OF_ALL = 20, 4
@@ -185,15 +186,20 @@ def found_by_name(words):
     return {(around, name): found for around, name, found in lines}
 
 
+def has_error(found):
+    return "error" in re.findall(r"[^ <>,\[\]]+", found)
+
+
 def compare(folder, of_jdk, package, listed):
     """Prints what is different for the program and for javac."""
     ours = found_by_name([PROGRAM, "names", "said", package, listed])
     theirs = found_by_name(java([folder, "said", *of_jdk]))
     both = ours.keys() & theirs.keys()
-    differences = sorted(name for name in both if ours[name] != theirs[name])
-    print(f"{called(package)}: {len(both)} types of fields and headers of types are found by both, {len(differences)} of them are different; "
-          f"{len(ours) - len(both)} are found by the program alone and {len(theirs) - len(both)} by javac alone")
-    for name in differences[:TOLD]:
+    errors = sum(has_error(ours[name]) for name in both)
+    others = sorted(name for name in both if ours[name] != theirs[name] and not has_error(ours[name]))
+    print(f"{called(package)}: {len(both)} types of fields and headers of types are found by both, {len(ours) - len(both)} by the program alone and "
+          f"{len(theirs) - len(both)} by javac alone; for the program {errors} have an error type, and {len(others)} others are different")
+    for name in others[:TOLD]:
         print(f"  {' '.join(name)}: {ours[name]}; javac {theirs[name]}")
 
 
