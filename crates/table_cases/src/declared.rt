@@ -1,155 +1,179 @@
 // Units that are declared by pieces: each piece is a type as far as its members, or a member, and a type has the members that follow.
-use crate::unit::{read, text};
-use case_lines::{CaseFault, items, name};
-use decl_syntax::{FieldWriter, Unit};
+use crate::unit::read;
+use case_lines::{CaseFault, Fields, items, name};
+use decl_syntax::Unit;
 use std::alloc::Global;
 
 // No annotations and no doc comment.
-fn plain(writer: &mut FieldWriter) -> Result<(), CaseFault> {
-    writer.u32(0)?;
-    Ok(writer.u8(0)?)
+fn plain(fields: &mut Fields) {
+    fields.u32(0);
+    fields.u8(0)
 }
 
 // The type `int`.
-fn int(writer: &mut FieldWriter) -> Result<(), CaseFault> {
-    writer.u8(0)?;
-    Ok(writer.u8(3)?)
+fn int(fields: &mut Fields) {
+    fields.u8(0);
+    fields.u8(3)
 }
 
 // That many type parameters `T`.
-fn type_parameters(writer: &mut FieldWriter, count: &str) -> Result<(), CaseFault> {
-    let count = count.parse::<u32>()?;
-    writer.u32(count)?;
-    for _ in 0..count {
-        text(writer, "T")?;
-        writer.u32(0)?;
-        writer.u32(0)?;
+fn type_parameters(fields: &mut Fields, count: &str) {
+    for _ in 0..fields.u32_of(count) {
+        fields.text("T");
+        fields.u32(0);
+        fields.u32(0);
     }
-    Ok(())
 }
 
 // That many parameters `final int x`, the last one of which takes one argument.
-fn parameters(writer: &mut FieldWriter, count: &str) -> Result<(), CaseFault> {
-    let count = count.parse::<u32>()?;
-    writer.u32(count)?;
-    for _ in 0..count {
-        text(writer, "x")?;
-        writer.u16(64)?;
-        writer.u32(0)?;
-        int(writer)?;
+fn parameters(fields: &mut Fields, count: &str) {
+    for _ in 0..fields.u32_of(count) {
+        fields.text("x");
+        fields.u16(64);
+        fields.u32(0);
+        int(fields);
     }
-    Ok(writer.bool(false)?)
+    fields.u8(0)
 }
 
 // A type as far as its members: its name, its modifiers, and the numbers of its type parameters and members.
-fn type_head(writer: &mut FieldWriter, words: &[&str; 4]) -> Result<(), CaseFault> {
-    text(writer, words[0])?;
-    writer.u16(words[1].parse::<u16>()?)?;
-    plain(writer)?;
-    type_parameters(writer, words[2])?;
-    writer.u8(0)?;
-    writer.u32(0)?;
-    Ok(writer.u32(words[3].parse::<u32>()?)?)
+fn type_head(fields: &mut Fields, words: &[&str; 4]) {
+    fields.text(words[0]);
+    fields.u16_of(words[1]);
+    plain(fields);
+    type_parameters(fields, words[2]);
+    fields.u8(0);
+    fields.u32(0);
+    let _members = fields.u32_of(words[3]);
 }
 
-fn field(writer: &mut FieldWriter, name: &str, modifiers: &str) -> Result<(), CaseFault> {
-    writer.u8(0)?;
-    text(writer, name)?;
-    writer.u16(modifiers.parse::<u16>()?)?;
-    plain(writer)?;
-    int(writer)?;
-    Ok(writer.u8(0)?)
+fn field(fields: &mut Fields, name: &str, modifiers: &str) {
+    fields.u8(0);
+    fields.text(name);
+    fields.u16_of(modifiers);
+    plain(fields);
+    int(fields);
+    fields.u8(0)
 }
 
 // Its name, its modifiers, and the numbers of its type parameters and parameters.
-fn method(writer: &mut FieldWriter, words: &[&str; 4]) -> Result<(), CaseFault> {
-    writer.u8(1)?;
-    text(writer, words[0])?;
-    writer.u16(words[1].parse::<u16>()?)?;
-    plain(writer)?;
-    type_parameters(writer, words[2])?;
-    int(writer)?;
-    parameters(writer, words[3])?;
-    writer.u32(0)?;
-    Ok(writer.u8(0)?)
+fn method(fields: &mut Fields, words: &[&str; 4]) {
+    fields.u8(1);
+    fields.text(words[0]);
+    fields.u16_of(words[1]);
+    plain(fields);
+    type_parameters(fields, words[2]);
+    int(fields);
+    parameters(fields, words[3]);
+    fields.u32(0);
+    fields.u8(0)
 }
 
 // Its modifiers, and the numbers of its type parameters and parameters.
-fn constructor(writer: &mut FieldWriter, words: &[&str; 3]) -> Result<(), CaseFault> {
-    writer.u8(2)?;
-    writer.u16(words[0].parse::<u16>()?)?;
-    plain(writer)?;
-    type_parameters(writer, words[1])?;
-    parameters(writer, words[2])?;
-    Ok(writer.u32(0)?)
+fn constructor(fields: &mut Fields, words: &[&str; 3]) {
+    fields.u8(2);
+    fields.u16_of(words[0]);
+    plain(fields);
+    type_parameters(fields, words[1]);
+    parameters(fields, words[2]);
+    fields.u32(0)
 }
 
-fn constant(writer: &mut FieldWriter, name: &str, body: bool) -> Result<(), CaseFault> {
-    writer.u8(3)?;
-    text(writer, name)?;
-    plain(writer)?;
-    Ok(writer.bool(body)?)
+fn constant(fields: &mut Fields, name: &str, body: u8) {
+    fields.u8(3);
+    fields.text(name);
+    plain(fields);
+    fields.u8(body)
 }
 
-fn kind(word: &str) -> Result<u8, CaseFault> {
+fn kind(fields: &mut Fields, word: &str) {
     match word {
-        "enum" => Ok(1),
-        "class" => Ok(2),
-        "annotation" => Ok(3),
-        "interface" => Ok(4),
-        _ => Err(CaseFault::NotACase),
+        "enum" => fields.u8(1),
+        "class" => fields.u8(2),
+        "annotation" => fields.u8(3),
+        "interface" => fields.u8(4),
+        _ => fields.not_a_case(),
     }
 }
 
-fn member(writer: &mut FieldWriter, words: &[&str]) -> Result<(), CaseFault> {
+fn member(fields: &mut Fields, words: &[&str]) {
     match words {
-        ["field", name, modifiers] => field(writer, name, modifiers),
+        ["field", name, modifiers] => field(fields, name, modifiers),
         ["method", name, modifiers, types, values] => {
-            method(writer, &[*name, *modifiers, *types, *values])
+            method(fields, &[*name, *modifiers, *types, *values])
         }
         ["constructor", modifiers, types, values] => {
-            constructor(writer, &[*modifiers, *types, *values])
+            constructor(fields, &[*modifiers, *types, *values])
         }
-        ["constant", name] => constant(writer, name, false),
-        ["constant", name, "body"] => constant(writer, name, true),
+        ["constant", name] => constant(fields, name, 0),
+        ["constant", name, "body"] => constant(fields, name, 1),
+        _ => nested(fields, words),
+    }
+}
+
+fn nested(fields: &mut Fields, words: &[&str]) {
+    match words {
         [word, name, modifiers, types, members] => {
-            writer.u8(4)?;
-            writer.u8(kind(word)?)?;
-            type_head(writer, &[*name, *modifiers, *types, *members])
+            fields.u8(4);
+            kind(fields, word);
+            type_head(fields, &[*name, *modifiers, *types, *members])
         }
-        _ => Err(CaseFault::NotACase),
+        _ => fields.not_a_case(),
     }
 }
 
 // The top-level type of a package, as far as its members.
-fn top(writer: &mut FieldWriter, package: &str, words: &[&str]) -> Result<(), CaseFault> {
+fn top(fields: &mut Fields, package: &str, words: &[&str]) {
     match words {
         [word, name, modifiers, types, members] => {
-            text(writer, package)?;
-            writer.u32(0)?;
-            writer.u32(1)?;
-            text(writer, name)?;
-            writer.u8(0)?;
-            writer.u8(kind(word)?)?;
-            type_head(writer, &[*name, *modifiers, *types, *members])
+            fields.text(package);
+            fields.u32(0);
+            fields.u32(1);
+            fields.text(name);
+            fields.u8(0);
+            kind(fields, word);
+            type_head(fields, &[*name, *modifiers, *types, *members])
         }
-        _ => Err(CaseFault::NotACase),
+        _ => fields.not_a_case(),
     }
 }
 
-/// The unit of a package that the pieces declare: the parts of a piece are joined by `:`.
-pub fn unit(alloc: Global, package: &str, pieces: &str) -> Result<Unit, CaseFault> {
-    let mut writer = FieldWriter::new(alloc);
-    let package = name(alloc, package)?;
+// A piece, whose parts are joined by `:`.
+fn piece(
+    alloc: Global,
+    fields: &mut Fields,
+    package: &str,
+    piece: &str,
+    is_first: bool,
+) -> Result<(), CaseFault> {
+    let words: Vec<&str> = piece.split(':').collect(alloc)?;
+    if is_first {
+        top(fields, package, &words)
+    } else {
+        member(fields, &words)
+    }
+    Ok(())
+}
+
+fn all_pieces(
+    alloc: Global,
+    fields: &mut Fields,
+    package: &str,
+    pieces: &[&str],
+) -> Result<(), CaseFault> {
     let mut is_first = true;
-    for piece in &items(alloc, pieces)? {
-        let words: Vec<&str> = piece.split(':').collect(alloc)?;
-        if is_first {
-            top(&mut writer, package.as_str(), &words)?;
-        } else {
-            member(&mut writer, &words)?;
-        }
+    for each in pieces {
+        piece(alloc, fields, package, each, is_first)?;
         is_first = false;
     }
-    read(alloc, writer)
+    Ok(())
+}
+
+/// The unit of a package that the pieces declare.
+pub fn unit(alloc: Global, package: &str, pieces: &str) -> Result<Unit, CaseFault> {
+    let mut fields = Fields::new(alloc);
+    let package = name(alloc, package)?;
+    let pieces = items(alloc, pieces)?;
+    all_pieces(alloc, &mut fields, package.as_str(), &pieces)?;
+    read(alloc, fields)
 }

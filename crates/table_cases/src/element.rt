@@ -1,31 +1,15 @@
 // Elements in words.
-use case_lines::{CaseFault, escaped, items, joined, name, numbers};
-use decl_syntax::{ElementRef, List, Member};
+use case_lines::{CaseFault, Pieces, element_at, given, one_word};
+use decl_syntax::{ElementRef, Member, Name};
 use element_table::{Element, Table};
 use std::alloc::Global;
 
-// The element of a unit's name and a path.
-fn reference(alloc: Global, unit: &str, path: &str) -> Result<ElementRef, CaseFault> {
-    let mut steps = List::new(alloc);
-    for step in &numbers(alloc, &items(alloc, path)?)? {
-        match u16::try_from(*step) {
-            Ok(step) => steps.push(step)?,
-            Err(_) => return Err(CaseFault::NotACase),
-        }
-    }
-    Ok(ElementRef {
-        unit: name(alloc, unit)?,
-        path: steps,
-    })
-}
-
-fn one_word(alloc: Global, word: &str) -> Result<String, CaseFault> {
-    Ok(String::from_str(alloc, word)?)
-}
-
 fn named(alloc: Global, kind: &str, name: &str) -> Result<String, CaseFault> {
-    let name = escaped(alloc, name.as_bytes())?;
-    Ok(format!(in alloc; "{kind}:{name}")?)
+    let mut pieces = Pieces::new(alloc);
+    pieces.add(kind);
+    pieces.add(":");
+    pieces.escaped(name.as_bytes());
+    pieces.into_string()
 }
 
 // The name of a member; a constructor has none.
@@ -66,6 +50,13 @@ fn element(alloc: Global, element: Element<'_>) -> Result<String, CaseFault> {
     }
 }
 
+fn element_word(alloc: Global, found: Option<Element<'_>>) -> Result<String, CaseFault> {
+    match found {
+        Some(found) => element(alloc, found),
+        None => one_word(alloc, "none"),
+    }
+}
+
 fn number(alloc: Global, number: Option<u16>) -> Result<String, CaseFault> {
     match number {
         Some(number) => Ok(format!(in alloc; "{number}")?),
@@ -73,26 +64,26 @@ fn number(alloc: Global, number: Option<u16>) -> Result<String, CaseFault> {
     }
 }
 
-fn enclosing(alloc: Global, table: &Table, at: &ElementRef) -> Result<String, CaseFault> {
-    match table.enclosing(alloc, at)? {
-        None => one_word(alloc, "none"),
+fn enclosing_word(alloc: Global, around: &Option<ElementRef>) -> Result<String, CaseFault> {
+    let mut pieces = Pieces::new(alloc);
+    match around {
+        None => pieces.add("none"),
         Some(around) => {
-            let mut steps = Vec::new(alloc);
-            for step in around.path.as_slice() {
-                steps.push(format!(in alloc; "{step}")?)?;
-            }
-            let unit = escaped(alloc, around.unit.as_str().as_bytes())?;
-            let path = joined(alloc, &steps)?;
-            Ok(format!(in alloc; "{unit} {path}")?)
+            pieces.name(&around.unit);
+            pieces.add(" ");
+            pieces.items(around.path.as_slice())
         }
     }
+    pieces.into_string()
 }
 
-fn canonical(alloc: Global, table: &Table, at: &ElementRef) -> Result<String, CaseFault> {
-    match table.canonical(alloc, at)? {
-        None => one_word(alloc, "none"),
-        Some(name) => escaped(alloc, name.as_str().as_bytes()),
+fn canonical_word(alloc: Global, name: &Option<Name>) -> Result<String, CaseFault> {
+    let mut pieces = Pieces::new(alloc);
+    match name {
+        None => pieces.add("none"),
+        Some(name) => pieces.name(name),
     }
+    pieces.into_string()
 }
 
 /// What a call on an element gives.
@@ -103,16 +94,20 @@ pub fn look(
     unit: &str,
     path: &str,
 ) -> Result<String, CaseFault> {
-    let at = reference(alloc, unit, path)?;
+    given(
+        alloc,
+        element_at(alloc, unit, path),
+        |alloc, at: &ElementRef| look_at(alloc, table, call, at),
+    )
+}
+
+fn look_at(alloc: Global, table: &Table, call: &str, at: &ElementRef) -> Result<String, CaseFault> {
     match call {
-        "element" => match table.element(&at) {
-            Some(found) => element(alloc, found),
-            None => one_word(alloc, "none"),
-        },
-        "children" => number(alloc, table.children(&at)),
-        "modifiers" => number(alloc, table.modifiers(&at)),
-        "enclosing" => enclosing(alloc, table, &at),
-        "canonical" => canonical(alloc, table, &at),
+        "element" => element_word(alloc, table.element(at)),
+        "children" => number(alloc, table.children(at)),
+        "modifiers" => number(alloc, table.modifiers(at)),
+        "enclosing" => given(alloc, table.enclosing(alloc, at), enclosing_word),
+        "canonical" => given(alloc, table.canonical(alloc, at), canonical_word),
         _ => Err(CaseFault::NotACase),
     }
 }

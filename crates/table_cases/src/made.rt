@@ -1,5 +1,4 @@
 // Tables of many classes, and look-ups of each.
-use crate::unit::unit;
 use case_lines::CaseFault;
 use decl_syntax::Name;
 use element_table::{Part, Table};
@@ -19,7 +18,7 @@ pub fn enter(
 ) -> Result<String, CaseFault> {
     for number in 0..count {
         let name = class(alloc, number)?;
-        let words = crate::enter(alloc, table, part, unit(alloc, name.as_str())?)?;
+        let words = crate::enter_word(alloc, table, part, name.as_str())?;
         if words.as_str() != "done" {
             return Ok(words);
         }

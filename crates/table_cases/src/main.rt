@@ -33,7 +33,7 @@ mod element;
 mod made;
 mod unit;
 
-use case_lines::{Calls, CaseFault, escaped, joined, name, run};
+use case_lines::{Calls, CaseFault, Pieces, done_or, given, name, one_word, put, run};
 use decl_syntax::{Body, List, Name, Unit};
 use element_table::{EnterFault, Part, Table, unit_name};
 use std::alloc::Global;
@@ -48,63 +48,76 @@ struct Tables {
 impl Calls for Tables {
     fn call(&mut self, alloc: Global, words: &[&str]) -> Result<String, CaseFault> {
         match words {
-            ["empty"] => {
-                self.table = Table::new(alloc);
-                text_of(alloc, "done")
-            }
-            ["copied"] => {
-                self.table = self.table.copy(alloc)?;
-                text_of(alloc, "done")
-            }
+            ["empty"] => renew(alloc, &mut self.table),
+            ["copied"] => become_copy(alloc, &mut self.table),
             ["enter", part_word, word] => {
-                enter(
-                    alloc,
-                    &mut self.table,
-                    part(part_word)?,
-                    unit::unit(alloc, word)?,
-                )
+                enter_word(alloc, &mut self.table, part(part_word)?, word)
             }
             ["declare", part_word, package, pieces] => {
-                enter(
+                declare(
                     alloc,
                     &mut self.table,
                     part(part_word)?,
-                    declared::unit(alloc, package, pieces)?,
+                    [*package, *pieces],
                 )
             }
             ["made", part_word, word] => {
-                made::enter(
-                    alloc,
-                    &mut self.table,
-                    part(part_word)?,
-                    word.parse::<u32>()?,
-                )
+                let count = word.parse::<u32>()?;
+                made::enter(alloc, &mut self.table, part(part_word)?, count)
             }
             _ => look(alloc, &self.table, words),
         }
     }
 }
 
+fn renew(alloc: Global, table: &mut Table) -> Result<String, CaseFault> {
+    put(table, Table::new(alloc));
+    one_word(alloc, "done")
+}
+
+fn become_copy(alloc: Global, table: &mut Table) -> Result<String, CaseFault> {
+    let copy = table.copy(alloc)?;
+    put(table, copy);
+    one_word(alloc, "done")
+}
+
+/// Enters the unit of a word: `done`, or the refusal.
+fn enter_word(
+    alloc: Global,
+    table: &mut Table,
+    part: Part,
+    word: &str,
+) -> Result<String, CaseFault> {
+    enter(alloc, table, part, unit::unit(alloc, word)?)
+}
+
+// Enters the unit of a package that pieces declare.
+fn declare(
+    alloc: Global,
+    table: &mut Table,
+    part: Part,
+    words: [&str; 2],
+) -> Result<String, CaseFault> {
+    let [package, pieces] = words;
+    enter(alloc, table, part, declared::unit(alloc, package, pieces)?)
+}
+
 // The calls that leave the table as it is.
 fn look(alloc: Global, table: &Table, words: &[&str]) -> Result<String, CaseFault> {
     match words {
-        ["names", word] => names(alloc, &table.names(alloc, part(word)?)?),
-        ["types", word] => names(alloc, &table.package_types(alloc, &name(alloc, word)?)?),
-        ["typed", part_word, word] => typed(alloc, table, part(part_word)?, &name(alloc, word)?),
+        ["names", word] => part_names(alloc, table, part(word)?),
+        ["types", word] => type_names(alloc, table, word),
+        ["typed", part_word, word] => typed(alloc, table, part(part_word)?, word),
         ["count", word] => made::count(alloc, table, part(word)?),
         ["found", part_word, word] => {
             made::found(alloc, table, part(part_word)?, word.parse::<u32>()?)
         }
-        ["find", word] => find(alloc, table, &name(alloc, word)?),
-        ["part", word] => text_of(alloc, part_word(table.part(&name(alloc, word)?))),
-        ["name", word] => name_word(alloc, &unit::unit(alloc, word)?),
+        ["find", word] => find(alloc, table, word),
+        ["part", word] => part_of(alloc, table, word),
+        ["name", word] => given(alloc, unit::unit(alloc, word), name_word),
         [call, unit, path] => element::look(alloc, table, call, unit, path),
         _ => Err(CaseFault::NotACase),
     }
-}
-
-fn text_of(alloc: Global, word: &str) -> Result<String, CaseFault> {
-    Ok(String::from_str(alloc, word)?)
 }
 
 fn part(word: &str) -> Result<Part, CaseFault> {
@@ -123,13 +136,29 @@ fn part_word(part: Option<Part>) -> &'static str {
     }
 }
 
+fn part_of(alloc: Global, table: &Table, word: &str) -> Result<String, CaseFault> {
+    let name = name(alloc, word)?;
+    one_word(alloc, part_word(table.part(&name)))
+}
+
+fn add_name(pieces: &mut Pieces, alloc: Global, unit: &Unit) -> Result<(), CaseFault> {
+    let name = unit_name(alloc, unit)?;
+    pieces.name(&name);
+    Ok(())
+}
+
 fn name_word(alloc: Global, unit: &Unit) -> Result<String, CaseFault> {
-    escaped(alloc, unit_name(alloc, unit)?.as_str().as_bytes())
+    let mut pieces = Pieces::new(alloc);
+    add_name(&mut pieces, alloc, unit)?;
+    pieces.into_string()
 }
 
 fn refusal(alloc: Global, word: &str, unit: &Unit) -> Result<String, CaseFault> {
-    let name = name_word(alloc, unit)?;
-    Ok(format!(in alloc; "{word} {name}")?)
+    let mut pieces = Pieces::new(alloc);
+    pieces.add(word);
+    pieces.add(" ");
+    add_name(&mut pieces, alloc, unit)?;
+    pieces.into_string()
 }
 
 fn refused(alloc: Global, fault: &EnterFault) -> Result<String, CaseFault> {
@@ -140,49 +169,52 @@ fn refused(alloc: Global, fault: &EnterFault) -> Result<String, CaseFault> {
     }
 }
 
-// A function of its own, so that what drops a unit is proved once.
-fn let_go(_fault: EnterFault) {}
-
 /// Enters a unit: `done`, or the refusal.
 fn enter(alloc: Global, table: &mut Table, part: Part, unit: Unit) -> Result<String, CaseFault> {
-    match table.enter(part, unit) {
-        Ok(()) => text_of(alloc, "done"),
-        Err(fault) => {
-            let words = refused(alloc, &fault);
-            let_go(fault);
-            words
+    done_or(alloc, table.enter(part, unit), refused)
+}
+
+fn found(alloc: Global, unit: &Unit) -> Result<String, CaseFault> {
+    let mut pieces = Pieces::new(alloc);
+    add_name(&mut pieces, alloc, unit)?;
+    match &unit.text().body {
+        Body::Info(_, _) => {}
+        Body::Declared(class) => {
+            pieces.add("+");
+            pieces.number(class.members.len() as u64)
         }
+    }
+    pieces.into_string()
+}
+
+fn find(alloc: Global, table: &Table, word: &str) -> Result<String, CaseFault> {
+    let name = name(alloc, word)?;
+    match table.find(&name) {
+        None => one_word(alloc, "none"),
+        Some(unit) => found(alloc, unit),
     }
 }
 
-fn find(alloc: Global, table: &Table, name: &Name) -> Result<String, CaseFault> {
-    match table.find(name) {
-        None => text_of(alloc, "none"),
-        Some(unit) => {
-            let name = name_word(alloc, unit)?;
-            match &unit.text().body {
-                Body::Info(_, _) => Ok(name),
-                Body::Declared(class) => {
-                    let members = class.members.len();
-                    Ok(format!(in alloc; "{name}+{members}")?)
-                }
-            }
-        }
-    }
+fn names_word(alloc: Global, names: &List<Name>) -> Result<String, CaseFault> {
+    let mut pieces = Pieces::new(alloc);
+    pieces.items(names.as_slice());
+    pieces.into_string()
 }
 
-fn names(alloc: Global, names: &List<Name>) -> Result<String, CaseFault> {
-    let mut words = Vec::new(alloc);
-    for name in names.as_slice() {
-        words.push(escaped(alloc, name.as_str().as_bytes())?)?;
-    }
-    joined(alloc, &words)
+fn part_names(alloc: Global, table: &Table, part: Part) -> Result<String, CaseFault> {
+    given(alloc, table.names(alloc, part), names_word)
+}
+
+fn type_names(alloc: Global, table: &Table, package: &str) -> Result<String, CaseFault> {
+    let package = name(alloc, package)?;
+    given(alloc, table.package_types(alloc, &package), names_word)
 }
 
 // The name of a unit of this part that declares a type of this package.
-fn typed(alloc: Global, table: &Table, part: Part, package: &Name) -> Result<String, CaseFault> {
+fn typed(alloc: Global, table: &Table, part: Part, word: &str) -> Result<String, CaseFault> {
+    let package = name(alloc, word)?;
     match table.type_of_package(part, package.as_str()) {
-        None => text_of(alloc, "none"),
+        None => one_word(alloc, "none"),
         Some(unit) => name_word(alloc, unit),
     }
 }

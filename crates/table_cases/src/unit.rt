@@ -1,103 +1,106 @@
 // Units that are made of words: they are read from their shapes, since what is read is legal.
-use case_lines::{CaseFault, name};
-use decl_syntax::{FieldWriter, NoMemory, ShapeFault, Unit, parse_shape};
+use case_lines::{CaseFault, Fields, name};
+use decl_syntax::{ShapeFault, Unit, parse_shape};
 use std::alloc::Global;
 
 // A class without modifiers, annotations, a doc comment, type parameters and supertypes, as far as its members.
-fn class(writer: &mut FieldWriter, name: &str, members: u32) -> Result<(), CaseFault> {
-    writer.u8(2)?;
-    text(writer, name)?;
-    writer.u16(0)?;
-    writer.u32(0)?;
-    writer.u8(0)?;
-    writer.u32(0)?;
-    writer.u8(0)?;
-    writer.u32(0)?;
-    Ok(writer.u32(members)?)
-}
-
-/// A text of at most 65,535 bytes.
-pub fn text(writer: &mut FieldWriter, text: &str) -> Result<(), NoMemory> {
-    if text.len() > 65_535 {
-        return Err(NoMemory);
-    }
-    writer.text(text)
+fn class(fields: &mut Fields, name: &str, members: u32) {
+    fields.u8(2);
+    fields.text(name);
+    fields.u16(0);
+    fields.u32(0);
+    fields.u8(0);
+    fields.u32(0);
+    fields.u8(0);
+    fields.u32(0);
+    fields.u32(members)
 }
 
 // Classes that are nested in a class, which has that many members.
-fn side_by_side(writer: &mut FieldWriter, name: &str, count: u32) -> Result<(), CaseFault> {
-    class(writer, name, count)?;
+fn side_by_side(fields: &mut Fields, name: &str, count: u32) {
+    class(fields, name, count);
     for _ in 0..count {
-        writer.u8(4)?;
-        class(writer, "N", 0)?;
+        fields.u8(4);
+        class(fields, "N", 0);
     }
-    Ok(())
 }
 
 // Classes of which each is the one member of the one before.
-fn one_in_another(writer: &mut FieldWriter, name: &str, count: u32) -> Result<(), CaseFault> {
+fn one_in_another(fields: &mut Fields, name: &str, count: u32) {
     if count == 0 {
-        return class(writer, name, 0);
+        return class(fields, name, 0);
     }
-    class(writer, name, 1)?;
+    class(fields, name, 1);
     for _ in 1..count {
-        writer.u8(4)?;
-        class(writer, "N", 1)?;
+        fields.u8(4);
+        class(fields, "N", 1);
     }
-    writer.u8(4)?;
-    class(writer, "N", 0)
+    fields.u8(4);
+    class(fields, "N", 0)
 }
 
-fn info(writer: &mut FieldWriter, package: &str) -> Result<(), CaseFault> {
-    text(writer, package)?;
-    writer.u32(0)?;
-    writer.u32(0)?;
-    writer.u8(1)?;
-    writer.u32(0)?;
-    Ok(writer.u8(0)?)
+fn info(fields: &mut Fields, package: &str) {
+    fields.text(package);
+    fields.u32(0);
+    fields.u32(0);
+    fields.u8(1);
+    fields.u32(0);
+    fields.u8(0)
 }
 
 // What stands before the class.
-fn file(writer: &mut FieldWriter, package: &str, name: &str) -> Result<(), CaseFault> {
-    text(writer, package)?;
-    writer.u32(0)?;
-    writer.u32(1)?;
-    text(writer, name)?;
-    Ok(writer.u8(0)?)
+fn file(fields: &mut Fields, package: &str, name: &str) {
+    fields.text(package);
+    fields.u32(0);
+    fields.u32(1);
+    fields.text(name);
+    fields.u8(0)
 }
 
-fn write(writer: &mut FieldWriter, package: &str, declared: &str) -> Result<(), CaseFault> {
+fn write(fields: &mut Fields, package: &str, declared: &str) -> Result<(), CaseFault> {
     if declared == "package-info" {
-        return info(writer, package);
+        info(fields, package);
+        return Ok(());
     }
     if let Some((name, count)) = declared.split_once('+') {
-        file(writer, package, name)?;
-        return side_by_side(writer, name, count.parse::<u32>()?);
+        file(fields, package, name);
+        side_by_side(fields, name, count.parse::<u32>()?);
+        return Ok(());
     }
     if let Some((name, count)) = declared.split_once('^') {
-        file(writer, package, name)?;
-        return one_in_another(writer, name, count.parse::<u32>()?);
+        file(fields, package, name);
+        one_in_another(fields, name, count.parse::<u32>()?);
+        return Ok(());
     }
-    file(writer, package, declared)?;
-    class(writer, declared, 0)
+    file(fields, package, declared);
+    class(fields, declared, 0);
+    Ok(())
+}
+
+fn write_word(fields: &mut Fields, word: &str) -> Result<(), CaseFault> {
+    match word.rsplit_once('.') {
+        None => write(fields, "", word),
+        Some((package, declared)) => write(fields, package, declared),
+    }
 }
 
 /// The unit of a word.
 pub fn unit(alloc: Global, word: &str) -> Result<Unit, CaseFault> {
     let word = name(alloc, word)?;
-    let mut writer = FieldWriter::new(alloc);
-    match word.as_str().rsplit_once('.') {
-        None => write(&mut writer, "", word.as_str())?,
-        Some((package, declared)) => write(&mut writer, package, declared)?,
+    let mut fields = Fields::new(alloc);
+    write_word(&mut fields, word.as_str())?;
+    read(alloc, fields)
+}
+
+fn fault_of(fault: ShapeFault) -> CaseFault {
+    match fault {
+        ShapeFault::Bad => CaseFault::NotACase,
+        ShapeFault::Memory => CaseFault::Memory,
     }
-    read(alloc, writer)
 }
 
 /// The unit whose shape was written.
-pub fn read(alloc: Global, writer: FieldWriter) -> Result<Unit, CaseFault> {
-    match parse_shape(alloc, writer.into_bytes().as_slice()) {
-        Ok(unit) => Ok(unit),
-        Err(ShapeFault::Bad) => Err(CaseFault::NotACase),
-        Err(ShapeFault::Memory) => Err(CaseFault::Memory),
-    }
+pub fn read(alloc: Global, fields: Fields) -> Result<Unit, CaseFault> {
+    let bytes = fields.into_bytes()?;
+    parse_shape(alloc, bytes.as_slice()).map_err(fault_of)
 }
