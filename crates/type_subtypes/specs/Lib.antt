@@ -1,0 +1,4 @@
+pub mod Assignable
+pub mod Numbers
+pub mod Subsignature
+pub mod Subtypes
