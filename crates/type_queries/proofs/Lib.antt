@@ -1,4 +1,5 @@
 pub mod BoxQuestions
+pub mod JudgedQuestions
 pub mod ListedTexts
 pub mod NamedElements
 pub mod TypeQuestions

@@ -9,9 +9,12 @@ use Rattle.type_relations.specs.Boxed.{boxed, unboxed}
 use Rattle.type_relations.specs.Direct.{all_steps, direct}
 use Rattle.type_relations.specs.Elements.{is_there}
 use Rattle.type_relations.specs.Erasure.{erasure}
+use Rattle.type_subtypes.specs.Assignable.{assignable}
+use Rattle.type_subtypes.specs.Subsignature.{subsignature}
+use Rattle.type_subtypes.specs.Subtypes.{subtype, contained}
 use Rattle.type_queries.specs.Print.{text_of}
 use Rattle.type_queries.specs.TypeOf.{type_of}
-use Rattle.type_queries.specs.Verdicts.{Verdict, Given, value, judged, are_there}
+use Rattle.type_queries.specs.Verdicts.{Verdict, Given, value, truth, judged, are_there}
 
 -- mirrors of any kind
 unfoldable pub same_question : TypeTable → Mirror → Mirror → Verdict Bool
@@ -43,12 +46,39 @@ abbrev pub is_package : Layer Mirror → Bool
 is_package (Package name) = true
 is_package _ = false
 
+-- no executable and no package
+abbrev pub is_type : Mirror → Bool
+is_type m = not (is_executable (layer m)) && not (is_package (layer m))
+
 -- ---- supertypes and erasures, within 64 steps
 
--- no executable and no package
 unfoldable pub direct_question : TypeTable → Mirror → Verdict (List Mirror)
-direct_question table m = judged (are_there table m) (not (is_executable (layer m)) && not (is_package (layer m))) (value (direct table m))
+direct_question table m = judged (are_there table m) (is_type m) (value (direct table m))
 
 -- no package
 unfoldable pub erasure_question : TypeTable → Mirror → Verdict Mirror
 erasure_question table m = judged (are_there table m) (not (is_package (layer m))) (value (erasure table all_steps m))
+
+-- ---- two types, within 64 steps
+
+abbrev pub are_both_there : TypeTable → Mirror → Mirror → Bool
+are_both_there table a b = are_there table a && are_there table b
+
+abbrev pub are_types : Mirror → Mirror → Bool
+are_types a b = is_type a && is_type b
+
+abbrev pub are_executables : Mirror → Mirror → Bool
+are_executables a b = is_executable (layer a) && is_executable (layer b)
+
+unfoldable pub subtype_question : TypeTable → Mirror → Mirror → Verdict Bool
+subtype_question table a b = judged (are_both_there table a b) (are_types a b) (truth (subtype table all_steps a b))
+
+unfoldable pub contains_question : TypeTable → Mirror → Mirror → Verdict Bool
+contains_question table a b = judged (are_both_there table a b) (are_types a b) (truth (contained table all_steps a b))
+
+unfoldable pub assignable_question : TypeTable → Mirror → Mirror → Verdict Bool
+assignable_question table a b = judged (are_both_there table a b) (are_types a b) (truth (assignable table all_steps a b))
+
+-- two executables
+unfoldable pub subsignature_question : TypeTable → Mirror → Mirror → Verdict Bool
+subsignature_question table a b = judged (are_both_there table a b) (are_executables a b) (truth (subsignature table all_steps a b))

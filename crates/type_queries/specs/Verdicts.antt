@@ -10,6 +10,8 @@ use Rattle.type_mirror.specs.declared.mirror.DeclaredMirror.{DeclaredMirror}
 use Rattle.type_mirror.specs.declared.mirror.ExecutableMirror.{ExecutableMirror}
 use Rattle.type_mirror.specs.Parts.{plain}
 use Rattle.type_layers.specs.Layers.{Layer, Declared, Variable, Array, Extends, Super, Executable, by_layers}
+use Rattle.type_levels.specs.declared.answer.Answer.{Answer}
+use Rattle.type_levels.specs.declared.answer.Answer.TheVariants.{Yes, Open, No}
 use Rattle.type_relations.specs.Elements.{is_there}
 use Rattle.type_queries.specs.declared.fault.QueryFault.{QueryFault}
 use Rattle.type_queries.specs.declared.fault.QueryFault.TheVariants as fault
@@ -28,11 +30,24 @@ abbrev pub value : {A : Type 0} → Option A → Verdict A
 value None = TooDeep
 value (Some x) = Given x
 
+abbrev pub truth : Answer → Verdict Bool
+truth Yes = Given true
+truth Open = TooDeep
+truth No = Given false
+
 -- an element that isn't there is told first, then a wrong kind
 abbrev pub judged : {A : Type 0} → Bool → Bool → Verdict A → Verdict A
 judged false kinds answer = NoSuch
 judged true false answer = WrongKind
 judged true true answer = answer
+
+-- what stands against a question: nothing, where all is there and of the kind that is wanted
+abbrev pub Stops : Option QueryFault → Bool → Bool → Type 0
+Stops None there kinds = (there ≡ true) × (kinds ≡ true)
+Stops (Some fault.NoSuch) there kinds = there ≡ false
+Stops (Some fault.WrongKind) there kinds = (there ≡ true) × (kinds ≡ false)
+Stops (Some fault.TooDeep) there kinds = ⊥
+Stops (Some fault.Memory) there kinds = ⊥
 
 -- ---- elements that a mirror names, from left to right
 

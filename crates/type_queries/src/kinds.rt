@@ -30,3 +30,10 @@ pub(crate) fn is_package(of: &Mirror) -> bool
         [] => matches!(&of.base, BaseMirror::Package(_)),
     }
 }
+
+/// Whether it is neither of these. It takes no memory.
+pub(crate) fn is_type(of: &Mirror) -> bool
+    ensures { result ≡ questions.is_type of.now }
+{
+    !is_executable(of) && !is_package(of)
+}
