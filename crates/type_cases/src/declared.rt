@@ -42,6 +42,9 @@ fn class_word(fields: &mut Fields, word: &str) {
 fn type_word(fields: &mut Fields, word: &str) {
     match word {
         "[]" => fields.bytes(&[2]),
+        "?" => fields.bytes(&[3, 0, 0]),
+        "?extends" => fields.bytes(&[3, 1, 1]),
+        "?super" => fields.bytes(&[3, 2, 1]),
         "int" => fields.bytes(&[0, 3]),
         "void" => fields.bytes(&[0, 8]),
         _ => class_word(fields, word),

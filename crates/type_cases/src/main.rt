@@ -8,6 +8,11 @@
 //! | `source PACKAGE PIECE..` | `done`: the unit that the pieces declare is in the sources from now on |
 //! | `stub PACKAGE PIECE..` | the same in the stubs |
 //! | `same MIRROR MIRROR` | whether they are the same type |
+//! | `subtype MIRROR MIRROR` | whether the first one is a subtype of the second one |
+//! | `contains MIRROR MIRROR` | whether the first one contains the second one as a type argument |
+//! | `assignable MIRROR MIRROR` | whether the first one is assignable to the second one |
+//! | `subsignature MIRROR MIRROR` | whether the first one has a subsignature of the second one |
+//! | `exhausting MIRROR MIRROR` | whether the question on subtypes wants more memory than a search may take |
 //! | `print MIRROR` | the text of the type |
 //! | `type ELEMENT` | the type of the element |
 //! | `boxed MIRROR` | the box of the primitive type |
@@ -19,7 +24,7 @@
 //!
 //! The unnamed package is `-`. Pieces are a type as far as its members, then its members one by one, of which a type is again followed by its own. A type is `KIND:NAME:MEMBERS` with a kind `enum`, `class`, `annotation` or `interface` and the number of its members, `KIND:NAME:MEMBERS:PARAMETERS` or `KIND:NAME:MEMBERS:PARAMETERS:SUPERCLASS:INTERFACES`, where the superclass is `-` if there is none; other members are `field:NAME:TYPE`, `method:NAME:PARAMETERS:TYPES:RESULT:THROWN`, `constructor:PARAMETERS:TYPES:THROWN` and `constant:NAME`. Type parameters, interfaces, the types of parameters and what is thrown are joined by `+`, or `-` for none. A type parameter is `NAME` or `NAME=BOUND`, and further bounds are joined to the first one by `&`.
 //!
-//! A type in a piece is `int` or `void`, or words from the outside in, joined by `/`: `[]`, and for a class type `.N`, where N is the number of its names, and each name, as `NAME` or as `NAME<N` with the number of the types that follow as its arguments.
+//! A type in a piece is `int` or `void`, or words from the outside in, joined by `/`: `[]`, `?`, `?extends`, `?super`, and for a class type `.N`, where N is the number of its names, and each name, as `NAME` or as `NAME<N` with the number of the types that follow as its arguments.
 //!
 //! A mirror in a call is words from the outside in, joined by `/`: `[]`, `?extends` and `?super` in front of the next mirror; a primitive type, `?`, `nothing`, `void`, `null`, `error=TEXT`, `package=NAME` and `variable=ELEMENT`; `ELEMENT` for a class type without arguments, and `ELEMENT<N` where the next N mirrors are its arguments; `within=` in front of these where the next mirror is its enclosing type; and `executable=ELEMENTS<N<M`, with type parameters that `+` joins, or `-`, where the next N mirrors are its parameters, the one behind them is its result, and the next M are what it throws.
 //!
@@ -40,7 +45,8 @@ use std::alloc::Global;
 use std::process::ExitCode;
 use type_mirror::Mirror;
 use type_queries::{
-    QueryFault, boxed, direct_supertypes, erasure, is_same, print, type_of, unboxed,
+    QueryFault, boxed, contains, direct_supertypes, erasure, is_assignable, is_same,
+    is_subsignature, is_subtype, print, type_of, unboxed,
 };
 
 /// The questions over one table.
@@ -67,11 +73,15 @@ impl Calls for Types {
 // The calls that leave the table as it is.
 fn ask(alloc: Global, table: &Table, words: &[&str]) -> Result<String, CaseFault> {
     match words {
-        ["same", one, other] => same_word(alloc, table, one, other),
         ["type", at] => type_word(alloc, table, at),
         [call, of] => given(alloc, words::mirror(alloc, of), |alloc, of: &Mirror| {
             ask_of(alloc, table, call, of)
         }),
+        [call, one, other] => given(
+            alloc,
+            both(words::mirror(alloc, one), words::mirror(alloc, other)),
+            |alloc, both: &(Mirror, Mirror)| ask_both(alloc, table, call, &both.0, &both.1),
+        ),
         _ => Err(CaseFault::NotACase),
     }
 }
@@ -125,21 +135,35 @@ fn truth_word(alloc: Global, truth: &bool) -> Result<String, CaseFault> {
     one_word(alloc, yes_or_no(*truth))
 }
 
-fn same_of(alloc: Global, table: &Table, both: &(Mirror, Mirror)) -> Result<String, CaseFault> {
-    told(
-        alloc,
-        is_same(table, &both.0, &both.1),
-        truth_word,
-        fault_word,
-    )
+fn truth(alloc: Global, result: Result<bool, QueryFault>) -> Result<String, CaseFault> {
+    told(alloc, result, truth_word, fault_word)
 }
 
-fn same_word(alloc: Global, table: &Table, one: &str, other: &str) -> Result<String, CaseFault> {
-    given(
-        alloc,
-        both(words::mirror(alloc, one), words::mirror(alloc, other)),
-        |alloc, both: &(Mirror, Mirror)| same_of(alloc, table, both),
-    )
+// Whether there was no memory for the question.
+fn exhausting(alloc: Global, result: Result<bool, QueryFault>) -> Result<String, CaseFault> {
+    match result {
+        Err(QueryFault::Memory) => one_word(alloc, yes_or_no(true)),
+        _ => one_word(alloc, yes_or_no(false)),
+    }
+}
+
+// The calls on two mirrors.
+fn ask_both(
+    alloc: Global,
+    table: &Table,
+    call: &str,
+    one: &Mirror,
+    other: &Mirror,
+) -> Result<String, CaseFault> {
+    match call {
+        "same" => truth(alloc, is_same(table, one, other)),
+        "subtype" => truth(alloc, is_subtype(alloc, table, one, other)),
+        "contains" => truth(alloc, contains(alloc, table, one, other)),
+        "assignable" => truth(alloc, is_assignable(alloc, table, one, other)),
+        "subsignature" => truth(alloc, is_subsignature(alloc, table, one, other)),
+        "exhausting" => exhausting(alloc, is_subtype(alloc, table, one, other)),
+        _ => Err(CaseFault::NotACase),
+    }
 }
 
 fn type_at(alloc: Global, table: &Table, at: &ElementRef) -> Result<String, CaseFault> {
