@@ -13,7 +13,8 @@ use Rattle.type_levels.specs.declared.question.Pair.{Pair}
 use Rattle.type_numbers.specs.Numbers.{at, AreKnown}
 use Rattle.type_relations.specs.Direct.{direct}
 use Rattle.type_subtypes.specs.Assignable.{next_raw}
-use Rattle.type_subtypes.specs.Numbers.{AllMayStand, MayStand, TypesDecide, is_reached, numbered, sub_at, sup_at, with_raw_types, with_subtypes}
+use Rattle.type_steps.specs.Supertypes.{AllMayStand}
+use Rattle.type_subtypes.specs.Numbers.{MayStand, TypesDecide, is_reached, numbered, sub_at, sup_at, with_raw_types, with_subtypes}
 use Rattle.type_subtypes.specs.Subtypes.{decided, next_of, or_supertypes, yes_if}
 
 module _ (asks : Mirror → Mirror → steps.Next Mirror) (types : List Mirror) where

@@ -6,4 +6,3 @@ pub mod NumberedTypes
 pub mod RenamedVariables
 pub mod SameNumbers
 pub mod SignatureLaws
-pub mod TypesByNumbers

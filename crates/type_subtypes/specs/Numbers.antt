@@ -1,8 +1,7 @@
 -- Types by their numbers, as the two relations of a table and their search see them.
-use Rattle.std.specs.Prelude.{◌≡◌, ℕ, Bool, false, ◌&&◌, length, List, [], ◌∷◌, map, Option, unwrap_or}
+use Rattle.std.specs.Prelude.{◌≡◌, ℕ, Bool, false, ◌&&◌, length, List, [], ◌∷◌, map, Option}
 use Rattle.std.specs.List.{AllByRecursion}
 use Rattle.std.specs.Option.{option_map, option_to_list}
-use Rattle.apt_base.specs.declared.element.ElementRef.{ElementRef}
 use Rattle.element_table.specs.TypeTable.{TypeTable}
 use Rattle.type_mirror.specs.declared.mirror.Mirror.{Mirror}
 use Rattle.type_layers.specs.Same.{same}
@@ -16,7 +15,6 @@ use Rattle.type_levels.specs.declared.question.Question.{Question}
 use Rattle.type_numbers.specs.Nodes.{layer_of}
 use Rattle.type_numbers.specs.Numbers.{at, IsKnown, AreKnown, with_types}
 use Rattle.type_numbers.specs.declared.node.Node.{Node}
-use Rattle.type_relations.specs.Elements.{has_type_parameters}
 use Rattle.type_relations.specs.RawTypes.{is_raw}
 use Rattle.type_subtypes.specs.Assignable.{next_raw}
 use Rattle.type_subtypes.specs.Subtypes.{by_layers, decided, next_of, type_arguments}
@@ -82,13 +80,3 @@ argument_asked table types question = question_at (with_subtypes table types) qu
 -- the two are the same raw type
 abbrev pub is_reached : TypeTable → List Mirror → Pair → Bool
 is_reached table types pair = same (sub_at types pair) (sup_at types pair) && is_raw table (sub_at types pair)
-
--- numbers stand for types, and no numbers for types that are open
-pub record AllMayStand (t : List Mirror) (ns : Option (List ℕ)) (ms : Option (List Mirror)) : Type 0 where
-  pub known : AreKnown t (unwrap_or ns [])
-  pub types : option_map (map (at t)) ns ≡ ms
-
--- a class type of an element with the arguments of these numbers is raw
-abbrev pub is_raw_at : TypeTable → ElementRef → List ℕ → Bool
-is_raw_at table element [] = has_type_parameters table element
-is_raw_at table element (argument ∷ arguments) = false

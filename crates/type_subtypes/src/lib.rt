@@ -4,7 +4,7 @@
 //!
 //! The work of a question is that of the search: nearly linear in the different questions that it leads to, each of which takes the direct supertypes of a type once. `assignable` makes up to four searches, and `subsignature` looks up a bound for each step of an erasure.
 //!
-//! Not promised: that memory is there, which is also said to be wanted where the questions of a search would name more than 65,536 arguments and supertypes, as in legal Java they can, and where a type on the way has more than 16,777,216 layers, as headers give that double a type at each step: its direct supertypes are made of the type as a tree.
+//! Not promised: that memory is there, which is also said to be wanted where the questions of a search would name more than 65,536 arguments and supertypes, as in legal Java they can, and beyond the budgets of `type_numbers`. Direct supertypes are made by numbers (`type_steps`), so that headers which double a type at each step cost what they write.
 #![tactic(auto)]
 
 mod assigning;
@@ -12,7 +12,6 @@ mod raw;
 mod relation;
 mod searching;
 mod signatures;
-mod steps;
 
 pub use assigning::assignable;
 pub use relation::Subtypes;

@@ -3,7 +3,6 @@ ghost use Rattle.std.specs.Prelude.{◌≡◌};
 ghost use Rattle.type_subtypes.specs.Numbers.{BothKnown, is_reached, with_raw_types};
 
 use crate::relation::is_same;
-use crate::steps::{direct_of, is_raw};
 use apt_base::NoMemory;
 use element_table::Table;
 use std::alloc::Global;
@@ -11,6 +10,7 @@ use std::marker::Model;
 use type_levels::{Answer, Next, Pair, Relation};
 use type_mirror::Mirror;
 use type_numbers::Types;
+use type_steps::{direct_of, is_raw};
 
 /// Raw types that are reached over one table, which contracts see.
 #[derive(Drop)]

@@ -13,7 +13,6 @@ ghost use Rattle.type_subtypes.specs.Numbers.{AsksArguments, AsksEach, BothKnown
 ghost use Rattle.type_subtypes.specs.Subtypes as subtypes;
 ghost use Rattle.type_subtypes.specs.Subtypes.{argument_in, has_null, type_arguments};
 
-use crate::steps::direct_of;
 use apt_base::{ElementRef, NoMemory};
 use element_table::Table;
 use std::alloc::Global;
@@ -21,6 +20,7 @@ use std::marker::Model;
 use type_levels::{Answer, Argument, Next, Pair, Question, Relation, contains};
 use type_mirror::Mirror;
 use type_numbers::{Node, Types};
+use type_steps::direct_of;
 
 /// Subtypes over one table, as a relation of types by their numbers. Contracts see the table.
 #[derive(Drop)]
