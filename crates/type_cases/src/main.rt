@@ -135,13 +135,13 @@ fn truth_word(alloc: Global, truth: &bool) -> Result<String, CaseFault> {
     one_word(alloc, yes_or_no(*truth))
 }
 
-fn truth(alloc: Global, result: Result<bool, QueryFault>) -> Result<String, CaseFault> {
-    told(alloc, result, truth_word, fault_word)
+fn truth(alloc: Global, outcome: Result<bool, QueryFault>) -> Result<String, CaseFault> {
+    told(alloc, outcome, truth_word, fault_word)
 }
 
 // Whether there was no memory for the question.
-fn exhausting(alloc: Global, result: Result<bool, QueryFault>) -> Result<String, CaseFault> {
-    match result {
+fn exhausting(alloc: Global, outcome: Result<bool, QueryFault>) -> Result<String, CaseFault> {
+    match outcome {
         Err(QueryFault::Memory) => one_word(alloc, yes_or_no(true)),
         _ => one_word(alloc, yes_or_no(false)),
     }
