@@ -26,6 +26,10 @@ unfoldable pub reaches_erased : TypeTable → ℕ → Mirror → Option Mirror �
 reaches_erased table n a None = Open
 reaches_erased table n a (Some b) = reaches_raw table n a b
 
+-- the erasure of `b` is reached as a raw type
+abbrev pub reaches_as_raw : TypeTable → ℕ → Mirror → Mirror → Answer
+reaches_as_raw table n a b = reaches_erased table n a (erasure table n b)
+
 -- a subtype after a conversion, where there is one
 unfoldable pub converted : TypeTable → ℕ → Option Mirror → Mirror → Answer
 converted table n None b = No

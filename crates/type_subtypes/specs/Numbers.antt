@@ -1,5 +1,5 @@
 -- Types by their numbers, as the two relations of a table and their search see them.
-use Rattle.std.specs.Prelude.{◌≡◌, ℕ, Bool, false, ◌&&◌, length, List, [], ◌∷◌, map, Option}
+use Rattle.std.specs.Prelude.{◌≡◌, ℕ, Bool, ◌&&◌, length, List, map, Option}
 use Rattle.std.specs.List.{AllByRecursion}
 use Rattle.std.specs.Option.{option_map, option_to_list}
 use Rattle.element_table.specs.TypeTable.{TypeTable}
@@ -13,11 +13,11 @@ use Rattle.type_levels.specs.declared.question.Next.{Next}
 use Rattle.type_levels.specs.declared.question.Pair.{Pair}
 use Rattle.type_levels.specs.declared.question.Question.{Question}
 use Rattle.type_numbers.specs.Nodes.{layer_of}
-use Rattle.type_numbers.specs.Numbers.{at, IsKnown, AreKnown, with_types}
+use Rattle.type_numbers.specs.Numbers.{at, IsKnown, with_types}
 use Rattle.type_numbers.specs.declared.node.Node.{Node}
 use Rattle.type_relations.specs.RawTypes.{is_raw}
 use Rattle.type_subtypes.specs.Assignable.{next_raw}
-use Rattle.type_subtypes.specs.Subtypes.{by_layers, decided, next_of, type_arguments}
+use Rattle.type_subtypes.specs.Subtypes.{by_layers, decided, next_of, same_enclosing, type_arguments}
 
 -- the types of one call with a relation
 abbrev pub numbered : (Mirror → Mirror → steps.Next Mirror) → List Mirror → Numbered Mirror
@@ -76,6 +76,14 @@ TypesDecide table types pair next = MayStand (with_subtypes table types) next (d
 -- the question stands for what is asked of two arguments
 abbrev pub argument_asked : TypeTable → List Mirror → Question → steps.Question Mirror
 argument_asked table types question = question_at (with_subtypes table types) question
+
+-- it stands for what is asked where the first argument is to contain the second one
+abbrev pub AsksContained : TypeTable → List Mirror → ℕ → ℕ → Question → Type 0
+AsksContained table types one other question = argument_asked table types question ≡ containment.contains type_arguments (at types one) (at types other)
+
+-- two types have the same enclosing type, or none
+abbrev pub same_enclosing_at : List Mirror → Option ℕ → Option ℕ → Bool
+same_enclosing_at types one other = same_enclosing (option_map (at types) one) (option_map (at types) other)
 
 -- the two are the same raw type
 abbrev pub is_reached : TypeTable → List Mirror → Pair → Bool

@@ -53,6 +53,10 @@ of_executables table n (Executable ones as' outcome thrown) (Executable others b
     either (of_test (same_renamed ones as' others bs)) (same_erased table n as' bs)
 of_executables table n _ _ = No
 
+-- of a method or a constructor and of what has this type
+abbrev pub signature_beside : TypeTable → ℕ → ExecutableMirror → Mirror → Answer
+signature_beside table n one b = of_executables table n (executable_layer one) (layer b)
+
 -- of two methods or constructors by their types
 unfoldable pub of_signatures : TypeTable → ℕ → ExecutableMirror → ExecutableMirror → Answer
 of_signatures table n one other = of_executables table n (executable_layer one) (executable_layer other)

@@ -2,9 +2,8 @@
 ghost use Rattle.std.specs.Prelude.{◌≡◌, IfOk};
 ghost use Rattle.type_levels.specs.Steps.{all_steps};
 ghost use Rattle.type_relations.specs.Boxed.{boxed, unboxed};
-ghost use Rattle.type_relations.specs.Erasure.{erasure};
 ghost use Rattle.type_subtypes.specs.Assignable as assigning;
-ghost use Rattle.type_subtypes.specs.Assignable.{converted, reaches_erased, otherwise};
+ghost use Rattle.type_subtypes.specs.Assignable.{converted, reaches_as_raw, otherwise};
 
 use crate::searching::{reaches_raw, subtype};
 use apt_base::NoMemory;
@@ -46,7 +45,7 @@ fn when_unboxed(alloc: Global, table: &Table, a: &Mirror, b: &Mirror) -> Result<
 
 #[tactic(auto, using(crate::proofs::Conversions::converting))]
 fn when_raw(alloc: Global, table: &Table, a: &Mirror, b: &Mirror) -> Result<Answer, NoMemory>
-    ensures { IfOk result (λ r. r ≡ reaches_erased table.now all_steps a.now (erasure table.now all_steps b.now)) }
+    ensures { IfOk result (λ r. r ≡ reaches_as_raw table.now all_steps a.now b.now) }
 {
     match erasure_within(alloc, table, ALL_STEPS, b)? {
         None => Ok(Answer::Open),

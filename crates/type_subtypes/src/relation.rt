@@ -1,17 +1,15 @@
 // Subtypes by numbers: what a question about two types asks next.
 ghost use Rattle.std.specs.Prelude.{◌≡◌, IfOk, length};
-ghost use Rattle.std.specs.Option.{option_map, option_to_list};
+ghost use Rattle.std.specs.Option.{option_to_list};
 ghost use Rattle.type_mirror.specs.Substitution.{same_element};
 ghost use Rattle.type_layers.specs.Layers.{parts_of};
 ghost use Rattle.type_layers.specs.Same as sameness;
-ghost use Rattle.type_levels.specs.Containment.{contains};
 ghost use Rattle.type_levels.specs.Numbered.{IsKnownQuestion};
 ghost use Rattle.type_levels.specs.Shown.{argument_of};
 ghost use Rattle.type_numbers.specs.Nodes.{layer_of};
 ghost use Rattle.type_numbers.specs.Numbers.{at, IsKnown, AreKnown};
-ghost use Rattle.type_subtypes.specs.Numbers.{AsksArguments, AsksEach, BothKnown, NodesDecide, TypesDecide, argument_asked, with_subtypes};
-ghost use Rattle.type_subtypes.specs.Subtypes as subtypes;
-ghost use Rattle.type_subtypes.specs.Subtypes.{argument_in, has_null, type_arguments};
+ghost use Rattle.type_subtypes.specs.Numbers.{AsksArguments, AsksContained, AsksEach, BothKnown, NodesDecide, TypesDecide, same_enclosing_at, with_subtypes};
+ghost use Rattle.type_subtypes.specs.Subtypes.{argument_in, has_null};
 
 use apt_base::{ElementRef, NoMemory};
 use element_table::Table;
@@ -69,7 +67,7 @@ fn is_same_element(one: &ElementRef, other: &ElementRef) -> bool
 fn same_enclosing(types: &Types, one: &Option<usize>, other: &Option<usize>) -> bool
     requires one { AreKnown types.now (option_to_list one.now) }
     requires other { AreKnown types.now (option_to_list other.now) }
-    ensures { result ≡ subtypes.same_enclosing (option_map (at types.now) one.now) (option_map (at types.now) other.now) }
+    ensures { result ≡ same_enclosing_at types.now one.now other.now }
 {
     match one {
         None => other.is_none(),
@@ -108,7 +106,7 @@ impl<'a> Subtypes<'a> {
     /// Whether a type argument contains another one.
     pub fn contains(&self, types: &Types, one: usize, other: usize) -> Question
         requires { IsKnown types.now one × IsKnown types.now other }
-        ensures exact { argument_asked self.now types.now result ≡ contains type_arguments (at types.now one) (at types.now other) }
+        ensures exact { AsksContained self.now types.now one other result }
         ensures known { IsKnownQuestion (with_subtypes self.now types.now) result }
     {
         let outer = argument(types.node(one));

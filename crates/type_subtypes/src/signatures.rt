@@ -9,7 +9,7 @@ ghost use Rattle.type_relations.specs.Erasure.{erasure};
 ghost use Rattle.type_relations.specs.RawTypes as raw;
 ghost use Rattle.type_relations.specs.RawTypes.{added};
 ghost use Rattle.type_subtypes.specs.Subsignature as signatures;
-ghost use Rattle.type_subtypes.specs.Subsignature.{all_same, executable_in, is_erased, of_executables, of_signatures};
+ghost use Rattle.type_subtypes.specs.Subsignature.{all_same, executable_in, is_erased, of_signatures, signature_beside};
 
 use apt_base::{ElementRef, List, NoMemory};
 use element_table::Table;
@@ -218,7 +218,7 @@ fn beside(
     one: &ExecutableMirror,
     b: &Mirror,
 ) -> Result<Answer, NoMemory>
-    ensures { IfOk result (λ r. r ≡ of_executables table.now all_steps (executable_layer one.now) (layer b.now)) }
+    ensures { IfOk result (λ r. r ≡ signature_beside table.now all_steps one.now b.now) }
 {
     match executable_of(b) {
         None => Ok(Answer::No),
