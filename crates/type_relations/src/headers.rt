@@ -78,8 +78,9 @@ fn with_superclass(superclass: Mirror, interfaces: List<Mirror>) -> Result<List<
     put_first(superclass, interfaces)
 }
 
+/// The superclass of a type in the table, if it has one, and then its interfaces in order, as they are written or implied. `java.lang.Object` is none of an interface; what is no type has none.
 #[tactic(auto, unfolding(crate::specs::Named::header_types))]
-fn header_types(alloc: Global, table: &Table, at: &ElementRef) -> Result<List<Mirror>, NoMemory>
+pub fn header_types(alloc: Global, table: &Table, at: &ElementRef) -> Result<List<Mirror>, NoMemory>
     ensures { IfOk result (λ list. list ≡ header_types table.now at.now) }
 {
     if !is_type(table, at) {

@@ -20,11 +20,11 @@ mod supertypes;
 pub use bounds::written_types;
 pub use boxing::{box_of, boxed_kind, primitive_of};
 pub use erasing::erasure_within;
-pub use headers::declared_supertypes;
+pub use headers::{declared_supertypes, header_types};
 pub use named::named_type;
 pub use parts::{array_of, class_type, executable};
 pub use places::{
-    around_of, canonical_name, has_type_parameters, is_there, parameter_name, place_of, type_name,
-    type_parameters,
+    around_of, canonical_name, child, has_type_parameters, is_there, parameter_count,
+    parameter_name, place_of, type_name, type_parameters,
 };
 pub use supertypes::direct;

@@ -112,7 +112,8 @@ fn declared_parameters(place: Place<'_>) -> usize
     }
 }
 
-fn parameter_count(table: &Table, at: &ElementRef) -> u16
+/// How many type parameters a type, a method or a constructor declares; 0 for what is none of these.
+pub fn parameter_count(table: &Table, at: &ElementRef) -> u16
     ensures { result ≡ length (parameters_of (node_at table.now at.now)) }
 {
     match place_of(table, at) {
@@ -128,7 +129,8 @@ pub fn has_type_parameters(table: &Table, at: &ElementRef) -> bool
     parameter_count(table, at) != 0
 }
 
-fn child(alloc: Global, at: &ElementRef, number: u16) -> Result<ElementRef, NoMemory>
+/// The child of an element that has this number, whether something stands there or not.
+pub fn child(alloc: Global, at: &ElementRef, number: u16) -> Result<ElementRef, NoMemory>
     ensures { IfOk result (λ element. element ≡ elements.child at.now number) }
 {
     let unit = at.unit.copy()?;
