@@ -13,6 +13,7 @@ pub mod Lists
 pub mod SortsLemmas
 pub mod Scans
 pub mod Ascii
+pub mod Comments
 pub mod LongestFronts
 pub mod Places
 pub mod TokensGathered

@@ -81,7 +81,7 @@ scanned_more cs n state width c state' width' found found' scanned h is state_is
     by_cases (inr (high, e)) = subst (Known cs (n + 1)) (sym e) (known_none cs n found (let seven : class_at state' ≡ 7 = omega (arith, high, class_less state') in ap class_at (sym there) ∙ seven) scanned.found_is)
 
 -- nothing longer has a class where the state is stuck
-stuck_on : (cs : List ℕ) (n j : ℕ) → state_of (take (n + 1) cs) ≡ 4 → n + 1 ≤ j → class_of (take j cs) ≡ 7
+pub stuck_on : (cs : List ℕ) (n j : ℕ) → state_of (take (n + 1) cs) ≡ 4 → n + 1 ≤ j → class_of (take j cs) ≡ 7
 stuck_on cs n j stuck less =
     let front : take j cs ≡ take (n + 1) cs ++ drop (n + 1) (take j cs) = sym (take-append-drop (n + 1) (take j cs)) ∙ ap (λ x. x ++ drop (n + 1) (take j cs)) (take-take (n + 1) j cs less) in
     let at : state_of (take j cs) ≡ 4 =

@@ -1,6 +1,6 @@
 -- How the table is followed, and what a text is by it. These say what the functions of the crate compute; that this is
 -- what `Tokens` says is proved of `tokens`.
-use Rattle.std.specs.Prelude.{◌≡◌, ◌⊎◌, Bool, true, false, ℕ, zero, suc, ◌+◌, ◌*◌, ◌<◌, ◌≤◌, nat_lt, List, [], ◌∷◌, length, take, map, slice_index, bytes_eq, Option, None, Some, if◌then◌else◌}
+use Rattle.std.specs.Prelude.{◌≡◌, ◌≢◌, ◌⊎◌, Bool, true, false, ℕ, zero, suc, ◌+◌, ◌*◌, ◌<◌, ◌≤◌, nat_lt, List, [], ◌∷◌, length, take, map, slice_index, bytes_eq, Option, None, Some, if◌then◌else◌}
 use Rattle.std.specs.Str.{chars, encode_utf8_all}
 use Rattle.case_table.specs.Rows.{number_of}
 use Rattle.java_tokens.specs.declared.token.TokenKind.{TokenKind}
@@ -138,3 +138,13 @@ Clashes front bytes is = (bytes_eq (take (length front) bytes) front ≡ true) �
 -- it does not begin so, or is what it should be
 abbrev pub Passes : List ℕ → List ℕ → Bool → Type 0
 Passes front bytes is = (bytes_eq (take (length front) bytes) front ≡ false) ⊎ (is ≡ true)
+
+-- a text begins with `/` and this byte, which is `/` or `*`
+abbrev pub BeginsComment : ℕ → List ℕ → Type 0
+BeginsComment second text = (1 < length text) × (slice_index text 0 ≡ 47) × (slice_index text 1 ≡ second)
+
+-- this many of the bytes stand before the first CR or LF
+pub record IsLineLength (bytes : List ℕ) (n : ℕ) : Type 0 where
+  pub within : n ≤ length bytes
+  pub before : (k : ℕ) → k < n → (slice_index bytes k ≢ 13) × (slice_index bytes k ≢ 10)
+  pub ends : n < length bytes → (slice_index bytes n ≡ 13) ⊎ (slice_index bytes n ≡ 10)

@@ -1,7 +1,9 @@
 // The table by which tokens are read: from state to state, by the sorts of characters.
 ghost use Rattle.std.specs.Prelude.{◌≡◌, ◌<◌, MatchOption};
 ghost use Rattle.java_tokens.specs.Sorts as sorts;
-ghost use Rattle.java_tokens.specs.Table.{after, class_at, IsUnknownText, IsFoundFront};
+ghost use Rattle.java_tokens.specs.Table.{after, class_at, BeginsComment, IsLineLength, IsUnknownText, IsFoundFront};
+
+use memchr::{memchr2, memmem};
 
 /// How many sorts of characters there are.
 pub const SORTS: usize = 26;
@@ -192,6 +194,9 @@ pub const ASCII_SORTS: [u8; 128] = [
     24, 24, 24,
 ];
 
+/// The class of white space and comments.
+pub const SEPARATOR: u8 = 0;
+
 /// The class of no text.
 pub const NO_CLASS: u8 = 7;
 
@@ -204,8 +209,61 @@ pub struct Found {
     pub class: u8,
 }
 
-/// The longest front that is a separator, a word or a literal by the table.
+/// The longest front that is a separator, a word or a literal by the table. A comment is not followed character by
+/// character (JLS 3.7): where it ends is searched for.
 pub fn longest_front(text: &str) -> Option<Found>
+    ensures { MatchOption result (IsUnknownText text.now) (λ f. IsFoundFront text.now f.width f.class) }
+{
+    let bytes = text.as_bytes();
+    if bytes.len() > 1 && bytes[0] == b'/' {
+        if bytes[1] == b'/' {
+            return Some(line_comment(text));
+        }
+        if bytes[1] == b'*' {
+            return block_comment(text);
+        }
+    }
+    scanned_front(text)
+}
+
+// The comment at the front up to the end of its line.
+fn line_comment(text: &str) -> Found
+    requires { BeginsComment 47 text.now }
+    ensures { IsFoundFront text.now result.width result.class }
+{
+    Found {
+        width: line_length(&text.as_bytes()[2..]) + 2,
+        class: SEPARATOR,
+    }
+}
+
+// How many bytes stand before the first CR or LF.
+fn line_length(bytes: &[u8]) -> usize
+    ensures { IsLineLength bytes.now result }
+{
+    match memchr2(b'\r', b'\n', bytes) {
+        Some(end) => end,
+        None => bytes.len(),
+    }
+}
+
+// The comment at the front up to the first `*/` behind its `/*`.
+fn block_comment(text: &str) -> Option<Found>
+    requires { BeginsComment 42 text.now }
+    ensures { MatchOption result (IsUnknownText text.now) (λ f. IsFoundFront text.now f.width f.class) }
+{
+    let inside = &text.as_bytes()[2..];
+    match memmem::find(inside, b"*/") {
+        Some(length) => Some(Found {
+            width: length + 4,
+            class: SEPARATOR,
+        }),
+        None => None,
+    }
+}
+
+// The longest front, found character by character.
+fn scanned_front(text: &str) -> Option<Found>
     ensures { MatchOption result (IsUnknownText text.now) (λ f. IsFoundFront text.now f.width f.class) }
 {
     let mut state = 0;

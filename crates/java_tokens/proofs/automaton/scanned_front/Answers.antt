@@ -8,7 +8,7 @@ use Rattle.java_tokens.specs.declared.automaton.Found.{Found}
 use Rattle.java_tokens.specs.Sorts as sorts
 use Rattle.java_tokens.specs.Table.{after}
 use Rattle.java_tokens.proofs.Scans.{IsScanned, scanned_none, scanned_more, scanned_stuck, scanned_all, scanned_fits}
-use Rattle.java_tokens.proofs.automaton.longest_front.Goals as goal
+use Rattle.java_tokens.proofs.automaton.scanned_front.Goals as goal
 
 pub loop-c-init : goal.loop-c-init
 loop-c-init c = scanned_none (chars c.args.text.now)
