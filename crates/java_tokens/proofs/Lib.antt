@@ -16,5 +16,7 @@ pub mod Ascii
 pub mod Comments
 pub mod LongestFronts
 pub mod Places
+pub mod LinesInBytes
+pub mod Blanks
 pub mod TokensGathered
 pub mod Identifiers

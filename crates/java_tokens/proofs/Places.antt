@@ -1,6 +1,6 @@
 -- How places move past texts.
 use Rattle.std.proofs.Common.{◌≡◌, eqb, ℕ, zero, suc, ◌+◌, ◌<◌, ◌≤◌, Bool, true, false, cond, List, [], ◌∷◌, ◌++◌, length, take, get_or, refl, sym, ap, ◌∙◌, arith, length-append}
-use Rattle.std.proofs.lemmas.List.{take_more, length-take-le, take_all, get_or-map}
+use Rattle.std.proofs.lemmas.List.{get_or-map}
 use Rattle.std.proofs.lemmas.Str.{length-encode}
 use Rattle.std.specs.Char.{len_utf8}
 use Rattle.std.specs.Prelude.{encode_utf8}
@@ -19,9 +19,6 @@ pub returns-append : (r : Bool) (xs ys : List ℕ) → returns r (xs ++ ys) ≡ 
 returns-append r [] ys = refl
 returns-append r (x ∷ xs) ys = returns-append (eqb x 13) xs ys
 
-abbrev one_line : ℕ → Bool → ℕ
-one_line c r = cond (ends_line r c) 1 0
-
 one_or_none : (b : Bool) → cond b 1 0 ≤ 1
 one_or_none true = omega arith
 one_or_none false = omega arith
@@ -31,40 +28,8 @@ pub line_ends_few : (r : Bool) (xs : List ℕ) → line_ends r xs ≤ length xs
 line_ends_few r [] = omega arith
 line_ends_few r (x ∷ xs) = omega (arith, line_ends_few (eqb x 13) xs, one_or_none (ends_line r x))
 
--- this many characters were passed
-pub record IsPassed (cs : List ℕ) (n before before' line line' : ℕ) (r r' : Bool) : Type 0 where
-  pub within : n ≤ length cs
-  pub before_is : before' ≡ before + n
-  pub line_is : line' ≡ line + line_ends r (take n cs)
-  pub return_is : r' ≡ returns r (take n cs)
-
-pub passed_none : (cs : List ℕ) (before line : ℕ) (r : Bool) → IsPassed cs 0 before before line line r r
-passed_none cs before line r = record { within = omega arith; before_is = omega arith; line_is = omega arith; return_is = refl }
-
--- the line of the next character
-pub passed_line : (cs : List ℕ) (n before before' line line' c : ℕ) (r r' : Bool) → IsPassed cs n before before' line line' r r' → n < length cs → c ≡ get_or cs n c → line' + cond (ends_line r' c) 1 0 ≡ line + line_ends r (take (n + 1) cs)
-passed_line cs n before before' line line' c r r' passed h is =
-    let more : take (n + 1) cs ≡ take n cs ++ c ∷ [] = take_more cs n c h ∙ ap (λ x. take n cs ++ x ∷ []) (sym is) in
-    omega (arith, passed.line_is, ap (line_ends r) more, line_ends-append r (take n cs) (c ∷ []), ap (one_line c) passed.return_is)
-
-pub passed_few : (cs : List ℕ) (n before before' line line' c : ℕ) (r r' : Bool) → IsPassed cs n before before' line line' r r' → n < length cs → c ≡ get_or cs n c → line' + cond (ends_line r' c) 1 0 ≤ line + length cs
-passed_few cs n before before' line line' c r r' passed h is =
-    omega (arith, passed_line cs n before before' line line' c r r' passed h is, line_ends_few r (take (n + 1) cs), length-take-le (n + 1) cs (omega (arith, h)), h)
-
-pub passed_more : (cs : List ℕ) (n before before' line line' c : ℕ) (r r' : Bool) → IsPassed cs n before before' line line' r r' → n < length cs → c ≡ get_or cs n c → IsPassed cs (n + 1) before (before' + 1) line (line' + cond (ends_line r' c) 1 0) r (eqb c 13)
-passed_more cs n before before' line line' c r r' passed h is = record {
-  within = omega (arith, h);
-  before_is = omega (arith, passed.before_is);
-  line_is = passed_line cs n before before' line line' c r r' passed h is;
-  return_is =
-      let more : take (n + 1) cs ≡ take n cs ++ c ∷ [] = take_more cs n c h ∙ ap (λ x. take n cs ++ x ∷ []) (sym is) in
-      sym (ap (returns r) more ∙ returns-append r (take n cs) (c ∷ []));
-}
-
-pub passed_all : (cs : List ℕ) (n before before' line line' : ℕ) (r r' : Bool) → IsPassed cs n before before' line line' r r' → length cs ≤ n → (before' ≡ before + length cs) × (line' ≡ line + line_ends r cs) × (r' ≡ returns r cs)
-passed_all cs n before before' line line' r r' passed end =
-    let all : take n cs ≡ cs = take_all n cs end in
-    (omega (arith, passed.before_is, passed.within, end), passed.line_is ∙ ap (λ xs. line + line_ends r xs) all, passed.return_is ∙ ap (returns r) all)
+pub at_most_one : (n : ℕ) (b : Bool) → n ≡ cond b 1 0 → n ≤ 1
+at_most_one n b is = omega (arith, is, one_or_none b)
 
 -- a place in the text is how many bytes are before
 place_from : (from : ℕ) (cs : List ℕ) (n : ℕ) → n < length cs → get_or (places_from from cs) n 0 ≡ from + bytes_of cs n

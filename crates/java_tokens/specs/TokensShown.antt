@@ -1,5 +1,5 @@
 -- What characters and tokens that were read show.
-use Rattle.std.specs.Prelude.{◌≡◌, ℕ, List, map, Option, Some, option_map, if◌then◌else◌, string_bytes, Result, MatchResult, Vec}
+use Rattle.std.specs.Prelude.{◌≡◌, ℕ, ◌+◌, ◌≤◌, List, length, map, Option, Some, option_map, if◌then◌else◌, string_bytes, Result, MatchResult, Vec}
 use Rattle.std.specs.Borrow.{Bor}
 use Rattle.std.specs.Str.{chars}
 use Rattle.std.specs.declared.alloc.Global.{Global}
@@ -9,6 +9,7 @@ use Rattle.java_tokens.specs.declared.fault.TextFault.{TextFault}
 use Rattle.java_tokens.specs.declared.fault.TextFault.TheVariants.{Memory}
 use Rattle.java_tokens.specs.Characters.{Placed, AreChars, IsCharFault}
 use Rattle.java_tokens.specs.CharsShown.{offsets_of, placed_chars, FaultAt}
+use Rattle.java_tokens.specs.Table.{bytes_of}
 use Rattle.java_tokens.specs.Tokens.{Lexeme, is_doc, AreTokens, IsTokenFault}
 
 -- the characters that were read, and the offset of each
@@ -17,6 +18,10 @@ codes_in read = chars (string_bytes read.text)
 
 abbrev pub offsets_in : Chars → List ℕ
 offsets_in read = offsets_of (codes_in read) read.shifts.items
+
+-- a character is behind this many bytes, and this many are before it
+abbrev pub IsCharAt : Chars → ℕ → ℕ → Type 0
+IsCharAt read before width = (before + 1 ≤ length (codes_in read)) × (width ≡ bytes_of (codes_in read) before)
 
 -- the characters with their offsets
 abbrev pub placed_in : Chars → List Placed

@@ -1,5 +1,5 @@
 // The tokens of the characters of a file.
-ghost use Rattle.std.specs.Prelude.{ℕ, List, ◌≡◌, MatchBool};
+ghost use Rattle.std.specs.Prelude.{ℕ, List, [], ◌∷◌, ◌≡◌, take, bytes_eq, MatchBool};
 ghost use Rattle.std.specs.Str.{chars as codes_of};
 ghost use Rattle.java_tokens.specs.Tokens.{IsEnd, Lexeme, HasTokens};
 ghost use Rattle.java_tokens.specs.Tokens as spec;
@@ -25,20 +25,26 @@ pub fn tokens<'a>(alloc: Global, chars: &'a Chars) -> Result<Vec<Token<'a>>, Tex
     let mut tokens = Vec::new(alloc);
     let mut rest = chars.as_str();
     let mut place = Place {
-        before: 0,
         width: 0,
         line: 1,
         after_return: false,
     };
     let mut doc = None;
     'elements: while !is_end(rest) {
-        let start = offset_at(chars, place.before, place.width);
+        if begins_with_blank(rest) {
+            let (blank, after) = rest.split_at(1);
+            place = place_after(place, blank);
+            rest = after;
+            continue;
+        }
         let Some(front) = next_front(&words, &operators, rest) else {
+            let start = offset_at(chars, place.width);
             return Err(TextFault::Bad { place: start });
         };
         let (text, after) = rest.split_at(front.width);
         match front.kind {
             Some(kind) => {
+                let start = offset_at(chars, place.width);
                 tokens.push(Token {
                     kind,
                     start,
@@ -61,6 +67,16 @@ fn is_end(rest: &str) -> bool
     ensures { MatchBool result (IsEnd (codes_of rest.now)) (¬ IsEnd (codes_of rest.now)) }
 {
     rest.is_empty() || rest == "\u{1A}"
+}
+
+// A text begins with a blank, which separates by itself: no longer separator or token does.
+fn begins_with_blank(text: &str) -> bool
+    ensures { result ≡ bytes_eq (take 1 text.now) (32 ∷ []) }
+{
+    match text.as_bytes() {
+        [byte, ..] => *byte == b' ',
+        [] => false,
+    }
 }
 
 // The last doc comment behind a separator.

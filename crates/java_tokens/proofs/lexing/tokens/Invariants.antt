@@ -1,4 +1,4 @@
-use Rattle.std.proofs.Common.{length, string_bytes, option_map}
+use Rattle.std.proofs.Common.{ℕ, length, string_bytes, option_map}
 use denote.Text.{Utf8}
 use denote.Shadow.{shadow}
 use Rattle.std.specs.Str.{chars}
@@ -12,7 +12,8 @@ invariant-elements l =
     let all = chars (string_bytes l.chars.text) in
     record {
       utf8 : shadow (Utf8 l.rest);
-      lexing : IsLexing all (offsets_of all l.chars.shifts.items) l.rest l.place.before l.place.width l.place.line l.place.after_return (option_map (λ d. d.now) l.doc) (shown_tokens l.tokens.items);
+      before : ℕ;
+      lexing : IsLexing all (offsets_of all l.chars.shifts.items) l.rest before l.place.width l.place.line l.place.after_return (option_map (λ d. d.now) l.doc) (shown_tokens l.tokens.items);
     }
 
 abbrev pub decreases-elements : goal.decreases-elements

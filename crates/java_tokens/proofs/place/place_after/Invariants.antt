@@ -1,7 +1,12 @@
-use Rattle.std.proofs.Common.{length}
-use Rattle.std.specs.Str.{chars}
-use Rattle.java_tokens.proofs.Places.{IsPassed}
+use Rattle.std.proofs.Common.{◌≡◌, ◌+◌, length}
+use Rattle.java_tokens.specs.Tokens.{line_ends, returns}
 use Rattle.java_tokens.proofs.place.place_after.Given as goal
 
-abbrev pub invariant-loop-c : goal.invariant-loop-c
-invariant-loop-c l = IsPassed (chars l.text) (length l.yielded) l.place.before l.before l.place.line l.line l.place.after_return l.after_return
+abbrev pub invariant-bytes : goal.invariant-bytes
+invariant-bytes l = record {
+  line : l.line + line_ends l.after_return l.rest ≡ l.place.line + line_ends l.place.after_return l.text;
+  after_return : returns l.after_return l.rest ≡ returns l.place.after_return l.text;
+}
+
+abbrev pub decreases-bytes : goal.decreases-bytes
+decreases-bytes l = length l.rest
