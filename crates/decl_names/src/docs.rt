@@ -1,5 +1,6 @@
 // The texts of doc comments.
 ghost use Rattle.std.specs.Prelude.{◌≡◌, ◌++◌, [], ◌∷◌, if◌then◌else◌, false, List, IfOk, MatchResult, string_bytes};
+ghost use Rattle.std.specs.Option.{option_to_list};
 ghost use Rattle.std.specs.Str.{chars, encode_utf8_all};
 ghost use Rattle.decl_grammar.specs.declared.line_place.LinePlace.TheVariants as places;
 ghost use Rattle.decl_grammar.specs.declared.fault.ReadFault.TheVariants as faults;
@@ -17,34 +18,17 @@ fn is_blank_char(c: char) -> bool
     c == ' ' || c == '\t' || c == '\x0c'
 }
 
-// Puts what stands for a character where line ends are LF behind others.
-fn add_line_fed(all: &mut Vec<char>, after_return: bool, c: char) -> Result<(), NoMemory>
-    ensures { IfOk result (λ u. all.new.items ≡ all.old.items ++ line_fed after_return c) }
+// The character that stands for this one where line ends are LF, if one does.
+fn line_fed_char(after_return: bool, c: char) -> Option<char>
+    ensures { option_to_list result ≡ line_fed after_return c }
 {
     if c == '\r' {
-        all.push('\n')?;
-        return Ok(());
+        return Some('\n');
     }
     if after_return && c == '\n' {
-        return Ok(());
+        return None;
     }
-    all.push(c)?;
-    Ok(())
-}
-
-// The same text with a LF for each line end.
-fn line_fed_of(alloc: Global, text: &[char]) -> Result<Vec<char>, NoMemory>
-    ensures { IfOk result (λ v. v.items ≡ with_line_feeds false text.now) }
-{
-    let mut all = Vec::new(alloc);
-    let mut after_return = false;
-    let mut rest = text;
-    'row: while let [c, after @ ..] = rest {
-        add_line_fed(&mut all, after_return, *c)?;
-        after_return = *c == '\r';
-        rest = after;
-    }
-    Ok(all)
+    Some(c)
 }
 
 // Where the character behind this one stands in its line.
@@ -101,16 +85,20 @@ fn add_kept(all: &mut String, place: LinePlace, c: char) -> Result<(), NoMemory>
     Ok(())
 }
 
-// What is kept of a text.
+// What is kept of a text once its line ends are LF.
 fn unmargined_of(alloc: Global, text: &[char]) -> Result<String, NoMemory>
-    ensures { IfOk result (λ t. string_bytes t ≡ encode_utf8_all (unmargined places.Inside text.now)) }
+    ensures { IfOk result (λ t. string_bytes t ≡ encode_utf8_all (unmargined places.Inside (with_line_feeds false text.now))) }
 {
-    let mut all = String::new(alloc);
+    let mut all = String::with_capacity(alloc, text.len())?;
     let mut place = LinePlace::Inside;
+    let mut after_return = false;
     let mut rest = text;
     'row: while let [c, after @ ..] = rest {
-        add_kept(&mut all, place, *c)?;
-        place = next_place(place, *c);
+        if let Some(fed) = line_fed_char(after_return, *c) {
+            add_kept(&mut all, place, fed)?;
+            place = next_place(place, fed);
+        }
+        after_return = *c == '\r';
         rest = after;
     }
     Ok(all)
@@ -138,8 +126,7 @@ fn text_of(alloc: Global, comment: &str) -> Result<Name, NoMemory>
     ensures { IfOk result (λ text. text ≡ doc_text comment.now) }
 {
     let all = chars_of(alloc, comment)?;
-    let lines = line_fed_of(alloc, unmarked_of(all.as_slice()))?;
-    let text = unmargined_of(alloc, lines.as_slice())?;
+    let text = unmargined_of(alloc, unmarked_of(all.as_slice()))?;
     Ok(Name::from_string(alloc, text))
 }
 
