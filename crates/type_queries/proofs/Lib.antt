@@ -4,4 +4,3 @@ pub mod ListedTexts
 pub mod NamedElements
 pub mod TypeQuestions
 pub mod TypeTexts
-pub mod TypesAtElements

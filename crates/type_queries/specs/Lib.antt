@@ -1,5 +1,4 @@
 pub mod Print
 pub mod Questions
 pub mod Spelling
-pub mod TypeOf
 pub mod Verdicts

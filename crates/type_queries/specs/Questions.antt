@@ -9,11 +9,11 @@ use Rattle.type_relations.specs.Boxed.{boxed, unboxed}
 use Rattle.type_relations.specs.Direct.{all_steps, direct}
 use Rattle.type_relations.specs.Elements.{is_there}
 use Rattle.type_relations.specs.Erasure.{erasure}
+use Rattle.type_elements.specs.TypeOf.{type_of}
 use Rattle.type_subtypes.specs.Assignable.{assignable}
 use Rattle.type_subtypes.specs.Subsignature.{subsignature}
 use Rattle.type_subtypes.specs.Subtypes.{subtype, contained}
 use Rattle.type_queries.specs.Print.{text_of}
-use Rattle.type_queries.specs.TypeOf.{type_of}
 use Rattle.type_queries.specs.Verdicts.{Verdict, Given, value, truth, judged, are_there}
 
 -- mirrors of any kind

@@ -3,7 +3,6 @@ ghost use Rattle.std.specs.Prelude.{◌≡◌};
 ghost use Rattle.type_queries.specs.Questions.{same_question, type_question, print_question, boxed_question, unboxed_question, direct_question, erasure_question};
 ghost use Rattle.type_queries.specs.Verdicts.{Gives};
 
-use crate::element_types::element_type;
 use crate::fault::QueryFault;
 use crate::kinds::{is_executable, is_package};
 use crate::printing::printed;
@@ -11,8 +10,9 @@ use crate::there::are_there;
 use apt_base::{ElementRef, List, Name};
 use element_table::Table;
 use std::alloc::Global;
+use type_elements::type_of_element;
 use type_mirror::{BaseMirror, Mirror};
-use type_relations::{box_of, boxed_kind, direct, erasure_within, primitive_of};
+use type_relations::{box_of, boxed_kind, direct, erasure_within, is_there, primitive_of};
 
 const ALL_STEPS: u32 = 64;
 
@@ -31,10 +31,15 @@ pub fn is_same(table: &Table, a: &Mirror, b: &Mirror) -> Result<bool, QueryFault
 }
 
 /// The type of an element, as its `asType` gives it: of a type the one with its own type parameters as arguments, of an enum constant that of its enum, of a field or a parameter what is written, of a method or a constructor the types of its parts. `NoSuch` where nothing stands there.
+#[tactic(auto, unfolding(crate::specs::Questions::type_question))]
 pub fn type_of(alloc: Global, table: &Table, at: &ElementRef) -> Result<Mirror, QueryFault>
     ensures { Gives result (type_question table.now at.now) }
 {
-    element_type(alloc, table, at)
+    if !is_there(table, at) {
+        return Err(QueryFault::NoSuch);
+    }
+    let mirror = type_of_element(alloc, table, at)?;
+    Ok(mirror)
 }
 
 /// The text of a type, with canonical names, as its `toString` gives it. `NoSuch` where it names an element that is not there.

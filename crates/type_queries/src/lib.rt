@@ -1,6 +1,6 @@
 //! Questions on the types of a table, as `Types` and `Elements` of `javax.lang.model.util` ask them: whether types are the same, the type of an element, the text of a type, the boxes of primitive types, erasures and direct supertypes, and which types are subtypes of others, contain them, are assignable to them, or have a subsignature of them.
 //!
-//! `specs/Questions` has one definition for each call: which elements have to be there, which kinds are wanted, and the answer. `specs/TypeOf` has the types of elements, `specs/Print` the texts of types, and `Same` of `type_layers` when types are the same; `type_relations` has the boxes, erasures and direct supertypes, and `type_subtypes` subtypes, contained arguments, assignable types and subsignatures. They read the table by the look-ups of `type_relations`, `type_resolve`, `name_resolve` and `element_table` alone.
+//! `specs/Questions` has one definition for each call: which elements have to be there, which kinds are wanted, and the answer. `specs/Print` has the texts of types, and `Same` of `type_layers` when types are the same; `type_elements` has the types of elements, `type_relations` has the boxes, erasures and direct supertypes, and `type_subtypes` subtypes, contained arguments, assignable types and subsignatures. They read the table by the look-ups of `type_relations`, `type_resolve`, `name_resolve` and `element_table` alone.
 //!
 //! The work of `is_same` is one step for each mirror that both hold, after a look-up of each element that they name; that of `print` one look-up for each class type and variable, and for the canonical name of a package without a unit a look at each unit of the table. `type_of` looks up each name that is written in the element, `boxed` one name and `unboxed` up to eight. `erasure` looks up one bound for each step, and `direct_supertypes` each type that the header writes. `is_subtype` and `contains` take the direct supertypes of each type that the search comes to, nearly linear in the different questions on the way; `is_assignable` makes up to four such searches, and `is_subsignature` takes the erasures of the parameters.
 //!
@@ -9,7 +9,6 @@
 
 mod calls;
 mod comparing;
-mod element_types;
 mod fault;
 mod kinds;
 mod printing;

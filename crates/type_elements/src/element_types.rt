@@ -10,11 +10,8 @@ ghost use Rattle.type_layers.specs.Layers as layers;
 ghost use Rattle.type_resolve.specs.Scopes.{IsElement};
 ghost use Rattle.type_relations.specs.Elements as elements;
 ghost use Rattle.type_relations.specs.Named.{string};
-ghost use Rattle.type_queries.specs.Questions.{type_question};
-ghost use Rattle.type_queries.specs.TypeOf.{own_type, own_arguments, parameter_types, executable_type, member_type, node_type};
-ghost use Rattle.type_queries.specs.Verdicts.{Gives};
+ghost use Rattle.type_elements.specs.TypeOf.{own_type, own_arguments, parameter_types, executable_type, member_type, node_type, type_of};
 
-use crate::fault::QueryFault;
 use apt_base::{ElementRef, List, NoMemory};
 use decl_elements::Place;
 use decl_tree::{ConstructorDecl, Member, MethodDecl, Param, TypeText};
@@ -57,8 +54,8 @@ fn variables(alloc: Global, parameters: &[ElementRef]) -> Result<List<Mirror>, N
     Ok(list)
 }
 
-/// A type with its own type parameters as arguments.
-pub(crate) fn own_type(alloc: Global, table: &Table, at: &ElementRef) -> Result<Mirror, NoMemory>
+// A type with its own type parameters as arguments.
+fn own_type(alloc: Global, table: &Table, at: &ElementRef) -> Result<Mirror, NoMemory>
     ensures { IfOk result (λ m. m ≡ own_type table.now at.now) }
 {
     let parameters = type_parameters(alloc, table, at)?;
@@ -241,20 +238,13 @@ fn node_type(
     }
 }
 
-/// The type of what stands there, or `NoSuch`.
+/// The type of an element, as its `asType` gives it: of a type the one with its own type parameters as arguments, of an enum constant that of its enum, of a field or a parameter what is written, of a method or a constructor the types of its parts. Where nothing stands it is that of nothing.
 #[tactic(auto, using(crate::proofs::TypesAtElements::typed))]
-pub(crate) fn element_type(
-    alloc: Global,
-    table: &Table,
-    at: &ElementRef,
-) -> Result<Mirror, QueryFault>
-    ensures { Gives result (type_question table.now at.now) }
+pub fn type_of_element(alloc: Global, table: &Table, at: &ElementRef) -> Result<Mirror, NoMemory>
+    ensures { IfOk result (λ m. m ≡ type_of table.now at.now) }
 {
     match place_of(table, at) {
-        None => Err(QueryFault::NoSuch),
-        Some(place) => {
-            let mirror = node_type(alloc, table, at, place)?;
-            Ok(mirror)
-        }
+        None => Ok(Mirror::plain(alloc, BaseMirror::Nothing)),
+        Some(place) => node_type(alloc, table, at, place),
     }
 }

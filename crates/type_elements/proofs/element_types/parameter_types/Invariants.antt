@@ -1,6 +1,6 @@
 use Rattle.std.proofs.Common.{◌≡◌, take}
-use Rattle.type_queries.specs.TypeOf.{parameter_types}
-use Rattle.type_queries.proofs.element_types.parameter_types.Given as goal
+use Rattle.type_elements.specs.TypeOf.{parameter_types}
+use Rattle.type_elements.proofs.element_types.parameter_types.Given as goal
 
 -- the types so far
 abbrev pub invariant-loop-each : goal.invariant-loop-each

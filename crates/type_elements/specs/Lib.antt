@@ -1,0 +1,3 @@
+pub mod MemberElements
+pub mod ShownNames
+pub mod TypeOf

@@ -1,0 +1,74 @@
+// The elements of class types.
+ghost use Rattle.std.specs.Prelude.{◌≡◌, [], IfOk};
+ghost use Rattle.std.specs.Option.{option_copied};
+ghost use Rattle.type_mirror.specs.Substitution.{same_element};
+ghost use Rattle.type_layers.specs.Layers.{layer_in};
+ghost use Rattle.type_elements.specs.MemberElements as elements;
+
+use apt_base::{ElementRef, List, NoMemory};
+use std::alloc::Global;
+use type_mirror::{Around, BaseMirror, Mirror};
+
+/// Whether both refer to one element.
+pub fn is_same_element(one: &ElementRef, other: &ElementRef) -> bool
+    ensures { result ≡ same_element one.now other.now }
+{
+    one.unit.as_str() == other.unit.as_str() && one.path.as_slice() == other.path.as_slice()
+}
+
+/// Whether there are two elements, and they are the same.
+pub fn same_class(one: Option<&ElementRef>, other: Option<&ElementRef>) -> bool
+    ensures { result ≡ elements.same_class (option_copied one) (option_copied other) }
+{
+    match one {
+        None => false,
+        Some(one) => match other {
+            None => false,
+            Some(other) => is_same_element(one, other),
+        },
+    }
+}
+
+fn base_element(base: &BaseMirror) -> Option<&ElementRef>
+    ensures { option_copied result ≡ elements.element_in (layer_in [] base.now) }
+{
+    match base {
+        BaseMirror::Declared(declared) => Some(&declared.element),
+        BaseMirror::Primitive(_) => None,
+        BaseMirror::Error(_) => None,
+        BaseMirror::Variable(_) => None,
+        BaseMirror::Wildcard => None,
+        BaseMirror::Executable(_) => None,
+        BaseMirror::Nothing => None,
+        BaseMirror::Void => None,
+        BaseMirror::Null => None,
+        BaseMirror::Package(_) => None,
+    }
+}
+
+/// The element of a class type; `None` of any other type.
+#[tactic(auto, unfolding(type_layers::specs::Layers::layer))]
+pub fn class_element(of: &Mirror) -> Option<&ElementRef>
+    ensures { option_copied result ≡ elements.class_element of.now }
+{
+    match of.around.as_slice() {
+        [Around::Array, ..] => None,
+        [Around::Extends, ..] => None,
+        [Around::Super, ..] => None,
+        [] => base_element(&of.base),
+    }
+}
+
+/// The elements of the class types among these types, in order.
+pub fn class_elements(alloc: Global, types: &[Mirror]) -> Result<List<ElementRef>, NoMemory>
+    ensures { IfOk result (λ list. list ≡ elements.class_elements types.now) }
+{
+    let mut list = List::new(alloc);
+    for each in types {
+        if let Some(element) = class_element(each) {
+            let element = element.copy(alloc)?;
+            list.push(element)?;
+        }
+    }
+    Ok(list)
+}
