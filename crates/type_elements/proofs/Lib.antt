@@ -1,1 +1,3 @@
+pub mod ElementsAround
+pub mod ListsAhead
 pub mod TypesAtElements

@@ -1,5 +1,5 @@
 -- The type of an element, by what stands there.
-use Rattle.std.proofs.Common.{◌≡◌, Option, None, Some, sym, ap}
+use Rattle.std.proofs.Common.{◌≡◌, None, Some, ap}
 use Rattle.apt_base.specs.declared.element.ElementRef.{ElementRef}
 use Rattle.decl_elements.specs.Nodes.{Node}
 use Rattle.element_table.specs.TypeTable.{TypeTable}

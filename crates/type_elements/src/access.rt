@@ -15,10 +15,8 @@ const STATIC: u16 = 32;
 fn has_modifier(table: &Table, wanted: u16, at: &ElementRef) -> bool
     ensures { result ≡ elements.has_modifier table.now wanted at.now }
 {
-    match table.modifiers(at) {
-        None => false,
-        Some(modifiers) => modifiers & wanted != 0,
-    }
+    let modifiers = table.modifiers(at).unwrap_or(0);
+    modifiers & wanted != 0
 }
 
 /// Whether it is static, as written or implied: a member type that is no class, each type and field in an interface, an enum constant, and `values` and `valueOf` of an enum are (JLS 8.5.1, 8.9, 9.3, 9.5).

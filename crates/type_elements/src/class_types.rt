@@ -1,6 +1,6 @@
 // The elements of class types.
-ghost use Rattle.std.specs.Prelude.{◌≡◌, [], IfOk};
-ghost use Rattle.std.specs.Option.{option_copied};
+ghost use Rattle.std.specs.Prelude.{◌≡◌, ◌++◌, [], IfOk, OnOk};
+ghost use Rattle.std.specs.Option.{option_copied, option_to_list};
 ghost use Rattle.type_mirror.specs.Substitution.{same_element};
 ghost use Rattle.type_layers.specs.Layers.{layer_in};
 ghost use Rattle.type_elements.specs.MemberElements as elements;
@@ -18,7 +18,7 @@ pub fn is_same_element(one: &ElementRef, other: &ElementRef) -> bool
 
 /// Whether there are two elements, and they are the same.
 pub fn same_class(one: Option<&ElementRef>, other: Option<&ElementRef>) -> bool
-    ensures { result ≡ elements.same_class (option_copied one) (option_copied other) }
+    ensures { result ≡ elements.same_class (option_copied one.entry) (option_copied other.entry) }
 {
     match one {
         None => false,
@@ -59,16 +59,30 @@ pub fn class_element(of: &Mirror) -> Option<&ElementRef>
     }
 }
 
+// Adds the element of a type, if it is a class type.
+fn add_class_element(
+    alloc: Global,
+    list: &mut List<ElementRef>,
+    of: &Mirror,
+) -> Result<(), NoMemory>
+    ensures { OnOk result (list.new ≡ list.old ++ option_to_list (elements.class_element of.now)) }
+{
+    match class_element(of) {
+        None => Ok(()),
+        Some(element) => {
+            let element = element.copy(alloc)?;
+            list.push(element)
+        }
+    }
+}
+
 /// The elements of the class types among these types, in order.
 pub fn class_elements(alloc: Global, types: &[Mirror]) -> Result<List<ElementRef>, NoMemory>
     ensures { IfOk result (λ list. list ≡ elements.class_elements types.now) }
 {
     let mut list = List::new(alloc);
     for each in types {
-        if let Some(element) = class_element(each) {
-            let element = element.copy(alloc)?;
-            list.push(element)?;
-        }
+        add_class_element(alloc, &mut list, each)?;
     }
     Ok(list)
 }

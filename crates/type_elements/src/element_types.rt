@@ -1,11 +1,11 @@
 // The types of elements.
-ghost use Rattle.std.specs.Prelude.{◌≡◌, ◌∷◌, [], Some, None, IfOk};
+ghost use Rattle.std.specs.Prelude.{◌≡◌, [], Some, IfOk};
 ghost use Rattle.decl_tree.specs.declared.declaration.Member.{out-Member};
 ghost use Rattle.decl_tree.specs.declared.declaration.Member.TheOpen.{Member-F};
 ghost use Rattle.decl_elements.specs.Nodes.{Values, ValueOf};
 ghost use Rattle.decl_elements.specs.Shown.{node_of};
 ghost use Rattle.element_table.specs.TableElements.{node_at};
-ghost use Rattle.type_layers.specs.Layers.{mirror_of, declared_mirror, executable_mirror};
+ghost use Rattle.type_layers.specs.Layers.{mirror_of, executable_mirror};
 ghost use Rattle.type_layers.specs.Layers as layers;
 ghost use Rattle.type_resolve.specs.Scopes.{IsElement};
 ghost use Rattle.type_relations.specs.Elements as elements;
