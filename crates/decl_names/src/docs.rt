@@ -1,10 +1,10 @@
 // The texts of doc comments.
 ghost use Rattle.std.specs.Prelude.{◌≡◌, ◌++◌, [], ◌∷◌, if◌then◌else◌, false, List, IfOk, MatchResult, string_bytes};
 ghost use Rattle.std.specs.Option.{option_to_list};
-ghost use Rattle.std.specs.Str.{chars, encode_utf8_all};
-ghost use Rattle.decl_grammar.specs.declared.line_place.LinePlace.TheVariants as places;
+ghost use Rattle.std.specs.Str.{chars, encode_utf8_all as encoded};
+ghost use Rattle.decl_grammar.specs.declared.line_place.LinePlace.TheVariants.{Inside};
 ghost use Rattle.decl_grammar.specs.declared.fault.ReadFault.TheVariants as faults;
-ghost use Rattle.decl_grammar.specs.Docs.{is_blank, line_fed, with_line_feeds, place_after, kept_at, kept_bytes, unmargined, unmarked, doc_text};
+ghost use Rattle.decl_grammar.specs.Docs.{is_blank, line_fed, with_line_feeds as line_feeds, place_after, kept_at, kept_bytes, unmargined, unmarked, doc_text};
 ghost use Rattle.decl_grammar.specs.Grammar.{doc_of, first_doc};
 
 use apt_base::{Name, NoMemory};
@@ -87,7 +87,7 @@ fn add_kept(all: &mut String, place: LinePlace, c: char) -> Result<(), NoMemory>
 
 // What is kept of a text once its line ends are LF.
 fn unmargined_of(alloc: Global, text: &[char]) -> Result<String, NoMemory>
-    ensures { IfOk result (λ t. string_bytes t ≡ encode_utf8_all (unmargined places.Inside (with_line_feeds false text.now))) }
+    ensures { IfOk result (λ t. string_bytes t ≡ encoded (unmargined Inside (line_feeds false text.now))) }
 {
     let mut all = String::with_capacity(alloc, text.len())?;
     let mut place = LinePlace::Inside;

@@ -54,7 +54,7 @@ fn line_end(after_return: bool, byte: u8) -> u32
 /// The offset in the file of the character behind this many bytes.
 pub fn offset_at(chars: &Chars, width: usize) -> u32
     requires { width ≤ 8_388_608 }
-    ensures { (before : ℕ) → IsCharAt chars.now before width → result ≡ slice_index (offsets_in chars.now) before }
+    ensures { (n : ℕ) → IsCharAt chars.now n width → result ≡ slice_index (offsets_in chars.now) n }
 {
     let place = width as u32;
     place + shift_at(chars.shifts.as_slice(), place)
