@@ -1,0 +1,135 @@
+// The type of a member as a member of a type.
+ghost use Rattle.std.specs.Prelude.{◌≡◌, IfOk};
+ghost use Rattle.type_numbers.specs.Numbers.{at, IsKnown, AreKnown, Stands, OptionStands, Grows};
+ghost use Rattle.type_elements.specs.TypeOf as elements;
+ghost use Rattle.type_members.specs.MemberNumbers.{first_at, NearestStands, SeenStands, MemberStands};
+ghost use Rattle.type_members.specs.MemberOf as members;
+
+use crate::levels::{Level, further};
+use apt_base::{ElementRef, NoMemory};
+use element_table::Table;
+use std::alloc::Global;
+use type_elements::{is_in_parameterized, is_same_element, is_static, type_of_element};
+use type_numbers::{Node, Types};
+use type_relations::around_of;
+use type_steps::{erasure_of, is_raw, replaced_in};
+
+const ALL_STEPS: u32 = 64;
+
+/// The number of the type of an element, as its `asType` gives it. It is added where it is not there, and each number that there was stands for what it stood for.
+pub fn number_of(
+    alloc: Global,
+    table: &Table,
+    types: &mut Types,
+    at: &ElementRef,
+) -> Result<usize, NoMemory>
+    ensures stands { IfOk result (λ n. Stands types.new n (elements.type_of table.now at.now)) }
+    ensures grows { Grows types.old types.new }
+{
+    let mirror = type_of_element(alloc, table, at)?;
+    types.add(&mirror)
+}
+
+/// Whether it is a class type of this element.
+pub(crate) fn is_of(types: &Types, element: &ElementRef, number: usize) -> bool
+    requires { IsKnown types.now number }
+    ensures { result ≡ members.is_of element.now (at types.now number) }
+{
+    match types.node(number) {
+        Node::Declared(other, _, _) => is_same_element(element, other),
+        _ => false,
+    }
+}
+
+// The first one of a level that is of this element.
+fn first_of(types: &Types, at: &ElementRef, level: &[usize]) -> Option<usize>
+    requires { AreKnown types.now level.now }
+    ensures { OptionStands types.now result (first_at types.now at.now level.now) }
+{
+    for number in level {
+        if is_of(types, at, *number) {
+            return Some(*number);
+        }
+    }
+    None
+}
+
+// The first one of this element: in a level, or else further on within so many steps.
+fn nearest(
+    alloc: Global,
+    table: &Table,
+    types: &mut Types,
+    at: &ElementRef,
+    steps: u32,
+    level: &[usize],
+) -> Result<Option<usize>, NoMemory>
+    requires known { AreKnown types.old level.now }
+    ensures stands { IfOk result (λ n. NearestStands table.now types.old types.new at.now steps level.now n) }
+    ensures grows { Grows types.old types.new }
+{
+    if let Some(found) = first_of(types, at, level) {
+        return Ok(Some(found));
+    }
+    if steps == 0 {
+        return Ok(None);
+    }
+    match further(alloc, table, types, level)? {
+        None => Ok(None),
+        Some(next) => nearest(alloc, table, types, at, steps - 1, next.as_slice()),
+    }
+}
+
+// The type of a member as it is seen in the supertype that declares it.
+fn seen_in(
+    alloc: Global,
+    table: &Table,
+    types: &mut Types,
+    at: &ElementRef,
+    declaring: usize,
+) -> Result<Option<usize>, NoMemory>
+    requires known { IsKnown types.old declaring }
+    ensures stands { IfOk result (λ n. SeenStands table.now types.old types.new at.now declaring n) }
+    ensures grows { Grows types.old types.new }
+{
+    let own = number_of(alloc, table, types, at)?;
+    if is_raw(table, types, declaring) {
+        return erasure_of(alloc, table, types, own);
+    }
+    let seen = replaced_in(alloc, table, types, declaring, own)?;
+    Ok(Some(seen))
+}
+
+fn is_fixed(alloc: Global, table: &Table, at: &ElementRef) -> Result<bool, NoMemory>
+    ensures { IfOk result (λ r. r ≡ members.is_fixed table.now at.now) }
+{
+    if is_static(table, at) {
+        return Ok(true);
+    }
+    let inside = is_in_parameterized(alloc, table, at)?;
+    Ok(!inside)
+}
+
+/// The number of the type of a member as a member of the type with this number (JLS 4.5.2, 4.8): its own type where it is static, or where nothing around it has type parameters; else that in the supertype which declares it, the one with the fewest steps. `None` where no such supertype is within 64 steps, or where the erasure in a raw one is open. It is added where it is not there, and each number that there was stands for what it stood for.
+#[tactic(auto, unfolding(crate::specs::MemberOf::member_of))]
+pub fn member_of(
+    alloc: Global,
+    table: &Table,
+    types: &mut Types,
+    container: usize,
+    at: &ElementRef,
+) -> Result<Option<usize>, NoMemory>
+    requires known { IsKnown types.old container }
+    ensures stands { IfOk result (λ n. MemberStands table.now types.old types.new container at.now n) }
+    ensures grows { Grows types.old types.new }
+{
+    if is_fixed(alloc, table, at)? {
+        let own = number_of(alloc, table, types, at)?;
+        return Ok(Some(own));
+    }
+    let around = around_of(alloc, table, at)?;
+    let level = Level::of(alloc, container)?;
+    match nearest(alloc, table, types, &around, ALL_STEPS, level.as_slice())? {
+        None => Ok(None),
+        Some(declaring) => seen_in(alloc, table, types, at, declaring),
+    }
+}
