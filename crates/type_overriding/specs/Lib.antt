@@ -1,0 +1,3 @@
+pub mod ByElements
+pub mod ByNumbers
+pub mod Overrides

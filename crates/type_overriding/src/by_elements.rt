@@ -1,0 +1,88 @@
+// Subtypes by their elements alone, by numbers: two class types of one element are decided, whatever their arguments and enclosing types.
+ghost use Rattle.std.specs.Prelude.{◌≡◌, IfOk};
+ghost use Rattle.type_elements.specs.MemberElements.{element_in, same_class};
+ghost use Rattle.type_levels.specs.Steps.{all_steps};
+ghost use Rattle.type_numbers.specs.Nodes.{layer_of};
+ghost use Rattle.type_numbers.specs.Numbers.{Grows};
+ghost use Rattle.type_subtypes.specs.Numbers.{numbered};
+ghost use Rattle.type_overriding.specs.ByElements as below;
+ghost use Rattle.type_overriding.specs.ByElements.{next_by_elements};
+
+use apt_base::{ElementRef, NoMemory};
+use element_table::Table;
+use std::alloc::Global;
+use std::marker::Model;
+use type_elements::is_same_element;
+use type_levels::{Answer, Next, Pair, Relation, related};
+use type_members::number_of;
+use type_mirror::Mirror;
+use type_numbers::{Node, Types};
+use type_subtypes::Subtypes;
+
+/// Subtypes by their elements alone over one table, as a relation of types by their numbers. Contracts see the table.
+#[derive(Drop)]
+pub(crate) struct ByElements<'a> {
+    pub alloc: Global,
+    pub table: &'a Table,
+}
+
+impl<'a> Model for ByElements<'a> {
+    ghost use Rattle.element_table.specs.TypeTable.{TypeTable};
+    ghost use Rattle.element_table.specs.Held.{table_code};
+
+    ghost Value = { TypeTable };
+
+    ghost coded = { table_code };
+
+    ghost view = { λ a. a.table.now };
+}
+
+// Whether both are class types of one element.
+#[tactic(auto, using(crate::proofs::AskedByElements::elements))]
+fn are_of_one_element(one: &Node, other: &Node) -> bool
+    ensures { result ≡ same_class (element_in (layer_of one.now)) (element_in (layer_of other.now)) }
+{
+    match one {
+        Node::Declared(at, _, _) => match other {
+            Node::Declared(element, _, _) => is_same_element(at, element),
+            _ => false,
+        },
+        _ => false,
+    }
+}
+
+impl<'a> Relation<Types> for ByElements<'a> {
+    type Type = Mirror;
+
+    ghost seen = { λ table types. numbered (next_by_elements table) types };
+
+    fn next(&self, types: &mut Types, pair: Pair) -> Result<Next, NoMemory> {
+        if are_of_one_element(types.node(pair.sub), types.node(pair.sup)) {
+            return Ok(Next::Decided(Answer::Yes));
+        }
+        let subtypes = Subtypes {
+            alloc: self.alloc,
+            table: self.table,
+        };
+        let next = subtypes.next(types, pair)?;
+        Ok(next)
+    }
+}
+
+/// Whether the type of one element is below that of another one by their elements, within 64 steps.
+pub(crate) fn is_below(
+    alloc: Global,
+    table: &Table,
+    types: &mut Types,
+    one: &ElementRef,
+    other: &ElementRef,
+) -> Result<Answer, NoMemory>
+    ensures answer { IfOk result (λ r. r ≡ below.is_below table.now all_steps one.now other.now) }
+    ensures grows { Grows types.old types.new }
+{
+    let sub = number_of(alloc, table, types, one)?;
+    let sup = number_of(alloc, table, types, other)?;
+    let relation = ByElements { alloc, table };
+    let answer = related(alloc, &relation, types, Pair { sub, sup })?;
+    Ok(answer)
+}
