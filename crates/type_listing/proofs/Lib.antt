@@ -1,0 +1,9 @@
+pub mod AddedMembers
+pub mod AskedMembers
+pub mod GatheredMembers
+pub mod MoreLevels
+pub mod OneName
+pub mod OtherNames
+pub mod PlacesByText
+pub mod PlacesOfNames
+pub mod RememberedTypes

@@ -1,0 +1,5 @@
+pub mod Listings
+pub mod MemberLaws
+pub mod Members
+pub mod Namesakes
+pub mod Remembered

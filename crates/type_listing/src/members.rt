@@ -1,0 +1,241 @@
+// The members of a type.
+ghost use Rattle.std.specs.Prelude.{◌≡◌, IfOk, OnOk};
+ghost use Rattle.type_levels.specs.Steps.{all_steps};
+ghost use Rattle.type_elements.specs.MemberElements as elements;
+ghost use Rattle.type_listing.specs.Members as members;
+ghost use Rattle.type_listing.specs.Listings.{listing_of, IsDue, AreDue};
+ghost use Rattle.type_listing.specs.Remembered.{AreKnownWithin};
+
+use crate::budget::Compared;
+use crate::displacing::{displaces, is_inherited};
+use crate::known::KnownMembers;
+use crate::listing::Listing;
+use crate::remembered::Remembered;
+use apt_base::{ElementRef, List, NoMemory};
+use element_table::Table;
+use std::alloc::Global;
+use type_elements::{class_elements, enclosed, is_same_element};
+use type_levels::Answer;
+use type_numbers::Types;
+use type_relations::header_types;
+
+const ALL_STEPS: u32 = 64;
+
+// ---- one member
+
+// Whether a member is in the list: those of its name are compared alone.
+fn is_among(list: &Listing<'_>, at: &ElementRef, budget: &mut Compared) -> Result<bool, NoMemory>
+    ensures { IfOk result (λ r. r ≡ members.is_among list.now.list at.now) }
+{
+    let places = list.places(at)?;
+    budget.take(places.len())?;
+    for place in places {
+        if is_same_element(at, list.get(*place)) {
+            return Ok(true);
+        }
+    }
+    Ok(false)
+}
+
+// Whether one of the list hides or overrides a member in a type: those of its name are asked alone.
+fn is_displaced(
+    alloc: Global,
+    types: &mut Types,
+    within: &ElementRef,
+    list: &Listing<'_>,
+    at: &ElementRef,
+    budget: &mut Compared,
+) -> Result<Answer, NoMemory>
+    ensures { IfOk result (λ r. r ≡ members.is_displaced list.now.table within.now list.now.list at.now) }
+{
+    let places = list.places(at)?;
+    budget.take(places.len())?;
+    let mut answer = Answer::No;
+    for place in places {
+        let one = displaces(alloc, list.table(), types, within, list.get(*place), at)?;
+        answer = answer.or(one);
+    }
+    Ok(answer)
+}
+
+// Adds a member of a supertype, unless it is there, is not inherited, or one that is there hides or overrides it. False where that is open, and the list is then as it was.
+fn add_inherited(
+    alloc: Global,
+    types: &mut Types,
+    within: &ElementRef,
+    list: &mut Listing<'_>,
+    at: &ElementRef,
+    budget: &mut Compared,
+) -> Result<bool, NoMemory>
+    ensures due { IfOk result (λ closed. IsDue closed list.old within.now at.now list.new.list) }
+    ensures table { OnOk result (list.new.table ≡ list.old.table) }
+{
+    if !is_inherited(list.table(), within, at) {
+        return Ok(true);
+    }
+    if is_among(list, at, budget)? {
+        return Ok(true);
+    }
+    match is_displaced(alloc, types, within, list, at, budget)? {
+        Answer::Yes => Ok(true),
+        Answer::Open => Ok(false),
+        Answer::No => {
+            let copy = at.copy(alloc)?;
+            list.push(copy)?;
+            Ok(true)
+        }
+    }
+}
+
+// ---- those of a type
+
+// Adds each of these that is due, in their order. False where one is open.
+fn add_all(
+    alloc: Global,
+    types: &mut Types,
+    within: &ElementRef,
+    list: &mut Listing<'_>,
+    others: &[ElementRef],
+    budget: &mut Compared,
+) -> Result<bool, NoMemory>
+    ensures due { IfOk result (λ closed. AreDue closed list.old within.now others.now list.new.list) }
+    ensures table { OnOk result (list.new.table ≡ list.old.table) }
+{
+    for each in others {
+        if !add_inherited(alloc, types, within, list, each, budget)? {
+            return Ok(false);
+        }
+    }
+    Ok(true)
+}
+
+// The own members.
+fn own_listing<'a>(
+    alloc: Global,
+    table: &'a Table,
+    at: &ElementRef,
+) -> Result<Listing<'a>, NoMemory>
+    ensures { IfOk result (λ list. list ≡ listing_of table.now (elements.enclosed table.now at.now)) }
+{
+    let mut list = Listing::new(alloc, table);
+    let own = enclosed(alloc, table, at)?;
+    for each in own.into_vec() {
+        list.push(each)?;
+    }
+    Ok(list)
+}
+
+// The superclass and the interfaces that are of the table.
+fn super_elements(
+    alloc: Global,
+    table: &Table,
+    at: &ElementRef,
+) -> Result<List<ElementRef>, NoMemory>
+    ensures { IfOk result (λ list. list ≡ members.super_elements table.now at.now) }
+{
+    let types = header_types(alloc, table, at)?;
+    class_elements(alloc, types.as_slice())
+}
+
+// ---- a type, with the levels that are left
+
+// What is known of the members of a type within so many levels of supertypes: what is remembered, or what is then gathered and remembered.
+#[cycle(listing)]
+fn known_members(
+    alloc: Global,
+    types: &mut Types,
+    remembered: &mut Remembered<'_>,
+    levels: u32,
+    at: &ElementRef,
+    budget: &mut Compared,
+) -> Result<Option<KnownMembers>, NoMemory>
+    ensures known { IfOk result (λ known. AreKnownWithin remembered.old at.now levels known) }
+    ensures kept { remembered.new ≡ remembered.old }
+{
+    if let Some(known) = remembered.recalled(at)? {
+        if known.levels > levels {
+            return Ok(None);
+        }
+        return Ok(Some(known));
+    }
+    let supers = super_elements(alloc, remembered.table(), at)?;
+    match gathered(
+        alloc,
+        types,
+        remembered,
+        levels,
+        at,
+        supers.as_slice(),
+        budget,
+    )? {
+        None => Ok(None),
+        Some(known) => {
+            let copy = known.copy(alloc)?;
+            remembered.remember(at, copy)?;
+            Ok(Some(known))
+        }
+    }
+}
+
+// The own members, and then those of each supertype in order.
+#[cycle(listing)]
+fn gathered(
+    alloc: Global,
+    types: &mut Types,
+    remembered: &mut Remembered<'_>,
+    levels: u32,
+    at: &ElementRef,
+    supers: &[ElementRef],
+    budget: &mut Compared,
+) -> Result<Option<KnownMembers>, NoMemory>
+    requires { supers.now ≡ members.super_elements remembered.old at.now }
+    ensures known { IfOk result (λ known. AreKnownWithin remembered.old at.now levels known) }
+    ensures kept { remembered.new ≡ remembered.old }
+{
+    let mut list = own_listing(alloc, remembered.table(), at)?;
+    let mut wanted: u32 = 0;
+    for each in supers {
+        if levels == 0 {
+            return Ok(None);
+        }
+        match known_members(alloc, types, remembered, levels - 1, each, budget)? {
+            None => return Ok(None),
+            Some(above) => {
+                if !add_all(alloc, types, at, &mut list, above.list.as_slice(), budget)? {
+                    return Ok(None);
+                }
+                wanted = wanted.max(above.levels + 1);
+            }
+        }
+    }
+    Ok(Some(KnownMembers {
+        levels: wanted,
+        list: list.into_list(),
+    }))
+}
+
+/// The members of a type (JLS 8.2, 9.2), its own first and then those that it inherits of the superclass and of the interfaces in order; `None` where the supertypes go on behind 64 levels, or where a question on hiding or overriding between two of them has no answer within 64 steps.
+///
+/// Each type is listed once, and a member is compared with those of its name alone. Want of memory comes also where more than 1,048,576 pairs of one name would be compared.
+pub fn all_members(
+    alloc: Global,
+    table: &Table,
+    at: &ElementRef,
+) -> Result<Option<List<ElementRef>>, NoMemory>
+    ensures { IfOk result (λ list. list ≡ members.members table.now all_steps at.now) }
+{
+    let mut types = Types::new(alloc);
+    let mut remembered = Remembered::new(alloc, table);
+    let mut budget = Compared::new();
+    match known_members(
+        alloc,
+        &mut types,
+        &mut remembered,
+        ALL_STEPS,
+        at,
+        &mut budget,
+    )? {
+        None => Ok(None),
+        Some(known) => Ok(Some(known.list)),
+    }
+}
