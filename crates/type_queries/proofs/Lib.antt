@@ -1,6 +1,7 @@
 pub mod BoxQuestions
 pub mod JudgedQuestions
 pub mod ListedTexts
+pub mod MemberAnswers
 pub mod NamedElements
 pub mod TypeQuestions
 pub mod TypeTexts

@@ -1,3 +1,4 @@
+pub mod MemberQuestion
 pub mod Print
 pub mod Questions
 pub mod Spelling

@@ -11,9 +11,11 @@ mod calls;
 mod comparing;
 mod fault;
 mod kinds;
+mod member_type;
 mod printing;
 mod there;
 
 pub use calls::{boxed, direct_supertypes, erasure, is_same, print, type_of, unboxed};
 pub use comparing::{contains, is_assignable, is_subsignature, is_subtype};
 pub use fault::QueryFault;
+pub use member_type::as_member_of;
