@@ -34,7 +34,7 @@ fn are_executables(a: &Mirror, b: &Mirror) -> bool
 }
 
 // By whether all is there, and of the kind that is wanted.
-fn stop(there: bool, kinds: bool) -> Option<QueryFault>
+pub(crate) fn stop(there: bool, kinds: bool) -> Option<QueryFault>
     ensures { Stops result there kinds }
 {
     if !there {
@@ -46,7 +46,7 @@ fn stop(there: bool, kinds: bool) -> Option<QueryFault>
     None
 }
 
-fn truth(answer: Answer) -> Result<bool, QueryFault>
+pub(crate) fn truth(answer: Answer) -> Result<bool, QueryFault>
     ensures { Gives result (truth answer) }
 {
     match answer {
