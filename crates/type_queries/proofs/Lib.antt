@@ -1,5 +1,6 @@
 pub mod BoxQuestions
 pub mod JudgedQuestions
+pub mod ListedMembers
 pub mod ListedTexts
 pub mod MemberAnswers
 pub mod NamedElements

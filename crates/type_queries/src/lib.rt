@@ -12,6 +12,7 @@ mod comparing;
 mod fault;
 mod kinds;
 mod member_type;
+mod member_lists;
 mod overriding;
 mod printing;
 mod there;
@@ -20,4 +21,5 @@ pub use calls::{boxed, direct_supertypes, erasure, is_same, print, type_of, unbo
 pub use comparing::{contains, is_assignable, is_subsignature, is_subtype};
 pub use fault::QueryFault;
 pub use member_type::as_member_of;
+pub use member_lists::all_members;
 pub use overriding::overrides;
