@@ -1,5 +1,5 @@
-pub mod MemberQuestion
 pub mod MemberLists
+pub mod MemberQuestion
 pub mod OverridingQuestions
 pub mod Print
 pub mod Questions
