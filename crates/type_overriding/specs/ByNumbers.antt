@@ -1,5 +1,5 @@
 -- Signatures of methods and constructors by the numbers of their types.
-use Rattle.std.specs.Prelude.{ℕ, Bool, List, map, Option}
+use Rattle.std.specs.Prelude.{◌≡◌, ℕ, Bool, List, map, Option}
 use Rattle.std.specs.Option.{option_map}
 use Rattle.apt_base.specs.declared.element.ElementRef.{ElementRef}
 use Rattle.element_table.specs.TypeTable.{TypeTable}
@@ -46,6 +46,9 @@ erased_at table types ones others = same_erased table all_steps (map (at types) 
 abbrev pub sign_at : TypeTable → List Mirror → List ElementRef → List ℕ → List ElementRef → List ℕ → Answer
 sign_at table types as' ones bs others =
     either (of_test (renamed_at types as' ones bs others)) (erased_at table types ones others)
+
+abbrev pub SignAt : TypeTable → List Mirror → List ElementRef → List ℕ → List ElementRef → List ℕ → Answer → Type 0
+SignAt table types as' ones bs others answer = answer ≡ sign_at table types as' ones bs others
 
 -- of two types whose outermost layers these nodes show
 abbrev pub nodes_signature : TypeTable → List Mirror → Node → Node → Answer

@@ -8,7 +8,7 @@ ghost use Rattle.type_numbers.specs.Nodes.{layer_of};
 ghost use Rattle.type_substitution.specs.Replaced.{AreKnownIn, replacements_in};
 ghost use Rattle.type_subtypes.specs.Subsignature.{as_types};
 ghost use Rattle.type_overriding.specs.ByNumbers.{same_at, renamed_at, is_erased_at, erased_at};
-ghost use Rattle.type_overriding.specs.ByNumbers.{sign_at, nodes_signature, signature_at};
+ghost use Rattle.type_overriding.specs.ByNumbers.{SignAt, nodes_signature, signature_at};
 
 use apt_base::{ElementRef, List, NoMemory};
 use element_table::Table;
@@ -170,7 +170,7 @@ fn of_parameters(
 ) -> Result<Answer, NoMemory>
     requires parameters { AreKnown types.old parameters.now }
     requires beside { AreKnown types.old beside.now }
-    ensures answer { IfOk result (λ r. r ≡ sign_at table.now types.old ones.now parameters.now others.now beside.now) }
+    ensures answer { IfOk result (SignAt table.now types.old ones.now parameters.now others.now beside.now) }
     ensures grows { Grows types.old types.new }
 {
     let same = same_renamed(alloc, types, ones, parameters, others, beside)?;
