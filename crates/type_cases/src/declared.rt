@@ -3,11 +3,45 @@ use case_lines::{CaseFault, Fields, name, several};
 use decl_syntax::{ShapeFault, Unit, parse_shape};
 use std::alloc::Global;
 
-// No modifiers, no annotations and no doc comment.
-fn plain(fields: &mut Fields) {
-    fields.u16(0);
+// These modifiers, no annotations and no doc comment.
+fn plain(fields: &mut Fields, modifiers: u16) {
+    fields.u16(modifiers);
     fields.u32(0);
     fields.u8(0)
+}
+
+// ---- modifiers, a bit each
+
+fn modifier(fields: &mut Fields, word: &str) -> u16 {
+    match word {
+        "public" => 1,
+        "protected" => 2,
+        "private" => 4,
+        "abstract" => 8,
+        "default" => 16,
+        "static" => 32,
+        "final" => 64,
+        _ => {
+            fields.not_a_case();
+            0
+        }
+    }
+}
+
+fn modifiers(fields: &mut Fields, words: &str) -> u16 {
+    let mut bits = 0;
+    for each in words.split('+') {
+        bits |= modifier(fields, each);
+    }
+    bits
+}
+
+// The modifiers in front of what is declared, and what it is.
+fn declared<'a>(fields: &mut Fields, word: &'a str) -> (u16, &'a str) {
+    match word.rsplit_once('+') {
+        None => (0, word),
+        Some((front, what)) => (modifiers(fields, front), what),
+    }
 }
 
 // ---- types, from the outside in
@@ -119,20 +153,31 @@ fn parameters(alloc: Global, fields: &mut Fields, word: &str) -> Result<(), Case
     Ok(())
 }
 
-fn field(alloc: Global, fields: &mut Fields, name: &str, of: &str) -> Result<(), CaseFault> {
+fn field(
+    alloc: Global,
+    fields: &mut Fields,
+    modifiers: u16,
+    name: &str,
+    of: &str,
+) -> Result<(), CaseFault> {
     fields.u8(0);
     fields.text(name);
-    plain(fields);
+    plain(fields, modifiers);
     type_text(alloc, fields, of)?;
     fields.u8(0);
     Ok(())
 }
 
 // Its name, its type parameters, the types of its parameters, its result and what it throws.
-fn method(alloc: Global, fields: &mut Fields, words: &[&str; 5]) -> Result<(), CaseFault> {
+fn method(
+    alloc: Global,
+    fields: &mut Fields,
+    modifiers: u16,
+    words: &[&str; 5],
+) -> Result<(), CaseFault> {
     fields.u8(1);
     fields.text(words[0]);
-    plain(fields);
+    plain(fields, modifiers);
     type_parameters(alloc, fields, words[1])?;
     type_text(alloc, fields, words[3])?;
     parameters(alloc, fields, words[2])?;
@@ -142,9 +187,14 @@ fn method(alloc: Global, fields: &mut Fields, words: &[&str; 5]) -> Result<(), C
 }
 
 // Its type parameters, the types of its parameters and what it throws.
-fn constructor(alloc: Global, fields: &mut Fields, words: &[&str; 3]) -> Result<(), CaseFault> {
+fn constructor(
+    alloc: Global,
+    fields: &mut Fields,
+    modifiers: u16,
+    words: &[&str; 3],
+) -> Result<(), CaseFault> {
     fields.u8(2);
-    plain(fields);
+    plain(fields, modifiers);
     type_parameters(alloc, fields, words[0])?;
     parameters(alloc, fields, words[1])?;
     type_texts(alloc, fields, words[2])
@@ -178,10 +228,15 @@ fn superclass(alloc: Global, fields: &mut Fields, word: &str) -> Result<(), Case
 }
 
 // A type as far as its members: its kind, its name, the number of its members, its type parameters, its superclass and its interfaces.
-fn type_head(alloc: Global, fields: &mut Fields, words: &[&str; 6]) -> Result<(), CaseFault> {
+fn type_head(
+    alloc: Global,
+    fields: &mut Fields,
+    modifiers: u16,
+    words: &[&str; 6],
+) -> Result<(), CaseFault> {
     kind(fields, words[0]);
     fields.text(words[1]);
-    plain(fields);
+    plain(fields, modifiers);
     type_parameters(alloc, fields, words[3])?;
     superclass(alloc, fields, words[4])?;
     type_texts(alloc, fields, words[5])?;
@@ -189,19 +244,24 @@ fn type_head(alloc: Global, fields: &mut Fields, words: &[&str; 6]) -> Result<()
     Ok(())
 }
 
-fn type_words(alloc: Global, fields: &mut Fields, words: &[&str]) -> Result<(), CaseFault> {
+fn type_words(
+    alloc: Global,
+    fields: &mut Fields,
+    modifiers: u16,
+    words: &[&str],
+) -> Result<(), CaseFault> {
     match words {
         [kind, name, members] => {
             let words = [*kind, *name, *members, "-", "-", "-"];
-            type_head(alloc, fields, &words)
+            type_head(alloc, fields, modifiers, &words)
         }
         [kind, name, members, parameters] => {
             let words = [*kind, *name, *members, *parameters, "-", "-"];
-            type_head(alloc, fields, &words)
+            type_head(alloc, fields, modifiers, &words)
         }
         [kind, name, members, parameters, above, interfaces] => {
             let words = [*kind, *name, *members, *parameters, *above, *interfaces];
-            type_head(alloc, fields, &words)
+            type_head(alloc, fields, modifiers, &words)
         }
         _ => {
             fields.not_a_case();
@@ -210,23 +270,29 @@ fn type_words(alloc: Global, fields: &mut Fields, words: &[&str]) -> Result<(), 
     }
 }
 
-fn member(alloc: Global, fields: &mut Fields, words: &[&str]) -> Result<(), CaseFault> {
+// An enum constant has no modifiers.
+fn member(
+    alloc: Global,
+    fields: &mut Fields,
+    modifiers: u16,
+    words: &[&str],
+) -> Result<(), CaseFault> {
     match words {
-        ["field", name, of] => field(alloc, fields, name, of),
+        ["field", name, of] => field(alloc, fields, modifiers, name, of),
         ["method", name, variables, types, outcome, thrown] => {
             let words = [*name, *variables, *types, *outcome, *thrown];
-            method(alloc, fields, &words)
+            method(alloc, fields, modifiers, &words)
         }
         ["constructor", variables, types, thrown] => {
-            constructor(alloc, fields, &[*variables, *types, *thrown])
+            constructor(alloc, fields, modifiers, &[*variables, *types, *thrown])
         }
-        ["constant", name] => {
+        ["constant", name] if modifiers == 0 => {
             constant(fields, name);
             Ok(())
         }
         _ => {
             fields.u8(4);
-            type_words(alloc, fields, words)
+            type_words(alloc, fields, modifiers, words)
         }
     }
 }
@@ -243,13 +309,28 @@ fn file(alloc: Global, fields: &mut Fields, package: &str) -> Result<(), CaseFau
     Ok(())
 }
 
-// A piece, whose parts are joined by `:`.
+// What is declared, and the other parts of a piece, which are joined by `:`.
+fn parts<'a>(alloc: Global, what: &'a str, others: &'a str) -> Result<Vec<&'a str>, CaseFault> {
+    let mut parts = Vec::new(alloc);
+    parts.push(what)?;
+    for each in others.split(':') {
+        parts.push(each)?;
+    }
+    Ok(parts)
+}
+
+// A piece, with its modifiers in front.
 fn piece(alloc: Global, fields: &mut Fields, piece: &str, is_first: bool) -> Result<(), CaseFault> {
-    let parts: Vec<&str> = piece.split(':').collect(alloc)?;
+    let Some((head, others)) = piece.split_once(':') else {
+        fields.not_a_case();
+        return Ok(());
+    };
+    let (modifiers, what) = declared(fields, head);
+    let parts = parts(alloc, what, others)?;
     if is_first {
-        type_words(alloc, fields, &parts)
+        type_words(alloc, fields, modifiers, &parts)
     } else {
-        member(alloc, fields, &parts)
+        member(alloc, fields, modifiers, &parts)
     }
 }
 
