@@ -7,23 +7,18 @@ import com.sun.source.tree.MethodTree;
 import com.sun.source.tree.Tree;
 import com.sun.source.util.JavacTask;
 import com.sun.source.util.SourcePositions;
-import com.sun.source.util.TaskEvent;
-import com.sun.source.util.TaskListener;
 import com.sun.source.util.Trees;
 import java.io.BufferedReader;
 import java.io.IOException;
 import java.io.InputStreamReader;
 import java.io.PrintStream;
-import java.lang.management.ManagementFactory;
 import java.nio.charset.StandardCharsets;
 import java.nio.file.Files;
 import java.nio.file.Path;
 import java.util.ArrayList;
 import java.util.List;
-import java.util.Locale;
 import java.util.Set;
 import java.util.regex.Pattern;
-import java.util.stream.Collectors;
 import javax.annotation.processing.AbstractProcessor;
 import javax.annotation.processing.RoundEnvironment;
 import javax.annotation.processing.SupportedAnnotationTypes;
@@ -31,18 +26,8 @@ import javax.lang.model.SourceVersion;
 import javax.lang.model.element.Element;
 import javax.lang.model.element.ElementKind;
 import javax.lang.model.element.TypeElement;
-import javax.lang.model.element.TypeParameterElement;
-import javax.lang.model.type.ArrayType;
-import javax.lang.model.type.DeclaredType;
 import javax.lang.model.type.TypeMirror;
-import javax.lang.model.type.TypeVariable;
-import javax.lang.model.type.WildcardType;
-import javax.tools.Diagnostic;
-import javax.tools.DiagnosticListener;
-import javax.tools.JavaCompiler;
-import javax.tools.JavaFileObject;
 import javax.tools.StandardJavaFileManager;
-import javax.tools.ToolProvider;
 
 /**
  * Has javac attribute the declarations of files of the module java.base. The first word says what is done, the second names
@@ -79,11 +64,11 @@ final class NameBench {
 
         @Override
         public boolean process(Set<? extends TypeElement> annotations, RoundEnvironment round) {
-            long start = processorNanos();
+            long start = Javac.processorNanos();
             for (Element root : round.getRootElements()) {
                 ask(root);
             }
-            nanos += processorNanos() - start;
+            nanos += Javac.processorNanos() - start;
             return false;
         }
 
@@ -96,7 +81,7 @@ final class NameBench {
                     fields++;
                     TypeMirror type = each.asType();
                     if (out != null) {
-                        out.println(((TypeElement) of).getQualifiedName() + " " + each.getSimpleName() + " " + words(type));
+                        out.println(((TypeElement) of).getQualifiedName() + " " + each.getSimpleName() + " " + Javac.words(type));
                     }
                 } else if (each.getKind().isClass() || each.getKind().isInterface()) {
                     ask(each);
@@ -105,105 +90,12 @@ final class NameBench {
         }
 
         private void tellSupertypes(TypeElement of) {
-            StringBuilder line = new StringBuilder(of.getQualifiedName() + " extends " + words(of.getSuperclass()));
+            StringBuilder line = new StringBuilder(of.getQualifiedName() + " extends " + Javac.words(of.getSuperclass()));
             for (TypeMirror each : of.getInterfaces()) {
-                line.append(' ').append(words(each));
+                line.append(' ').append(Javac.words(each));
             }
             out.println(line);
         }
-
-        private static String words(TypeMirror type) {
-            switch (type.getKind()) {
-                case ARRAY:
-                    return words(((ArrayType) type).getComponentType()) + "[]";
-                case DECLARED:
-                    return declared((DeclaredType) type);
-                case TYPEVAR:
-                    return variable((TypeParameterElement) ((TypeVariable) type).asElement());
-                case WILDCARD:
-                    return wildcard((WildcardType) type);
-                default:
-                    return type.getKind().name().toLowerCase(Locale.ROOT);
-            }
-        }
-
-        // What encloses a member type is left out.
-        private static String declared(DeclaredType type) {
-            String name = ((TypeElement) type.asElement()).getQualifiedName().toString();
-            if (type.getTypeArguments().isEmpty()) {
-                return name;
-            }
-            return type.getTypeArguments().stream().map(Asker::words).collect(Collectors.joining(",", name + "<", ">"));
-        }
-
-        // The type around a type parameter, and the parameter's place.
-        private static String variable(TypeParameterElement parameter) {
-            TypeElement around = (TypeElement) parameter.getGenericElement();
-            return around.getQualifiedName() + ":" + around.getTypeParameters().indexOf(parameter);
-        }
-
-        private static String wildcard(WildcardType type) {
-            if (type.getExtendsBound() != null) {
-                return "? extends " + words(type.getExtendsBound());
-            }
-            return type.getSuperBound() != null ? "? super " + words(type.getSuperBound()) : "?";
-        }
-    }
-
-    /**
-     * The time from where the first file's declarations are entered to where the last one's are. javac enters all files once more
-     * for the last round, in which there are no roots: that counts for nothing.
-     */
-    private static final class Entering implements TaskListener {
-        private long start = -1;
-        private long end;
-        private boolean isOver;
-
-        @Override
-        public void started(TaskEvent event) {
-            if (event.getKind() == TaskEvent.Kind.ENTER && start < 0) {
-                start = processorNanos();
-            } else if (event.getKind() == TaskEvent.Kind.ANNOTATION_PROCESSING_ROUND) {
-                isOver = true;
-            }
-        }
-
-        @Override
-        public void finished(TaskEvent event) {
-            if (event.getKind() == TaskEvent.Kind.ENTER && !isOver) {
-                end = processorNanos();
-            }
-        }
-    }
-
-    private static final class Errors implements DiagnosticListener<JavaFileObject> {
-        private final boolean isTold;
-        private long count;
-
-        Errors(boolean isTold) {
-            this.isTold = isTold;
-        }
-
-        @Override
-        public void report(Diagnostic<? extends JavaFileObject> diagnostic) {
-            if (diagnostic.getKind() == Diagnostic.Kind.ERROR) {
-                count++;
-                if (isTold) {
-                    System.err.println(diagnostic);
-                }
-            }
-        }
-    }
-
-    // The processor time of this thread alone, so that neither the collector nor the compiler of the JVM is in it.
-    private static long processorNanos() {
-        return ManagementFactory.getThreadMXBean().getCurrentThreadCpuTime();
-    }
-
-    private static JavacTask task(StandardJavaFileManager manager, String folder, List<Path> files, Errors errors) {
-        JavaCompiler compiler = ToolProvider.getSystemJavaCompiler();
-        List<String> options = List.of("-proc:only", "-implicit:none", "-nowarn", "-Xmaxerrs", "100000", "--patch-module", "java.base=" + folder);
-        return (JavacTask) compiler.getTask(null, manager, errors, options, null, manager.getJavaFileObjectsFromPaths(files));
     }
 
     private static boolean isStripped(Tree tree) {
@@ -232,13 +124,9 @@ final class NameBench {
         }
     }
 
-    private static StandardJavaFileManager files() {
-        return ToolProvider.getSystemJavaCompiler().getStandardFileManager(null, null, StandardCharsets.UTF_8);
-    }
-
     private static void stripAll(String folder, List<Path> files) throws IOException {
-        try (StandardJavaFileManager manager = files()) {
-            JavacTask task = task(manager, folder, files, new Errors(true));
+        try (StandardJavaFileManager manager = Javac.files()) {
+            JavacTask task = Javac.task(manager, folder, files, new Javac.Errors(true));
             SourcePositions places = Trees.instance(task).getSourcePositions();
             for (CompilationUnitTree unit : task.parse()) {
                 StringBuilder text = new StringBuilder(unit.getSourceFile().getCharContent(true));
@@ -256,17 +144,17 @@ final class NameBench {
 
     // Each time with files of its own, so that nothing is kept but what the JVM keeps.
     private static void attribute(String folder, List<Path> files, PrintStream said) throws IOException {
-        Errors errors = new Errors(said != null);
+        Javac.Errors errors = new Javac.Errors(said != null);
         Asker asker = new Asker(said);
-        Entering entering = new Entering();
-        try (StandardJavaFileManager manager = files()) {
-            JavacTask task = task(manager, folder, files, errors);
+        Javac.Entering entering = new Javac.Entering();
+        try (StandardJavaFileManager manager = Javac.files()) {
+            JavacTask task = Javac.task(manager, folder, files, errors);
             task.setProcessors(List.of(asker));
             task.addTaskListener(entering);
             task.call();
         }
         if (said == null) {
-            System.out.println((entering.end - entering.start + asker.nanos) / 1e9 + " " + asker.fields + " " + errors.count);
+            System.out.println((entering.nanos() + asker.nanos) / 1e9 + " " + asker.fields + " " + errors.count());
         }
     }
 

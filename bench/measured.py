@@ -1,5 +1,5 @@
 #!/usr/bin/env python3
-"""Builds the program that declarations.py, frames.py, names.py, shapes.py and tokens.py measure, where it is not built yet, and prints its path.
+"""Builds the program that declarations.py, frames.py, names.py, shapes.py, subtypes.py and tokens.py measure, where it is not built yet, and prints its path.
 
     bench/measured.py
 
@@ -26,8 +26,8 @@ NAME = "measured"
 
 # The crates that the program names.
 USED = [
-    "apt_base", "decl_tree", "decl_syntax", "decl_parser", "element_table", "type_mirror", "type_resolve", "java_tokens", "wire_frames",
-    "frame_stream",
+    "apt_base", "decl_tree", "decl_syntax", "decl_parser", "element_table", "type_mirror", "type_layers", "type_resolve", "type_queries",
+    "java_tokens", "wire_frames", "frame_stream",
 ]
 
 # The words with which `rt ci` runs the program, which is to print nothing then.

@@ -15,15 +15,13 @@ a type of its own file, by a single import, of another type of its package, by a
 type, a member type by its canonical name, or of a type that is nowhere. The growth is that of the time for each look-up
 from the small table to the large one.
 
-Of the JDK's module java.base javac writes spaces over the methods, constructors and initializer blocks, so that types,
-their type parameters, their supertypes and their fields are left, and an A over each escape of a surrogate, of which
-alone the program makes no character. Of what is left those files are taken that have units by the program, so that both
-sides read the same. The program has all of them in one table and looks up the types of fields, and the supertypes;
-javac enters them (`-proc:only`) and has a processor ask each field for its type. Of javac the time counts from where
-the files are read and parsed, for the package java.util once with the types of all other packages from the JDK's class
-files, which it reads within that time, and once, over all of the files, with no need of these. It checks besides what
-it enters, and the program does not. What javac does for its last round, all of it once more, is not counted. The JVM is
-warm: rounds before the measured ones are not counted, and only the processor time of the thread that compiles is.
+Of the JDK's module java.base the files are taken that jdk.py leaves, which have types and fields alone. The program has
+all of them in one table and looks up the types of fields, and the supertypes; javac enters them (`-proc:only`) and has a
+processor ask each field for its type. Of javac the time counts from where the files are read and parsed, for the package
+java.util once with the types of all other packages from the JDK's class files, which it reads within that time, and
+once, over all of the files, with no need of these. It checks besides what it enters, and the program does not. What javac
+does for its last round, all of it once more, is not counted. The JVM is warm: rounds before the measured ones are not
+counted, and only the processor time of the thread that compiles is.
 
 What both find is compared line by line, for java.util and for all of the packages: the type of each field and the
 supertypes of each type, with type arguments and without what encloses a member type. How many have an error type for
@@ -33,18 +31,15 @@ Nothing but the ratios means anything on another machine, and no test depends on
 """
 import os
 import re
-import shutil
 import statistics
 import subprocess
 import sys
 import tempfile
-import zipfile
 
+import jdk
 import measured
 
-HERE = os.path.dirname(os.path.abspath(__file__))
 PROGRAM = None
-MODULE, PACKAGE = "java.base/", "java/util/"
 FORMS = ("own", "single", "beside", "demand", "inherited", "qualified", "absent")
 SMALL, LARGE, TURNS, FEW, GOAL = 5_000, 50_000, 5, 1, 1.6
 
@@ -95,81 +90,32 @@ def measure_tables():
 # ---- the JDK's declarations
 
 
-def write_list(folder, name, paths):
-    listed = os.path.join(folder, name)
-    with open(listed, "w", encoding="utf-8") as file:
-        file.writelines(f"{path}\n" for path in paths)
-    return listed
-
-
-def java(words):
-    return ["java", "-Xmx3g", "-cp", words[0], "NameBench", *words[1:]]
-
-
-def whole_files(listed):
-    whole = subprocess.run([PROGRAM, "files", "whole", listed], stdout=subprocess.PIPE, encoding="utf-8", check=True)
-    return whole.stdout.splitlines()
-
-
-def files_of_jdk(folder, sources):
-    """The stripped files of the module that have units, in a folder of all and in one of the package alone, each with a list."""
-    with zipfile.ZipFile(sources) as archive:
-        names = sorted(name for name in archive.namelist() if name.startswith(MODULE) and name.endswith(".java")
-                       and not name.endswith(("/package-info.java", "/module-info.java")))
-        archive.extractall(folder, names)
-    module, package = os.path.join(folder, MODULE), os.path.join(folder, "package")
-    every = [os.path.join(folder, name) for name in names]
-    listed = write_list(folder, "every", every)
-    subprocess.run(java([folder, "strip", module, listed]), check=True)
-    paths = whole_files(listed)
-    for path in set(every) - set(paths):
-        os.remove(path)
-    of_package = []
-    for path in paths:
-        below = os.path.relpath(path, module)
-        if os.path.dirname(below) + "/" == PACKAGE:
-            os.makedirs(os.path.join(package, PACKAGE), exist_ok=True)
-            of_package.append(shutil.copy(path, os.path.join(package, below)))
-    print(f"{len(paths)} files of {MODULE[:-1]}, {len(of_package)} of them of java.util; {len(names) - len(paths)} have no units")
-    return module, write_list(folder, "files", paths), package, write_list(folder, "package-files", of_package)
-
-
 def called(package):
     return "all packages" if package == "-" else package
 
 
-def start_jdk(folder, below, listed):
-    return subprocess.Popen(java([folder, "rounds", below, listed]), stdin=subprocess.PIPE, stdout=subprocess.PIPE, encoding="ascii")
-
-
-def round_of_jdk(jdk):
+def round_of_jdk(javac):
     """The processor time of one round in seconds, the number of fields and that of errors."""
-    jdk.stdin.write("round\n")
-    jdk.stdin.flush()
-    line = jdk.stdout.readline()
-    if not line:
-        sys.exit(f"the JDK ended with {jdk.wait()}")
-    seconds, fields, errors = line.split()
+    seconds, fields, errors = jdk.ask(javac, "round")
     return float(seconds), int(fields), int(errors)
 
 
 def measure_package(folder, of_jdk, package, listed, more, warm):
     """Of javac over some files, and of the program over the declarations of a package in a table of all of them."""
-    jdk = start_jdk(folder, *of_jdk)
+    javac = jdk.start(folder, ["NameBench", "rounds", *of_jdk])
     try:
         for _ in range(warm):
-            round_of_jdk(jdk)
+            round_of_jdk(javac)
         taken = {"fields": [], "supertypes": [], "javac": []}
         counts = {}
         for _ in range(TURNS):
             for step in ("fields", "supertypes"):
                 seconds, _, counts[step] = seconds_of_round([step, package, listed], more)
                 taken[step].append(seconds)
-            seconds, counts["javac"], errors = round_of_jdk(jdk)
+            seconds, counts["javac"], errors = round_of_jdk(javac)
             taken["javac"].append(seconds)
     finally:
-        jdk.stdin.close()
-        jdk.wait()
+        jdk.end(javac)
     if counts["javac"] != counts["fields"]:
         print(f"javac has {counts['javac']} fields there")
     median = {step: statistics.median(all_taken) for step, all_taken in taken.items()}
@@ -193,7 +139,7 @@ def has_error(found):
 def compare(folder, of_jdk, package, listed):
     """Prints what is different for the program and for javac."""
     ours = found_by_name([PROGRAM, "names", "said", package, listed])
-    theirs = found_by_name(java([folder, "said", *of_jdk]))
+    theirs = found_by_name(jdk.java(folder, ["NameBench", "said", *of_jdk]))
     both = ours.keys() & theirs.keys()
     errors = sum(has_error(ours[name]) for name in both)
     others = sorted(name for name in both if ours[name] != theirs[name] and not has_error(ours[name]))
@@ -205,8 +151,8 @@ def compare(folder, of_jdk, package, listed):
 
 def measure_jdk(sources):
     with tempfile.TemporaryDirectory(prefix="apt-bench-names-") as folder:
-        subprocess.run(["javac", "-d", folder, os.path.join(HERE, "NameBench.java")], check=True)
-        module, listed, package, of_package = files_of_jdk(folder, sources)
+        jdk.compile_all(folder)
+        module, listed, package, of_package = jdk.files_of_jdk(PROGRAM, folder, sources)
         compare(folder, (package, of_package), "java.util", listed)
         compare(folder, (module, listed), "-", listed)
         measure_package(folder, (package, of_package), "java.util", listed, MORE_OF_PACKAGE, WARM)
@@ -220,10 +166,10 @@ def main():
     PROGRAM = os.path.abspath(sys.argv[2]) if len(sys.argv) > 2 else measured.program()
     print(f"load {os.getloadavg()[0]:.1f}")
     measure_tables()
-    if shutil.which("javac") is None or shutil.which("java") is None:
-        print("there is no JDK")
-    else:
+    if jdk.is_there():
         measure_jdk(sys.argv[1])
+    else:
+        print("there is no JDK")
 
 
 if __name__ == "__main__":
