@@ -19,6 +19,7 @@
 //! | `unboxed MIRROR` | the primitive type of the box |
 //! | `erasure MIRROR` | the erasure of the type |
 //! | `direct MIRROR` | the direct supertypes, joined by commas, or `[]` |
+//! | `member MIRROR ELEMENT` | the type of the element as a member of the class type |
 //!
 //! A fault is `no such`, `wrong kind` or `too deep`.
 //!
@@ -45,7 +46,7 @@ use std::alloc::Global;
 use std::process::ExitCode;
 use type_mirror::Mirror;
 use type_queries::{
-    QueryFault, boxed, contains, direct_supertypes, erasure, is_assignable, is_same,
+    QueryFault, as_member_of, boxed, contains, direct_supertypes, erasure, is_assignable, is_same,
     is_subsignature, is_subtype, print, type_of, unboxed,
 };
 
@@ -74,6 +75,7 @@ impl Calls for Types {
 fn ask(alloc: Global, table: &Table, words: &[&str]) -> Result<String, CaseFault> {
     match words {
         ["type", at] => type_word(alloc, table, at),
+        ["member", of, at] => member_word(alloc, table, of, at),
         [call, of] => given(alloc, words::mirror(alloc, of), |alloc, of: &Mirror| {
             ask_of(alloc, table, call, of)
         }),
@@ -179,6 +181,23 @@ fn type_word(alloc: Global, table: &Table, at: &str) -> Result<String, CaseFault
     given(alloc, element(alloc, at), |alloc, at: &ElementRef| {
         type_at(alloc, table, at)
     })
+}
+
+// ---- members
+
+fn member_word(alloc: Global, table: &Table, of: &str, at: &str) -> Result<String, CaseFault> {
+    given(
+        alloc,
+        both(words::mirror(alloc, of), element(alloc, at)),
+        |alloc, asked: &(Mirror, ElementRef)| {
+            told(
+                alloc,
+                as_member_of(alloc, table, &asked.0, &asked.1),
+                shown::mirror_word,
+                fault_word,
+            )
+        },
+    )
 }
 
 // ---- units
