@@ -20,6 +20,7 @@
 //! | `erasure MIRROR` | the erasure of the type |
 //! | `direct MIRROR` | the direct supertypes, joined by commas, or `[]` |
 //! | `member MIRROR ELEMENT` | the type of the element as a member of the class type |
+//! | `overrides ELEMENT ELEMENT ELEMENT` | whether the first method overrides the second one in the type |
 //!
 //! A fault is `no such`, `wrong kind` or `too deep`.
 //!
@@ -47,7 +48,7 @@ use std::process::ExitCode;
 use type_mirror::Mirror;
 use type_queries::{
     QueryFault, as_member_of, boxed, contains, direct_supertypes, erasure, is_assignable, is_same,
-    is_subsignature, is_subtype, print, type_of, unboxed,
+    is_subsignature, is_subtype, overrides, print, type_of, unboxed,
 };
 
 /// The questions over one table.
@@ -76,6 +77,7 @@ fn ask(alloc: Global, table: &Table, words: &[&str]) -> Result<String, CaseFault
     match words {
         ["type", at] => type_word(alloc, table, at),
         ["member", of, at] => member_word(alloc, table, of, at),
+        ["overrides", one, other, within] => overrides_word(alloc, table, one, other, within),
         [call, of] => given(alloc, words::mirror(alloc, of), |alloc, of: &Mirror| {
             ask_of(alloc, table, call, of)
         }),
@@ -195,6 +197,27 @@ fn member_word(alloc: Global, table: &Table, of: &str, at: &str) -> Result<Strin
                 as_member_of(alloc, table, &asked.0, &asked.1),
                 shown::mirror_word,
                 fault_word,
+            )
+        },
+    )
+}
+
+fn overrides_word(
+    alloc: Global,
+    table: &Table,
+    one: &str,
+    other: &str,
+    within: &str,
+) -> Result<String, CaseFault> {
+    let methods = both(element(alloc, one), element(alloc, other));
+    given(
+        alloc,
+        both(methods, element(alloc, within)),
+        |alloc, asked: &((ElementRef, ElementRef), ElementRef)| {
+            let (methods, within) = asked;
+            truth(
+                alloc,
+                overrides(alloc, table, &methods.0, &methods.1, within),
             )
         },
     )
