@@ -21,6 +21,7 @@
 //! | `direct MIRROR` | the direct supertypes, joined by commas, or `[]` |
 //! | `member MIRROR ELEMENT` | the type of the element as a member of the class type |
 //! | `overrides ELEMENT ELEMENT ELEMENT` | whether the first method overrides the second one in the type |
+//! | `members ELEMENT` | the members of the type, joined by commas, or `[]` |
 //!
 //! A fault is `no such`, `wrong kind` or `too deep`.
 //!
@@ -47,8 +48,8 @@ use std::alloc::Global;
 use std::process::ExitCode;
 use type_mirror::Mirror;
 use type_queries::{
-    QueryFault, as_member_of, boxed, contains, direct_supertypes, erasure, is_assignable, is_same,
-    is_subsignature, is_subtype, overrides, print, type_of, unboxed,
+    QueryFault, all_members, as_member_of, boxed, contains, direct_supertypes, erasure,
+    is_assignable, is_same, is_subsignature, is_subtype, overrides, print, type_of, unboxed,
 };
 
 /// The questions over one table.
@@ -78,6 +79,7 @@ fn ask(alloc: Global, table: &Table, words: &[&str]) -> Result<String, CaseFault
         ["type", at] => type_word(alloc, table, at),
         ["member", of, at] => member_word(alloc, table, of, at),
         ["overrides", one, other, within] => overrides_word(alloc, table, one, other, within),
+        ["members", at] => members_word(alloc, table, at),
         [call, of] => given(alloc, words::mirror(alloc, of), |alloc, of: &Mirror| {
             ask_of(alloc, table, call, of)
         }),
@@ -221,6 +223,17 @@ fn overrides_word(
             )
         },
     )
+}
+
+fn members_word(alloc: Global, table: &Table, at: &str) -> Result<String, CaseFault> {
+    given(alloc, element(alloc, at), |alloc, at: &ElementRef| {
+        told(
+            alloc,
+            all_members(alloc, table, at),
+            shown::element_words,
+            fault_word,
+        )
+    })
 }
 
 // ---- units

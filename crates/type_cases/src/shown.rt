@@ -42,6 +42,15 @@ fn element(pieces: &mut Pieces, at: &ElementRef) {
     }
 }
 
+fn elements(pieces: &mut Pieces, items: &[ElementRef]) {
+    let mut first = true;
+    for each in items {
+        pieces.add(if first { "" } else { "," });
+        element(pieces, each);
+        first = false;
+    }
+}
+
 fn within(pieces: &mut Pieces, word: &str, piece: &str) {
     pieces.add(word);
     pieces.add("(");
@@ -113,12 +122,7 @@ fn several(pieces: &mut Pieces, items: &[Mirror]) {
 #[cycle(mirrors)]
 fn executable(pieces: &mut Pieces, of: &ExecutableMirror) {
     pieces.add("executable(");
-    let mut first = true;
-    for each in of.variables.as_slice() {
-        pieces.add(if first { "" } else { "," });
-        element(pieces, each);
-        first = false;
-    }
+    elements(pieces, of.variables.as_slice());
     pieces.add(";");
     several(pieces, of.parameters.as_slice());
     pieces.add(";");
@@ -142,5 +146,15 @@ pub fn mirror_words(alloc: Global, list: &List<Mirror>) -> Result<String, CaseFa
         pieces.add("[]");
     }
     several(&mut pieces, list.as_slice());
+    pieces.into_string()
+}
+
+/// The words of several elements, joined by commas, or `[]`.
+pub fn element_words(alloc: Global, list: &List<ElementRef>) -> Result<String, CaseFault> {
+    let mut pieces = Pieces::new(alloc);
+    if list.is_empty() {
+        pieces.add("[]");
+    }
+    elements(&mut pieces, list.as_slice());
     pieces.into_string()
 }
