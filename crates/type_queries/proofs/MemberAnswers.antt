@@ -1,5 +1,5 @@
 -- What the question on the type of a member comes to, by what stands against it.
-use Rattle.std.proofs.Common.{◌≡◌, ◌↔◌, Bool, true, false, Option, None, Some, Ok, Err, sym, ◌∙◌}
+use Rattle.std.proofs.Common.{◌≡◌, ◌↔◌, Bool, true, false, None, Some, Ok, Err, sym, ◌∙◌}
 use Rattle.std.proofs.lemmas.Bool.{false≢true}
 use Rattle.std.specs.Prelude.{IsTrue}
 use Rattle.apt_base.specs.declared.element.ElementRef.{ElementRef}
@@ -13,15 +13,15 @@ use Rattle.type_queries.specs.declared.fault.QueryFault.TheVariants as fault
 module _ (table : TypeTable) (container : Mirror) (at : ElementRef) (there : both_there table container at ≡ true) (r : Bool)
     (kinds : IsTrue r ↔ AreOfKind table container at) where
   pub member-other : r ≡ false → GivesMember (Err fault.WrongKind) table container at
-  member-other no = (there, λ (m : IsMember table container at). false≢true (sym no ∙ kinds.1 m.kinds))
+  member-other fails = (there, λ (m : IsMember table container at). false≢true (sym fails ∙ kinds.1 m.kinds))
 
   is_member : r ≡ true → IsMember table container at
-  is_member yes = record { there = there; kinds = kinds.0 yes }
+  is_member passes = record { there = there; kinds = kinds.0 passes }
 
   pub member-deep : r ≡ true → member_of table all_steps container at ≡ None → GivesMember (Err fault.TooDeep) table container at
-  member-deep yes none = (is_member yes, none)
+  member-deep passes none = (is_member passes, none)
 
   pub member-given : (m : Mirror) → r ≡ true → member_of table all_steps container at ≡ Some m → GivesMember (Ok m) table container at
-  member-given m yes some = (is_member yes, some)
+  member-given m passes some = (is_member passes, some)
 
 pub ruleset answering = (member-other, member-deep, member-given)
