@@ -38,11 +38,11 @@ PROGRAM = None
 TURNS, FEW = 5, 1
 CHAIN, DIAMONDS, GOAL, GROWTH = 64, (10, 20), 1, 3
 
-# How many seconds the rounds take at least by which the longer run has more.
-LEAST = 0.5
+# How many seconds the rounds take at least by which the longer run has more: over java.util, which takes seconds to read, and over a sample.
+LEAST, LEAST_OF_SAMPLE = 2, 0.3
 
-# How many rounds only warm the JDK up, asked and with a new javac each.
-WARM, WARM_NEW = 10, 20
+# How many times a processor asks rounds that take long enough, and how many new javacs there are, only to warm the JDK up.
+WARM, WARM_NEW = 2, 20
 
 # How many differences are printed.
 TOLD = 20
@@ -94,10 +94,10 @@ def run(step, package, listed, rounds):
     return seconds, int(said[1])
 
 
-def rounds_of(seconds_of):
-    """How many rounds take long enough."""
+def rounds_of(seconds_of, least):
+    """How many rounds take as long as that."""
     rounds = 1
-    while seconds_of(rounds) < LEAST:
+    while seconds_of(rounds) < least:
         rounds *= 4
     return rounds
 
@@ -105,10 +105,10 @@ def rounds_of(seconds_of):
 class Program:
     """The program, asked the questions of a step on a package of the files of a list."""
 
-    def __init__(self, step, package, listed):
+    def __init__(self, step, package, listed, least):
         self.asked = step, package, listed
         few, self.questions = run(*self.asked, FEW)
-        self.more = rounds_of(lambda more: run(*self.asked, FEW + more)[0] - few)
+        self.more = rounds_of(lambda more: run(*self.asked, FEW + more)[0] - few, least)
 
     def seconds(self):
         few = run(*self.asked, FEW)[0]
@@ -120,14 +120,13 @@ class Processor:
 
     def __init__(self, folder, step, below, listed):
         self.javac = jdk.start(folder, ["SubtypeBench", "rounds", step, below, listed])
+        self.rounds = rounds_of(self.ask, LEAST_OF_SAMPLE)
         for _ in range(WARM):
-            self.ask(1)
-        self.rounds = rounds_of(self.ask)
-        for _ in range(2):
             self.ask(self.rounds)
 
     def ask(self, rounds):
-        seconds, self.questions, self.held = jdk.ask(self.javac, rounds)
+        seconds, questions, _ = jdk.ask(self.javac, rounds)
+        self.questions = int(questions)
         return float(seconds)
 
     def seconds(self):
@@ -171,11 +170,11 @@ def compare(name, folder, step, package, listed, of_jdk):
         print(f"  {' | '.join(asked)}: {'the program' if asked in ours else 'javac'} alone")
 
 
-def report(name, program, processor):
-    """Prints the questions a second of both, and gives the seconds that the program takes for one."""
+def report(program, processor):
+    """Prints the questions a second of both, and gives the seconds that each takes for one."""
     ours, theirs = measure(program, processor)
-    ours, theirs = ours / program.questions, theirs / int(processor.questions)
-    print(f"{name}: {1 / ours:,.0f} questions a second; javac {1 / theirs:,.0f}; {theirs / ours:.4f} times as many (load {os.getloadavg()[0]:.1f})")
+    ours, theirs = ours / program.questions, theirs / processor.questions
+    print(f"  {1 / ours:,.0f} questions a second; javac {1 / theirs:,.0f}; {theirs / ours:.4f} times as many (load {os.getloadavg()[0]:.1f})", flush=True)
     return ours, theirs
 
 
@@ -197,22 +196,22 @@ def measure_new(folder, of_jdk):
 def measure_package(folder, sources):
     _, listed, *of_package = jdk.files_of_jdk(PROGRAM, folder, sources)
     compare("java.util", folder, "declared", "java.util", listed, of_package)
-    program, processor = Program("declared", "java.util", listed), Processor(folder, "declared", *of_package)
+    program, processor = Program("declared", "java.util", listed, LEAST), Processor(folder, "declared", *of_package)
     try:
-        ours, _ = report("java.util", program, processor)
+        ours, _ = report(program, processor)
     finally:
         processor.end()
     seconds, questions = measure_new(folder, of_package)
-    print(f"  a new javac enters the declarations, makes {questions} questions and asks each once in {seconds * 1e3:.1f} ms, {seconds / (ours * program.questions):.4f} times "
-          f"the program's time for its questions (goal for the ratios: at least {GOAL})")
+    print(f"  a new javac enters the declarations, makes {questions} questions and asks each once in {seconds * 1e3:.1f} ms, "
+          f"{seconds / (ours * program.questions):.4f} times the program's time for its questions (goal for the ratios: at least {GOAL})")
 
 
 def measure_sample(folder, name, form, types, asked):
     below, listed = write_sample(folder, name.replace(" ", "-").replace(",", ""), form, types, asked)
     compare(name, folder, "fields", "sample", listed, (below, listed))
-    program, processor = Program("fields", "sample", listed), Processor(folder, "fields", below, listed)
+    program, processor = Program("fields", "sample", listed, LEAST_OF_SAMPLE), Processor(folder, "fields", below, listed)
     try:
-        return report(name, program, processor)
+        return report(program, processor)
     finally:
         processor.end()
 
