@@ -52,6 +52,7 @@ impl Level {
         self.held.as_slice()
     }
 
+    /// How many types there are.
     pub fn len(&self) -> usize
         ensures { result ≡ length self.now }
     {
