@@ -186,8 +186,8 @@ impl<'a> Subtypes<'a> {
         }
     }
 
-    // What two types decide by themselves.
-    fn decided(&self, types: &Types, pair: Pair) -> Result<Option<Next>, NoMemory>
+    /// What two types decide by themselves, before the supertypes of the first one are asked.
+    pub fn decided(&self, types: &Types, pair: Pair) -> Result<Option<Next>, NoMemory>
         requires { BothKnown types.now pair }
         ensures { IfOk result (λ next. TypesDecide self.now types.now pair next) }
     {

@@ -1,0 +1,4 @@
+pub mod GrownTypes
+pub mod RememberedAnswers
+pub mod RememberedSupertypes
+pub mod RememberedValues
