@@ -12,6 +12,7 @@
 //! | `contains MIRROR MIRROR` | whether the first one contains the second one as a type argument |
 //! | `assignable MIRROR MIRROR` | whether the first one is assignable to the second one |
 //! | `subsignature MIRROR MIRROR` | whether the first one has a subsignature of the second one |
+//! | `remembered QUESTION..` | what the questions give that one value of `Questions` is asked, joined by commas, and behind a semicolon what they give when it is asked all of them once more; a question is `subtype MIRROR MIRROR` or `contains MIRROR MIRROR` |
 //! | `exhausting MIRROR MIRROR` | whether the question on subtypes wants more memory than a search may take |
 //! | `print MIRROR` | the text of the type |
 //! | `type ELEMENT` | the type of the element |
@@ -35,6 +36,7 @@
 #![tactic(auto)]
 
 mod declared;
+mod remembered;
 mod shown;
 mod words;
 
@@ -80,6 +82,7 @@ fn ask(alloc: Global, table: &Table, words: &[&str]) -> Result<String, CaseFault
         ["member", of, at] => member_word(alloc, table, of, at),
         ["overrides", one, other, within] => overrides_word(alloc, table, one, other, within),
         ["members", at] => members_word(alloc, table, at),
+        ["remembered", asked @ ..] => remembered::remembered(alloc, table, asked),
         [call, of] => given(alloc, words::mirror(alloc, of), |alloc, of: &Mirror| {
             ask_of(alloc, table, call, of)
         }),

@@ -1,8 +1,10 @@
+pub mod AddedTypesLaws
 pub mod BoxQuestions
 pub mod JudgedQuestions
 pub mod ListedMembers
 pub mod ListedTexts
 pub mod MemberAnswers
 pub mod NamedElements
+pub mod NodeKinds
 pub mod TypeQuestions
 pub mod TypeTexts

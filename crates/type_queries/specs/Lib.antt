@@ -1,3 +1,4 @@
+pub mod AddedTypes
 pub mod MemberLists
 pub mod MemberQuestion
 pub mod OverridingQuestions

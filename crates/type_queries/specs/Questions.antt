@@ -38,17 +38,20 @@ type_question table at = judged (is_there table at) true (Given (type_of table a
 
 -- ---- kinds
 
-abbrev pub is_executable : Layer Mirror → Bool
+abbrev pub is_executable : {M : Type 0} → Layer M → Bool
 is_executable (Executable variables parameters outcome thrown) = true
 is_executable _ = false
 
-abbrev pub is_package : Layer Mirror → Bool
+abbrev pub is_package : {M : Type 0} → Layer M → Bool
 is_package (Package name) = true
 is_package _ = false
 
 -- no executable and no package
+abbrev pub is_type_layer : {M : Type 0} → Layer M → Bool
+is_type_layer l = not (is_executable l) && not (is_package l)
+
 abbrev pub is_type : Mirror → Bool
-is_type m = not (is_executable (layer m)) && not (is_package (layer m))
+is_type m = is_type_layer (layer m)
 
 -- ---- supertypes and erasures, within 64 steps
 
