@@ -33,8 +33,8 @@ import javax.tools.StandardJavaFileManager;
  * <li>{@code said}: each question is printed with its answer;
  * <li>{@code rounds}: each line of the input has a number, and is answered by the seconds in which one processor asks all of its
  *     questions so many times, how many questions it has, and how many of them are answered by yes;
- * <li>{@code fresh}: each line of the input is answered by the seconds that a new compiler takes to enter the declarations and its
- *     processor to make the questions and ask each once, how many questions there are, and the number of errors.
+ * <li>{@code fresh}: each line of the input is answered by the seconds that a new compiler takes to enter the declarations, those that
+ *     its processor takes to make the questions, and to ask each once, how many questions there are, and the number of errors.
  * </ul>
  */
 final class SubtypeBench {
@@ -140,7 +140,8 @@ final class SubtypeBench {
         private final String mode;
         private final String step;
         private final BufferedReader input;
-        private long nanos;
+        private long making;
+        private long asking;
         private long questions;
 
         Asker(String mode, String step, BufferedReader input) {
@@ -162,6 +163,8 @@ final class SubtypeBench {
             long start = Javac.processorNanos();
             Questions asked = questions(ElementFilter.typesIn(round.getRootElements()));
             questions = asked.all.size();
+            long made = Javac.processorNanos();
+            making = made - start;
             if (mode.equals("said")) {
                 asked.say();
             } else if (mode.equals("rounds")) {
@@ -169,7 +172,7 @@ final class SubtypeBench {
             } else {
                 asked.round();
             }
-            nanos = Javac.processorNanos() - start;
+            asking = Javac.processorNanos() - made;
             return false;
         }
 
@@ -231,7 +234,7 @@ final class SubtypeBench {
             task.call();
         }
         if (words[0].equals("fresh")) {
-            System.out.println((entering.nanos() + asker.nanos) / 1e9 + " " + asker.questions + " " + errors.count());
+            System.out.println(entering.nanos() / 1e9 + " " + asker.making / 1e9 + " " + asker.asking / 1e9 + " " + asker.questions + " " + errors.count());
         }
     }
 
