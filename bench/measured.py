@@ -26,7 +26,7 @@ NAME = "measured"
 
 # The crates that the program names.
 USED = [
-    "apt_base", "decl_tree", "decl_syntax", "decl_parser", "element_table", "type_mirror", "type_layers", "type_resolve", "type_queries",
+    "apt_base", "decl_tree", "decl_syntax", "decl_parser", "element_table", "type_mirror", "type_layers", "type_resolve", "type_memory", "type_queries",
     "java_tokens", "wire_frames", "frame_stream",
 ]
 
