@@ -1,8 +1,8 @@
 // Questions on subtypes over one table, of which what was found out is remembered.
 ghost use Rattle.std.specs.Prelude.{◌≡◌, []};
 ghost use Rattle.type_memory.specs.Known.{Grows, IsKnown, known_of, type_at};
-ghost use Rattle.type_queries.specs.AddedTypes.{IsAdded, IsThere};
-ghost use Rattle.type_queries.specs.Questions.{are_types, subtype_question, contains_question};
+ghost use Rattle.type_queries.specs.AddedTypes.{IsAdded, IsThere, contains_asked, subtype_asked};
+ghost use Rattle.type_queries.specs.Questions.{are_types};
 ghost use Rattle.type_queries.specs.Verdicts.{Gives};
 
 use crate::comparing::truth;
@@ -68,7 +68,7 @@ impl<'a> Questions<'a> {
     pub fn is_subtype(&mut self, one: usize, other: usize) -> Result<bool, QueryFault>
         requires one { IsThere self.old one }
         requires other { IsThere self.old other }
-        ensures answer { Gives result (subtype_question self.old.table (type_at self.old one) (type_at self.old other)) }
+        ensures answer { Gives result (subtype_asked self.old one other) }
         ensures grows { Grows self.old self.new }
     {
         if !self.are_types(one, other) {
@@ -83,7 +83,7 @@ impl<'a> Questions<'a> {
     pub fn contains(&mut self, one: usize, other: usize) -> Result<bool, QueryFault>
         requires one { IsThere self.old one }
         requires other { IsThere self.old other }
-        ensures answer { Gives result (contains_question self.old.table (type_at self.old one) (type_at self.old other)) }
+        ensures answer { Gives result (contains_asked self.old one other) }
         ensures grows { Grows self.old self.new }
     {
         if !self.are_types(one, other) {
