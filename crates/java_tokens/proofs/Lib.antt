@@ -20,3 +20,4 @@ pub mod LinesInBytes
 pub mod Blanks
 pub mod TokensGathered
 pub mod Identifiers
+pub mod TokensRead

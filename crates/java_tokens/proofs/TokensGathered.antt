@@ -8,10 +8,11 @@ use Rattle.std.proofs.lemmas.Slice.Eq.{bytes_eq-Decides}
 use Rattle.std.specs.Bool.{MatchBool}
 use Rattle.std.specs.Str.{chars, IsUtf8, IsCharBoundary, encode_utf8_all}
 use Rattle.java_tokens.specs.declared.token.TokenKind.{TokenKind}
-use Rattle.java_tokens.specs.Tokens.{IsNext, HasNoNext, Element, Reads, IsEnd, Lexeme, tokens_from, AreTokens, IsTokenFault, line_at, line_ends, returns, is_doc}
-use Rattle.java_tokens.specs.declared.token.Token.{Token}
-use Rattle.java_tokens.specs.TokensShown.{shown_token, shown_tokens}
+use Rattle.java_tokens.specs.Tokens.{IsNext, HasNoNext, Element, Reads, IsEnd, Lexeme, tokens_from, AreTokens, IsTokenFault, line_ends, returns, is_doc}
+use Rattle.java_tokens.specs.declared.chars.Chars.{Chars}
+use Rattle.java_tokens.specs.TokensShown.{codes_in, offsets_in}
 use Rattle.java_tokens.specs.Table.{bytes_of, IsFront}
+use Rattle.java_tokens.specs.TokenReading.{IsLexing}
 use Rattle.java_tokens.proofs.TableLemmas.{both_true}
 use Rattle.java_tokens.proofs.NextFronts.{front_taken, next_some}
 use Rattle.java_tokens.proofs.Places.{line_ends-append, returns-append, line_ends_few}
@@ -22,17 +23,9 @@ Reads-snoc : (text : List ℕ) (es : List Element) (rest front after : List ℕ)
 Reads-snoc text [] rest front after k is next = (after, subst (λ t. IsNext t front after k) (sym is) next, refl)
 Reads-snoc text (e ∷ es) rest front after k (between, first, more) next = (between, first, Reads-snoc between es rest front after k more next)
 
--- tokens and separators were read up to a place
-pub record IsLexing (all offsets rest : List ℕ) (before width line : ℕ) (after_return : Bool) (doc : Option (List ℕ)) (tokens : List Lexeme) : Type 0 where
-  pub within : before ≤ length all
-  pub rest_is : chars rest ≡ drop before all
-  pub wide : width ≡ bytes_of all before
-  pub total : width + length rest ≡ length (encode_utf8_all all)
-  pub line_is : line ≡ line_at all before
-  pub return_is : after_return ≡ returns false (take before all)
-  pub es : List Element
-  pub reads : Reads all es (drop before all)
-  pub shown : (more : List Element) → tokens_from all offsets 0 None (es ++ more) ≡ tokens ++ tokens_from all offsets before doc more
+-- some characters behind these tokens of a file were read, with this last doc comment
+abbrev pub IsBehind : Chars → List Lexeme → List ℕ → ℕ → ℕ → Bool → Option (List ℕ) → Type 0
+IsBehind read ts rest width line after_return doc = (before : ℕ) × IsLexing (codes_in read) (offsets_in read) rest before width line after_return doc ts
 
 pub lexing_none : (bs offsets : List ℕ) → IsUtf8 bs → IsLexing (chars bs) offsets bs 0 0 1 false None []
 lexing_none bs offsets utf8 = record {
@@ -230,18 +223,13 @@ moved_at : (all offsets rest text back : List ℕ) (w before before' width width
 moved_at all offsets rest text back w before before' width width' line line' r r' doc' doc'' tokens' tokens'' moved lexing d t =
     lexing_at all offsets (drop w rest) back _ before' _ width' _ line' _ r' doc' doc'' tokens' tokens'' lexing moved.back_is (moved.before_is ∙ ap (λ x. before + length (chars x)) moved.text_is) (moved.width_is ∙ ap (λ x. width + length x) moved.text_is) (moved.line_is ∙ ap (λ x. line + line_ends r (chars x)) moved.text_is) (moved.return_is ∙ ap (λ x. returns r (chars x)) moved.text_is) d t
 
-shown_push : (ts : List Token) (t : Token) → shown_tokens (ts ++ t ∷ []) ≡ shown_tokens ts ++ shown_token t ∷ []
-shown_push [] t = refl
-shown_push (x ∷ ts) t = ap (λ l. shown_token x ∷ l) (shown_push ts t)
+pub moved_token : (all offsets rest text back : List ℕ) (w before before' width width' line line' : ℕ) (r r' : Bool) (doc : Option (List ℕ)) (ts : List Lexeme) (token : Lexeme) (kind : TokenKind) → IsUtf8 rest → IsMoved rest text back w before before' width width' line line' r r'
+    → IsLexing all offsets rest before width line r doc ts → IsFront (chars rest) w (Some kind) → token ≡ record { kind = kind; start = slice_index offsets before; line = line; text = text; doc = doc } → IsLexing all offsets back before' width' line' r' None (ts ++ token ∷ [])
+moved_token all offsets rest text back w before before' width width' line line' r r' doc ts token kind utf8 moved lexing front shows =
+    moved_at all offsets rest text back w before before' width width' line line' r r' None None _ (ts ++ token ∷ []) moved (lexing_token all offsets rest before width line w r doc ts kind utf8 lexing front) refl
+    (ap (λ x. ts ++ x ∷ []) (shows ∙ ap (λ x. record { kind = kind; start = slice_index offsets before; line = line; text = x; doc = doc }) moved.text_is))
 
-pub moved_token : (all offsets rest text back : List ℕ) (w before before' width width' line line' : ℕ) (r r' : Bool) (doc doc' : Option (List ℕ)) (ts ts' : List Token) (token : Token) (kind : TokenKind) → IsUtf8 rest → IsMoved rest text back w before before' width width' line line' r r'
-    → IsLexing all offsets rest before width line r doc (shown_tokens ts) → IsFront (chars rest) w (Some kind) → ts' ≡ ts ++ token ∷ [] → shown_token token ≡ record { kind = kind; start = slice_index offsets before; line = line; text = text; doc = doc } → doc' ≡ None
-    → IsLexing all offsets back before' width' line' r' doc' (shown_tokens ts')
-moved_token all offsets rest text back w before before' width width' line line' r r' doc doc' ts ts' token kind utf8 moved lexing front pushed shows no_doc =
-    moved_at all offsets rest text back w before before' width width' line line' r r' None doc' _ (shown_tokens ts') moved (lexing_token all offsets rest before width line w r doc (shown_tokens ts) kind utf8 lexing front) no_doc
-    (ap shown_tokens pushed ∙ shown_push ts token ∙ ap (λ x. shown_tokens ts ++ x ∷ []) (shows ∙ ap (λ x. record { kind = kind; start = slice_index offsets before; line = line; text = x; doc = doc }) moved.text_is))
-
-pub moved_separator : (all offsets rest text back : List ℕ) (w before before' width width' line line' : ℕ) (r r' : Bool) (doc doc' : Option (List ℕ)) (ts ts' : List Token) → IsUtf8 rest → IsMoved rest text back w before before' width width' line line' r r'
-    → IsLexing all offsets rest before width line r doc (shown_tokens ts) → IsFront (chars rest) w None → ts' ≡ ts → doc' ≡ cond (is_doc (chars text)) (Some text) doc → IsLexing all offsets back before' width' line' r' doc' (shown_tokens ts')
-moved_separator all offsets rest text back w before before' width width' line line' r r' doc doc' ts ts' utf8 moved lexing front same_tokens doc_is =
-    moved_at all offsets rest text back w before before' width width' line line' r r' doc' doc' _ (shown_tokens ts') moved (lexing_separator all offsets rest before width line w r doc doc' (shown_tokens ts) utf8 lexing front (doc_is ∙ ap (λ x. cond (is_doc (chars x)) (Some x) doc) moved.text_is)) refl (ap shown_tokens same_tokens)
+pub moved_separator : (all offsets rest text back : List ℕ) (w before before' width width' line line' : ℕ) (r r' : Bool) (doc doc' : Option (List ℕ)) (ts : List Lexeme) → IsUtf8 rest → IsMoved rest text back w before before' width width' line line' r r'
+    → IsLexing all offsets rest before width line r doc ts → IsFront (chars rest) w None → doc' ≡ cond (is_doc (chars text)) (Some text) doc → IsLexing all offsets back before' width' line' r' doc' ts
+moved_separator all offsets rest text back w before before' width width' line line' r r' doc doc' ts utf8 moved lexing front doc_is =
+    moved_at all offsets rest text back w before before' width width' line line' r r' doc' doc' _ ts moved (lexing_separator all offsets rest before width line w r doc doc' ts utf8 lexing front (doc_is ∙ ap (λ x. cond (is_doc (chars x)) (Some x) doc) moved.text_is)) refl refl

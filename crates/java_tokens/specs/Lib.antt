@@ -8,3 +8,4 @@ pub mod Literals
 pub mod Tokens
 pub mod Table
 pub mod TokensShown
+pub mod TokenReading

@@ -7,6 +7,8 @@
 //! another, and none could be longer; or the place of the first at which no such list goes on (`IsTokenFault`). What a
 //! token or separator is stands in `specs/Literals.antt` and `specs/Tokens.antt`, in the forms of the JLS.
 //!
+//! `TokenReader` gives the same tokens one after another, for who needs no list of them.
+//!
 //! Each file has exactly one list or one place. Want of memory alone is answered in the place of it. Nothing is
 //! promised of values of literals: a literal, a text block too, is its characters.
 #![tactic(auto)]
@@ -22,6 +24,7 @@ mod place;
 mod reading;
 mod shift;
 mod token;
+mod token_reader;
 mod words;
 
 pub use chars::Chars;
@@ -30,3 +33,4 @@ pub use fault::TextFault;
 pub use lexing::tokens;
 pub use shift::Shift;
 pub use token::{Token, TokenKind};
+pub use token_reader::TokenReader;

@@ -5,7 +5,7 @@ use Rattle.std.specs.Bool.{MatchBool}
 use Rattle.std.specs.Str.{chars}
 use Rattle.java_tokens.specs.Tokens.{IsEnd}
 use Rattle.java_tokens.proofs.TokensGathered.{end_empty, end_tested}
-use Rattle.java_tokens.proofs.lexing.is_end.Goals as goal
+use Rattle.java_tokens.proofs.token_reader.is_end.Goals as goal
 
 pub returns-then-is_empty : goal.returns-then-is_empty
 returns-then-is_empty c =
