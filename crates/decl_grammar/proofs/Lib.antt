@@ -51,3 +51,4 @@ pub mod Nests
 pub mod TypeWins
 pub mod RowReads
 pub mod Kept
+pub mod SymbolsGathered

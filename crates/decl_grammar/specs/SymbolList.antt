@@ -1,10 +1,14 @@
--- The symbols of a list of tokens: one for each token, but a `>>` is two and a `>>>` three (JLS 3.5). Two tokens are of a sort of their own by the token that follows.
-use Rattle.std.specs.Prelude.{ℕ, ◌+◌, ◌==◌, Bool, true, false, List, [], ◌∷◌, ◌++◌, if◌then◌else◌, nat_le}
+-- The symbols of a list of tokens, and those of a file: one for each token, but a `>>` is two and a `>>>` three (JLS 3.5). Two tokens are of a sort of their own by the token that follows.
+use Rattle.std.specs.Prelude.{◌≡◌, ℕ, ◌+◌, ◌==◌, Bool, true, false, List, [], ◌∷◌, ◌++◌, if◌then◌else◌, nat_le, Option, None, Some, Result, MatchResult, Vec}
+use Rattle.std.specs.declared.alloc.Global.{Global}
+use Rattle.java_tokens.specs.declared.chars.Chars.{Chars}
+use Rattle.java_tokens.specs.declared.fault.TextFault.{TextFault}
 use Rattle.java_tokens.specs.declared.token.TokenKind.{TokenKind}
 use Rattle.java_tokens.specs.declared.token.TokenKind.TheVariants.{Identifier, Reserved, Integer, Floating, Character, Text, TextBlock, Operator, Truth, Null}
 use Rattle.java_tokens.specs.Tokens.{Lexeme}
 use Rattle.java_tokens.specs.declared.token.Token.{Token}
-use Rattle.java_tokens.specs.TokensShown.{shown_token, shown_tokens}
+use Rattle.java_tokens.specs.CharsShown.{FaultAt}
+use Rattle.java_tokens.specs.TokensShown.{shown_token, AreTokensIn, IsTokenFaultIn}
 use Rattle.decl_grammar.specs.declared.symbol.Symbol.{Symbol}
 
 -- a sort of which no form has a symbol; no token has a number beyond its table
@@ -60,6 +64,15 @@ abbrev pub symbols_of : List Lexeme → List Symbol
 symbols_of [] = []
 symbols_of (t ∷ ts) = symbols_before t ts ++ symbols_of ts
 
--- those of a token before others, as code has them
-abbrev pub shown_before : Token → List Token → List Symbol
-shown_before token others = symbols_before (shown_token token) (shown_tokens others)
+-- the next token, where there is one
+abbrev pub shown_next : Option Token → List Lexeme
+shown_next None = []
+shown_next (Some token) = shown_token token ∷ []
+
+-- the symbols of a token before the next one, as code has them
+abbrev pub shown_before : Token → Option Token → List Symbol
+shown_before token next = symbols_before (shown_token token) (shown_next next)
+
+-- a file has these symbols, or no list of its tokens goes on, or memory is wanted
+abbrev pub AreSymbols : Chars → Result (Vec Symbol Global) TextFault → Type 0
+AreSymbols read result = MatchResult result (λ found. (ts : List Lexeme) × AreTokensIn read ts × (found.items ≡ symbols_of ts)) (FaultAt (IsTokenFaultIn read))

@@ -1,7 +1,7 @@
 //! The grammar of declarations (JLS 4, 7.3 to 9.7, and of 15 what initialisers and values are told by) as data, and its laws.
 //!
-//! `specs/Types`, `Expressions` and `Grammar` have the grammar, over the symbols of tokens (`symbols`), and
-//! `Rule` the forms that hold themselves. What is a phrase of a form and what begins one with so much open is defined by
+//! `specs/Types`, `Expressions` and `Grammar` have the grammar, over the symbols of a file, which `symbols` makes as its
+//! tokens are read, and `Rule` the forms that hold themselves. What is a phrase of a form and what begins one with so much open is defined by
 //! cases on forms (`specs/Form`), and so are the first fault and the first symbol at which too much is open
 //! (`specs/File`). How forms are read from left to right, and what a function that reads must return, is in
 //! `specs/Reading`. A file has at most one reading (`one_reading`), and each front of what begins one begins one

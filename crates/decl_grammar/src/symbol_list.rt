@@ -1,11 +1,11 @@
-// The symbols of a list of tokens.
-ghost use Rattle.std.specs.Prelude.{◌≡◌, ◌++◌, [], ◌∷◌, List, IfOk};
-ghost use Rattle.java_tokens.specs.TokensShown.{shown_doc, shown_token, shown_tokens};
-ghost use Rattle.decl_grammar.specs.SymbolList.{word_sort, operator_sort, sort_of, is_before, sort_before, symbol_of, symbols_of, shown_before};
+// The symbols of the tokens of a file.
+ghost use Rattle.std.specs.Prelude.{◌≡◌, ◌++◌, IfOk, IfErr};
+ghost use Rattle.java_tokens.specs.declared.fault.TextFault.TheVariants.{Memory};
+ghost use Rattle.java_tokens.specs.TokensShown.{shown_doc, shown_token};
+ghost use Rattle.decl_grammar.specs.SymbolList.{word_sort, operator_sort, sort_of, is_before, sort_before, symbol_of, shown_next, shown_before, AreSymbols};
 
 use crate::symbol::{Symbol, TokenText};
-use apt_base::NoMemory;
-use java_tokens::{Token, TokenKind};
+use java_tokens::{Chars, TextFault, Token, TokenKind, TokenReader};
 use std::alloc::Global;
 
 // The sort of a keyword with this number.
@@ -40,25 +40,25 @@ fn kind_sort(kind: TokenKind) -> u8
     }
 }
 
-// Whether a token of this sort stands before the others.
-fn is_before_sort(sort: u8, tokens: &[Token<'_>]) -> bool
-    ensures { result ≡ is_before sort (shown_tokens tokens.now) }
+// Whether the next token is of this sort.
+fn is_before_sort(sort: u8, next: &Option<Token<'_>>) -> bool
+    ensures { result ≡ is_before sort (shown_next next.now) }
 {
-    match tokens {
-        [] => false,
-        [token, ..] => kind_sort(token.kind) == sort,
+    match next {
+        None => false,
+        Some(token) => kind_sort(token.kind) == sort,
     }
 }
 
-// The sort of a token before others.
-fn sort_at(sort: u8, tokens: &[Token<'_>]) -> u8
-    ensures { result ≡ sort_before sort (shown_tokens tokens.now) }
+// The sort of a token before the next one.
+fn sort_at(sort: u8, next: &Option<Token<'_>>) -> u8
+    ensures { result ≡ sort_before sort (shown_next next.now) }
 {
     if sort == 0 {
-        return if is_before_sort(73, tokens) { 1 } else { 0 };
+        return if is_before_sort(73, next) { 1 } else { 0 };
     }
     if sort == 71 {
-        return if is_before_sort(37, tokens) { 9 } else { 71 };
+        return if is_before_sort(37, next) { 9 } else { 71 };
     }
     sort
 }
@@ -87,13 +87,14 @@ fn symbol_at<'a>(sort: u8, further: bool, token: &Token<'a>) -> Symbol<'a>
     }
 }
 
-// Puts the symbols of a token before others behind those before it.
+// Puts the symbols of a token before the next one behind those before it.
 fn add_symbols<'a>(
     all: &mut Vec<Symbol<'a>>,
     token: &Token<'a>,
-    others: &[Token<'a>],
-) -> Result<(), NoMemory>
-    ensures { IfOk result (λ u. all.new.items ≡ all.old.items ++ shown_before token.now others.now) }
+    next: &Option<Token<'a>>,
+) -> Result<(), TextFault>
+    ensures put { IfOk result (λ u. all.new.items ≡ all.old.items ++ shown_before token.now next.now) }
+    ensures memory { IfErr result (λ e. e ≡ Memory) }
 {
     let sort = kind_sort(token.kind);
     if sort == 98 {
@@ -107,19 +108,22 @@ fn add_symbols<'a>(
         all.push(symbol_at(74, true, token))?;
         return Ok(());
     }
-    all.push(symbol_at(sort_at(sort, others), false, token))?;
+    all.push(symbol_at(sort_at(sort, next), false, token))?;
     Ok(())
 }
 
-/// The symbols of these tokens.
-pub fn symbols<'a>(alloc: Global, tokens: &[Token<'a>]) -> Result<Vec<Symbol<'a>>, NoMemory>
-    ensures { IfOk result (λ v. v.items ≡ symbols_of (shown_tokens tokens.now)) }
+/// The symbols of a file, made as its tokens are read, of which no more than two are held at a time; or `Bad` with the offset in the file of the first
+/// token or separator at which no list of tokens goes on. `Memory` comes for want of memory alone.
+pub fn symbols<'a>(alloc: Global, chars: &'a Chars) -> Result<Vec<Symbol<'a>>, TextFault>
+    ensures { AreSymbols chars.now result }
 {
     let mut all = Vec::new(alloc);
-    let mut rest = tokens;
-    'row: while let [token, after @ ..] = rest {
-        add_symbols(&mut all, token, after)?;
-        rest = after;
+    let mut reader = TokenReader::new(chars);
+    let mut last = reader.next()?;
+    'row: while let Some(token) = last {
+        let next = reader.next()?;
+        add_symbols(&mut all, &token, &next)?;
+        last = next;
     }
     Ok(all)
 }

@@ -5,12 +5,12 @@ use Rattle.apt_base.specs.declared.kinds.What.TheVariants as limits
 use Rattle.apt_base.specs.declared.memory.NoMemory.{NoMemory}
 use Rattle.decl_grammar.specs.declared.symbol.Symbol.{Symbol}
 use Rattle.java_tokens.specs.declared.chars.Chars.{Chars}
-use Rattle.java_tokens.specs.declared.token.Token.{Token}
 use Rattle.java_tokens.specs.declared.fault.TextFault.{TextFault}
 use Rattle.java_tokens.specs.declared.fault.TextFault.TheVariants as text
 use Rattle.java_tokens.specs.Characters.{AreChars, IsCharFault}
 use Rattle.java_tokens.specs.CharsShown.{FaultAt}
-use Rattle.java_tokens.specs.TokensShown.{placed_in, shown_tokens, AreTokensIn, IsTokenFaultIn}
+use Rattle.java_tokens.specs.Tokens.{Lexeme}
+use Rattle.java_tokens.specs.TokensShown.{placed_in, AreTokensIn, IsTokenFaultIn}
 use Rattle.decl_grammar.specs.SymbolList.{symbols_of}
 use Rattle.decl_parser.specs.declared.parsing.Parsed.{Parsed}
 use Rattle.decl_parser.specs.declared.parsing.FileFault.{FileFault}
@@ -121,7 +121,7 @@ info-whole ts x end r w (without_memory same) = no_memory same
 pub info-memory : (ts : List Symbol) (end : ℕ) → AnswersInfo end ts (Err faults.Memory)
 info-memory ts end = no_memory refl
 
--- ---- from the tokens of a file on
+-- ---- from the symbols of a file on
 
 pub symbols-info : (info : Bool) (end : ℕ) (ts : List Symbol) (r : Result Parsed FileFault) → info ≡ true → AnswersInfo end ts r → AnswersSymbols info end ts r
 symbols-info true end ts r is answer = answer
@@ -131,17 +131,10 @@ pub symbols-ordinary : (info : Bool) (end : ℕ) (ts : List Symbol) (r : Result 
 symbols-ordinary true end ts r is answer = absurd cc
 symbols-ordinary false end ts r is answer = answer
 
-pub tokens-symbols : (info : Bool) (end : ℕ) (row ts : List Symbol) (r : Result Parsed FileFault) → row ≡ ts → AnswersSymbols info end row r → AnswersSymbols info end ts r
-tokens-symbols info end row ts r same answer = subst (λ (xs : List Symbol). AnswersSymbols info end xs r) same answer
-
-pub symbols-memory : (info : Bool) (end : ℕ) (ts : List Symbol) → AnswersSymbols info end ts (Err faults.Memory)
-symbols-memory true end ts = no_memory refl
-symbols-memory false end ts = no_memory refl
-
 -- ---- from the characters of a file on
 
-pub chars-tokens : (info : Bool) (end : ℕ) (read : Chars) (ts : List Token) (r : Result Parsed FileFault) → AreTokensIn read (shown_tokens ts) → AnswersSymbols info end (symbols_of (shown_tokens ts)) r → AnswersChars info end read r
-chars-tokens info end read ts r are answer = by_tokens (shown_tokens ts) are answer
+pub chars-symbols : (info : Bool) (end : ℕ) (read : Chars) (ts : List Lexeme) (row : List Symbol) (r : Result Parsed FileFault) → AreTokensIn read ts → row ≡ symbols_of ts → AnswersSymbols info end row r → AnswersChars info end read r
+chars-symbols info end read ts row r are same answer = by_tokens ts are (subst (λ (xs : List Symbol). AnswersSymbols info end xs r) same answer)
 
 pub chars-fault : (info : Bool) (end : ℕ) (read : Chars) (fault : TextFault) (e : FileFault) → e ≡ fault_of fault → FaultAt (IsTokenFaultIn read) fault → AnswersChars info end read (Err e)
 chars-fault info end read (text.Bad place) e is at = token_bad place (ap Err is) at

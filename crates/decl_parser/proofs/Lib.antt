@@ -7,4 +7,3 @@ pub mod MemberReads
 pub mod OneAnswer
 pub mod ShownChars
 pub mod FileAnswers
-pub mod CutTokens

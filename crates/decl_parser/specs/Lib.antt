@@ -4,4 +4,3 @@ pub mod NamesShown
 pub mod Lines
 pub mod LinesShown
 pub mod Parsed
-pub mod Halves

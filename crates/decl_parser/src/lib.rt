@@ -10,7 +10,6 @@
 mod bodies;
 mod declarations;
 mod file;
-mod halves;
 mod info;
 mod info_file;
 mod laws;

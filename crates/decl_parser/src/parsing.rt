@@ -1,25 +1,22 @@
 // Reads files: their units with the lines of the elements, or why there are none.
 ghost use Rattle.std.specs.Prelude.{◌≡◌, ◌≤◌, ℕ, Err, length, take};
 ghost use Rattle.decl_parser.specs.FileShown.{info_view, ordinary_view};
-ghost use Rattle.java_tokens.specs.TokensShown.{shown_tokens};
 ghost use Rattle.decl_grammar.specs.Grammar.{ordinary, package_info};
 ghost use Rattle.decl_grammar.specs.File.{BeginsPhrase};
-ghost use Rattle.decl_grammar.specs.SymbolList.{symbols_of};
 ghost use Rattle.decl_limits.specs.Texts.{AreTexts};
 ghost use Rattle.decl_limits.specs.Limits.{IsWhole, AreLegal, IsLegalInfo};
 ghost use Rattle.decl_parser.specs.Parsed.{offset_at, is_info, fault_of, HasFaultAt, IsDeepAt, GivesNamed, GivesNamedInfo, UnlessCrowded, AnswersOrdinary, AnswersInfo, AnswersSymbols, AnswersChars, AnswersFile};
 
 use crate::file::{OrdinaryFile, parse_ordinary};
-use crate::halves::symbols_in_halves;
 use crate::info::parse_info;
 use crate::info_file::InfoFile;
 use crate::naming::{is_file_named, is_info_named};
 use crate::units::{info_declared, ordinary_declared};
 use apt_base::{List, What};
 use decl_children::is_crowded;
-use decl_grammar::{Lines, ParseFault, Symbol};
+use decl_grammar::{Lines, ParseFault, Symbol, symbols};
 use decl_tree::Unit;
-use java_tokens::{Chars, TextFault, Token, read_chars, tokens};
+use java_tokens::{Chars, TextFault, read_chars};
 use std::alloc::Global;
 
 // The most nested types, lists of type arguments and values that may be open at a token.
@@ -216,17 +213,6 @@ fn of_symbols(
     ordinary_of_symbols(alloc, symbols, end)
 }
 
-// What the tokens of a file come to, which are let go before its symbols are read.
-fn of_tokens(alloc: Global, info: bool, list: Vec<Token<'_>>, end: u32) -> Result<Parsed, FileFault>
-    requires { AreTexts (symbols_of (shown_tokens list.items)) }
-    ensures { AnswersSymbols info end (symbols_of (shown_tokens list.entry.items)) result }
-{
-    match symbols_in_halves(alloc, list) {
-        Ok(all) => of_symbols(alloc, info, all.as_slice(), end),
-        Err(_) => Err(FileFault::Memory),
-    }
-}
-
 // A fault of characters or tokens.
 fn text_fault(fault: TextFault) -> FileFault
     ensures { result ≡ fault_of fault }
@@ -241,8 +227,8 @@ fn text_fault(fault: TextFault) -> FileFault
 fn of_chars(alloc: Global, info: bool, chars: &Chars, end: u32) -> Result<Parsed, FileFault>
     ensures { AnswersChars info end chars.now result }
 {
-    match tokens(alloc, chars) {
-        Ok(list) => of_tokens(alloc, info, list, end),
+    match symbols(alloc, chars) {
+        Ok(all) => of_symbols(alloc, info, all.as_slice(), end),
         Err(fault) => Err(text_fault(fault)),
     }
 }
