@@ -1,5 +1,5 @@
 -- What the functions of the walk that call one another answer, from what their calls answered.
-use Rattle.std.proofs.Common.{◌≡◌, ℕ, ◌+◌, ◌*◌, ◌<◌, ◌≤◌, Bool, true, false, ◌||◌, List, [], ◌∷◌, ◌++◌, drop, length, Result, Ok, Err, ◌⊎◌, inl, inr, ⊎_elim, refl, sym, ap, subst, ◌∙◌, arith}
+use Rattle.std.proofs.Common.{◌≡◌, ℕ, ◌+◌, ◌*◌, ◌<◌, ◌≤◌, Bool, true, false, ◌||◌, List, [], ◌∷◌, drop, length, Result, Ok, ◌⊎◌, inl, inr, ⊎_elim, refl, sym, ap, subst, ◌∙◌, arith}
 use Rattle.std.proofs.lemmas.Bool.{eqb-true}
 use Rattle.apt_base.specs.declared.memory.NoMemory.{NoMemory}
 use Rattle.decl_tree.specs.declared.declaration.TypeKind.{TypeKind}
@@ -10,7 +10,7 @@ use Rattle.decl_grammar.specs.declared.written.Modifiers.{Modifiers}
 use Rattle.decl_grammar.specs.Reading.{has, starts, done}
 use Rattle.decl_grammar.specs.Form.{first_of, nested_type}
 use Rattle.decl_grammar.specs.Types.{type_modifiers}
-use Rattle.decl_grammar.specs.Grammar.{member_form, type_rest}
+use Rattle.decl_grammar.specs.Grammar.{member_form}
 use Rattle.decl_grammar.specs.Rule.{reads}
 use Rattle.decl_grammar.proofs.OneToken.{not_both, one_or}
 use Rattle.decl_limits.specs.Children.{most}
@@ -18,7 +18,7 @@ use Rattle.decl_children.specs.Fronts.{Passes}
 use Rattle.decl_children.specs.Members.{MemberCrowds, TypeCrowds, heading_of}
 use Rattle.decl_children.specs.Results.{ExecutableCrowds}
 use Rattle.decl_children.specs.KindWords.{front_word, is_enum}
-use Rattle.decl_children.specs.TypeWalks.{Walks, Steps, has_constructor, added_to, MembersOver, MembersEnd, TypeEnds, ParamsOver, ConstantsOver, EnumOver, EnumEnd, enum_front}
+use Rattle.decl_children.specs.TypeWalks.{Walks, Steps, has_constructor, MembersOver, MembersEnd, TypeEnds, ParamsOver, ConstantsOver, EnumOver, EnumEnd, enum_front}
 use Rattle.decl_children.specs.WalkSteps.{OneMore, NothingSteps, MembersSame}
 use Rattle.decl_children.specs.declared.walks.Walk.{Walk}
 use Rattle.decl_children.specs.declared.walks.Passed.{Passed}
@@ -29,9 +29,9 @@ use Rattle.decl_children.proofs.FileRows.{type-begins}
 use Rattle.decl_children.proofs.TypeReads.{heading-ends}
 use Rattle.decl_children.proofs.Passages.{passes-reads}
 use Rattle.decl_children.proofs.MemberEnds.{member-never}
-use Rattle.decl_children.proofs.MemberWalks.{in_type, in_executable, member-back, MemberTo}
+use Rattle.decl_children.proofs.MemberWalks.{in_type, in_executable, member-back}
 use Rattle.decl_children.proofs.MembersWalks.{most-full, over-here}
-use Rattle.decl_children.proofs.KindWalks.{HeadedOver, HeadedEnd, walks-as, headed-goes, headed-back, headed-as, headed-ends, ends-headed, end-as, rest-out, form-first, form-never, form_of, starts-as}
+use Rattle.decl_children.proofs.KindWalks.{HeadedOver, walks-as, headed-goes, headed-back, headed-as, headed-ends, ends-headed, end-as, rest-out, form-first, form-never, form_of, starts-as}
 use Rattle.decl_children.proofs.EnumWalks.{EnumRead, enum-goes, enum-back, enum-ends, ends-enum, enum-as}
 use Rattle.decl_children.proofs.WalkSteps.{passes-falls, steps-of, marks-not, type-not, type-none, type-to, same-most, same-goes}
 

@@ -1,5 +1,5 @@
 -- When an enum is full, and how far it goes, by its heading, its constants and what stands behind them.
-use Rattle.std.proofs.Common.{◌≡◌, ℕ, ◌+◌, ◌*◌, ◌<◌, ◌≤◌, Bool, true, false, List, [], ◌∷◌, ◌++◌, drop, length, ◌⊎◌, inl, inr, ⊎_elim, refl, sym, ap, subst, ◌∙◌, append_assoc, arith}
+use Rattle.std.proofs.Common.{◌≡◌, ℕ, ◌+◌, ◌*◌, ◌<◌, ◌≤◌, true, false, List, [], ◌∷◌, ◌++◌, drop, length, ◌⊎◌, inl, inr, ⊎_elim, refl, sym, ap, subst, ◌∙◌, append_assoc, arith}
 use Rattle.std.proofs.lemmas.Bool.{eqb-true}
 use Rattle.decl_tree.specs.declared.declaration.TypeKind.{TypeKind}
 use Rattle.decl_tree.specs.declared.declaration.TypeKind.TheVariants as kind
@@ -18,10 +18,10 @@ use Rattle.decl_grammar.proofs.OneToken.{ok, more, disjoint, not_both}
 use Rattle.decl_grammar.proofs.Rivals.{plain}
 use Rattle.decl_grammar.proofs.RuleFair.{fair}
 use Rattle.decl_grammar.proofs.Knot.{IsSound, sound-plain}
-use Rattle.decl_limits.specs.Children.{most, Then, IsFull, NextTypeParam, NextConstant, declared_children, enum_heading, whole_constants, generic_name}
+use Rattle.decl_limits.specs.Children.{most, declared_children, enum_heading, whole_constants, generic_name}
 use Rattle.decl_children.specs.Fronts.{SomeFront, Passes}
-use Rattle.decl_children.specs.Members.{TypeCrowds, MembersFull, HeadingCrowds, TooLong, heading_of, closed_members}
-use Rattle.decl_children.specs.TypeWalks.{has_constructor, added_to, MembersOver, MembersEnd, TypeEnds, enum_front, enum_tail, ParamsOver, ConstantsOver, EnumOver, EnumEnd}
+use Rattle.decl_children.specs.Members.{TypeCrowds, MembersFull, HeadingCrowds, TooLong, closed_members}
+use Rattle.decl_children.specs.TypeWalks.{has_constructor, added_to, TypeEnds, enum_front, enum_tail, ParamsOver, ConstantsOver, EnumOver, EnumEnd}
 use Rattle.decl_children.specs.KindWords.{front_word}
 use Rattle.decl_crossings.proofs.PhraseReads.{whole-reads, read-phrase}
 use Rattle.decl_children.proofs.CommaRows.{item-starts}
@@ -31,8 +31,7 @@ use Rattle.decl_children.proofs.Thens.{then-back, values-same}
 use Rattle.decl_children.proofs.TypeCases.{TypeCase, in_params, in_constants, in_members, in_added, type-case, case-type}
 use Rattle.decl_children.proofs.TypeReads.{heading-ends, heading-read, whole-read}
 use Rattle.decl_children.proofs.Passages.{passes-reads}
-use Rattle.decl_children.proofs.TypeSplits.{Split}
-use Rattle.decl_children.proofs.EnumSplits.{ClosedAt, MembersAt, FrontAt, enum-out, enum-in, tail-out, tail-closed, tail-members, constants-out, constants-in}
+use Rattle.decl_children.proofs.EnumSplits.{ClosedAt, MembersAt, enum-out, enum-in, tail-out, tail-closed, tail-members, constants-out, constants-in}
 use Rattle.decl_children.proofs.KindWalks.{rest-out, rest-in, form-first, form-never, form_of, starts-as, same-kind, heading-start}
 
 front-ok : ok enum_front ≡ true

@@ -1,5 +1,5 @@
 -- When a type is full, and how far it goes, by its heading and what stands behind it.
-use Rattle.std.proofs.Common.{◌≡◌, ◌==◌, ℕ, ◌+◌, ◌*◌, ◌<◌, ◌≤◌, Bool, true, false, List, [], ◌∷◌, ◌++◌, drop, length, Result, Ok, Err, ◌⊎◌, inl, inr, ⊎_elim, refl, sym, ap, subst, ◌∙◌, append_assoc, length-append, arith}
+use Rattle.std.proofs.Common.{◌≡◌, ◌==◌, ℕ, ◌+◌, ◌*◌, true, false, List, [], ◌∷◌, ◌++◌, length, Result, Ok, Err, ◌⊎◌, inl, inr, ⊎_elim, refl, sym, ap, subst, ◌∙◌, append_assoc, arith}
 use Rattle.std.proofs.lemmas.Bool.{eqb-true}
 use Rattle.apt_base.specs.declared.memory.NoMemory.{NoMemory}
 use Rattle.decl_tree.specs.declared.declaration.TypeKind.{TypeKind}
@@ -7,30 +7,26 @@ use Rattle.decl_tree.specs.declared.declaration.TypeKind.TheVariants as kind
 use Rattle.decl_grammar.specs.declared.symbol.Symbol.{Symbol}
 use Rattle.decl_grammar.specs.declared.written.MemberAt.{MemberAt}
 use Rattle.decl_grammar.specs.declared.written.TypeRest.{TypeRest}
-use Rattle.decl_grammar.specs.Symbols.{numbers}
-use Rattle.decl_grammar.specs.Reading.{has, starts, done}
+use Rattle.decl_grammar.specs.Reading.{starts}
 use Rattle.decl_grammar.specs.Form.{Form, first, nullable, either}
 use Rattle.decl_grammar.specs.Types.{name}
 use Rattle.decl_grammar.specs.Grammar.{class_form, interface_form, annotation_form, enum_form, type_rest}
-use Rattle.decl_grammar.specs.Rule.{reads}
 use Rattle.decl_grammar.proofs.OneToken.{not_both}
-use Rattle.decl_limits.specs.Children.{most, Then, IsFull, NextTypeParam, NextConstant, declared_children, class_heading, interface_heading, annotation_heading, enum_heading, whole_constants, generic_name}
+use Rattle.decl_limits.specs.Children.{Then, IsFull, NextConstant, declared_children, class_heading, interface_heading, annotation_heading, enum_heading, whole_constants}
 use Rattle.decl_children.specs.Fronts.{SomeFront, Passes}
-use Rattle.decl_children.specs.Members.{TypeCrowds, MembersCrowd, MembersFull, HeadingCrowds, TooLong, heading_of, closed_members}
-use Rattle.decl_children.specs.TypeWalks.{Walks, ParamsOver, has_constructor, added_to, MembersOver, MembersEnd, TypeEnds, enum_front, enum_tail}
+use Rattle.decl_children.specs.Members.{TypeCrowds, MembersFull, HeadingCrowds, TooLong, heading_of, closed_members}
+use Rattle.decl_children.specs.TypeWalks.{Walks, ParamsOver, has_constructor, added_to, MembersOver, MembersEnd, TypeEnds}
 use Rattle.decl_children.specs.KindWords.{front_word, is_enum}
 use Rattle.decl_children.specs.declared.walks.Walk.{Walk}
 use Rattle.decl_children.specs.declared.walks.Walk.TheVariants as walk
 use Rattle.decl_crossings.proofs.PhraseReads.{read-phrase}
 use Rattle.decl_children.proofs.CommaRows.{item-starts}
 use Rattle.decl_children.proofs.Phrases.{Phrase, at-left, at-right, un-either}
-use Rattle.decl_children.proofs.Thens.{then-back, Behind-read}
-use Rattle.decl_children.proofs.ThenRows.{HasEnd}
+use Rattle.decl_children.proofs.Thens.{then-back}
 use Rattle.decl_children.proofs.TypeCases.{TypeCase, in_params, in_constants, in_members, in_added, type-case, case-type}
 use Rattle.decl_children.proofs.TypeReads.{heading-ends, heading-read, whole-read}
 use Rattle.decl_children.proofs.Passages.{passes-reads, passes-rest, passes-value}
 use Rattle.decl_children.proofs.TypeSplits.{Split, Joined, class-out, class-in, interface-out, interface-in, annotation-out, annotation-in}
-use Rattle.decl_children.proofs.EnumSplits.{enum-out, enum-in}
 
 pub walks-as : (P R : Type 0) (Q S : List Symbol → Type 0) (r : Result Walk NoMemory) → (P → R) → (R → P) → ((rest : List Symbol) → Q rest → S rest) → ((rest : List Symbol) → S rest → Q rest) → Walks P Q r → Walks R S r
 walks-as P R Q S (Ok walk.Full) there back on off w = there w

@@ -1,15 +1,11 @@
 -- When a member is full, and how far it goes, by what stands behind its modifiers.
-use Rattle.std.proofs.Common.{◌≡◌, ℕ, zero, suc, ◌+◌, ◌*◌, ◌<◌, ◌≤◌, Bool, true, false, List, [], ◌∷◌, ◌++◌, map, length, Option, None, Some, Result, Ok, Err, ◌⊎◌, inl, inr, ⊎_elim, refl, sym, ap, subst, ◌∙◌, append_assoc, length-append, arith}
-use Rattle.std.proofs.lemmas.Bool.{eqb-true}
+use Rattle.std.proofs.Common.{◌≡◌, ℕ, ◌+◌, ◌*◌, ◌<◌, ◌≤◌, Bool, true, false, List, [], ◌∷◌, ◌++◌, map, length, Option, ◌⊎◌, inl, inr, ⊎_elim, refl, sym, ap, subst, ◌∙◌, append_assoc, arith}
 use Rattle.std.proofs.lemmas.List.{append-nil, length-map}
 use Rattle.std.proofs.Math.Nat.{eq-or-lt_of_le}
-use Rattle.apt_base.specs.declared.memory.NoMemory.{NoMemory}
 use Rattle.decl_tree.specs.declared.declaration.TypeKind.{TypeKind}
 use Rattle.decl_tree.specs.declared.declaration.TypeKind.TheVariants as kind
 use Rattle.decl_tree.specs.declared.declaration.Member.TheVariants as member
-use Rattle.decl_tree.specs.declared.type_text.TypeText.{TypeText}
 use Rattle.decl_grammar.specs.declared.symbol.Symbol.{Symbol}
-use Rattle.decl_grammar.specs.declared.written.Declarator.{Declarator}
 use Rattle.decl_grammar.specs.declared.written.MemberAt.{MemberAt}
 use Rattle.decl_grammar.specs.declared.written.MemberRest.TheVariants as rest_kind
 use Rattle.decl_grammar.specs.declared.written.Modifiers.{Modifiers}
@@ -18,8 +14,8 @@ use Rattle.decl_grammar.specs.declared.written.Unmodified.{Unmodified}
 use Rattle.decl_grammar.specs.declared.written.Unmodified.TheVariants as unmodified
 use Rattle.decl_grammar.specs.Symbols.{numbers, operator}
 use Rattle.decl_grammar.specs.Reading.{has, starts, done}
-use Rattle.decl_grammar.specs.Form.{Form, first, first_of, nullable, either, nest, turn, nested_type}
-use Rattle.decl_grammar.specs.Types.{name, named_text, dot_name, name_chain, first_pair, next_pair, pairs_or_value, annotation_arguments, annotation_body, annotation, modifier_annotation, modifier, type_modifiers, optional_modifiers, primitive_type, named_part, class_type, base_type, type_form, type_params, sign}
+use Rattle.decl_grammar.specs.Form.{Form, first, first_of, nullable, either, turn, nested_type}
+use Rattle.decl_grammar.specs.Types.{name, named_text, dot_name, name_chain, first_pair, next_pair, pairs_or_value, annotation_arguments, annotation_body, modifier_annotation, modifier, type_modifiers, optional_modifiers, primitive_type, named_part, class_type, base_type, type_form, type_params, sign}
 use Rattle.decl_grammar.specs.Grammar.{field_of, method_of, constructor_of, declaration_of, member_at, type_lines, members_of, doc_of, Modified, block, no_member, member_from, or_block, plain_modified, type_rest, modified_form, member_form, nested_member, void_method, primitive_member, named_member, generic, unmodified_of, annotation_unmodified}
 use Rattle.decl_grammar.specs.Rule.{reads}
 use Rattle.decl_grammar.proofs.Progress.{done_rest}
@@ -39,7 +35,7 @@ use Rattle.decl_children.proofs.MemberCases.{MemberCase, one_more, by_fields, by
 use Rattle.decl_children.proofs.Passages.{LastCut, last-cut, un-seen}
 use Rattle.decl_children.proofs.FieldSplits.{FieldsSplit, fields-out}
 use Rattle.decl_children.proofs.MemberShapes.{field-own, fields-construct, method-own, method-constructs, constructor-own, constructor-constructs, nested-own, nested-constructs}
-use Rattle.decl_children.proofs.ModifiedMembers.{Declared, NothingAt, MadeOf, member-out, member-in, nothing-in}
+use Rattle.decl_children.proofs.ModifiedMembers.{Declared, NothingAt, member-out, member-in, nothing-in}
 
 -- ---- what a member gives
 

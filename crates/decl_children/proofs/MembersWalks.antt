@@ -6,10 +6,9 @@ use Rattle.decl_grammar.specs.declared.symbol.Symbol.{Symbol}
 use Rattle.decl_grammar.specs.declared.written.MemberAt.{MemberAt}
 use Rattle.decl_grammar.specs.Symbols.{operator}
 use Rattle.decl_grammar.specs.Reading.{starts, done}
-use Rattle.decl_grammar.specs.Form.{first, turn}
-use Rattle.decl_grammar.specs.Types.{sign, silently}
+use Rattle.decl_grammar.specs.Form.{first}
+use Rattle.decl_grammar.specs.Types.{sign}
 use Rattle.decl_grammar.specs.Grammar.{member_form, modified_form, member_from, or_block, no_member}
-use Rattle.decl_grammar.specs.Rule.{reads}
 use Rattle.decl_grammar.proofs.OneToken.{not_both}
 use Rattle.decl_limits.specs.Children.{most, blank}
 use Rattle.decl_children.specs.Fronts.{Passes}
@@ -23,7 +22,7 @@ use Rattle.decl_children.proofs.ThenRows.{HasEnd}
 use Rattle.decl_children.proofs.MemberRows.{Later, member-sound, member-more, members-cases, members-here, members-later}
 use Rattle.decl_children.proofs.MemberCases.{by_fields, case-member}
 use Rattle.decl_children.proofs.MemberEnds.{NextMember, closed-ends, closed-here, closed-later, closed-cases, brace-members, not-brace, member-brace, member-never}
-use Rattle.decl_children.proofs.Passages.{passes-reads, passes-same, passes-value, passes-rest}
+use Rattle.decl_children.proofs.Passages.{passes-reads, passes-value, passes-rest}
 use Rattle.decl_children.proofs.EnumSplits.{constructors-joined}
 
 pub member-ends : (k : TypeKind) → HasEnd (member_form k)

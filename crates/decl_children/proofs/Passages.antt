@@ -6,7 +6,6 @@ use Rattle.decl_grammar.specs.Form.{Form, seen}
 use Rattle.decl_grammar.specs.Rule.{reads}
 use Rattle.decl_grammar.proofs.Progress.{done_rest}
 use Rattle.decl_children.specs.Fronts.{Passes}
-use Rattle.decl_crossings.proofs.PhraseReads.{read-phrase}
 use Rattle.decl_children.proofs.Phrases.{Phrase}
 use Rattle.decl_children.proofs.Thens.{values-same}
 use Rattle.decl_children.proofs.ThenRows.{HasEnd, end-reads}

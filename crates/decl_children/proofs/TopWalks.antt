@@ -1,10 +1,8 @@
 -- A top-level type with its modifiers, or a `;`: when it is full, and how far it goes.
-use Rattle.std.proofs.Common.{◌≡◌, ℕ, ◌*◌, ◌≤◌, true, false, List, [], ◌∷◌, ◌++◌, drop, length, Option, None, ◌⊎◌, ⊎_elim, refl, sym, ap, subst, ◌∙◌, append_assoc, arith}
+use Rattle.std.proofs.Common.{◌≡◌, ℕ, ◌*◌, ◌≤◌, true, false, List, [], ◌∷◌, ◌++◌, drop, length, None, ◌⊎◌, ⊎_elim, refl, sym, ap, subst, ◌∙◌, append_assoc}
 use Rattle.std.proofs.lemmas.Bool.{eqb-true}
 use Rattle.decl_grammar.specs.declared.symbol.Symbol.{Symbol}
 use Rattle.decl_grammar.specs.declared.written.Modifiers.{Modifiers}
-use Rattle.decl_grammar.specs.declared.written.TypeAt.{TypeAt}
-use Rattle.decl_grammar.specs.declared.written.TypeRest.{TypeRest}
 use Rattle.decl_grammar.specs.Symbols.{numbers}
 use Rattle.decl_grammar.specs.Reading.{has, starts, done}
 use Rattle.decl_grammar.specs.Form.{first, first_of, nested_type, nullable, turn, seen}
@@ -13,7 +11,6 @@ use Rattle.decl_grammar.specs.Grammar.{class_form, interface_form, annotation_fo
 use Rattle.decl_grammar.specs.Rule.{reads}
 use Rattle.decl_grammar.proofs.Progress.{done_rest}
 use Rattle.decl_grammar.proofs.OneToken.{more, disjoint, not_both, within, within-has}
-use Rattle.decl_children.specs.Fronts.{SomeFront, Passes}
 use Rattle.decl_children.specs.Members.{InType, TypeCrowds}
 use Rattle.decl_children.specs.TypeWalks.{TypeEnds}
 use Rattle.decl_children.specs.TopSteps.{TopCrowds, TopEnds}

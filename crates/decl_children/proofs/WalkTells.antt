@@ -1,12 +1,11 @@
 -- What the functions of a walk over types answer, from what their calls answered.
-use Rattle.std.proofs.Common.{◌≡◌, ◌==◌, ℕ, suc, ◌+◌, ◌*◌, ◌<◌, ◌≤◌, Bool, true, false, ◌||◌, List, [], ◌∷◌, ◌++◌, drop, length, ◌-◌, Result, Ok, Err, Option, None, Some, ◌⊎◌, inl, inr, ⊎_elim, refl, sym, ap, subst, ◌∙◌, arith}
+use Rattle.std.proofs.Common.{◌≡◌, ◌==◌, ℕ, suc, ◌+◌, ◌*◌, ◌<◌, ◌≤◌, Bool, true, false, ◌||◌, List, [], ◌∷◌, ◌++◌, length, ◌-◌, Result, Ok, ◌⊎◌, inl, inr, refl, sym, ap, subst, ◌∙◌, arith}
 use Rattle.std.proofs.lemmas.Bool.{eqb-true}
 use Rattle.apt_base.specs.declared.memory.NoMemory.{NoMemory}
 use Rattle.decl_tree.specs.declared.declaration.TypeKind.{TypeKind}
 use Rattle.decl_tree.specs.declared.declaration.TypeKind.TheVariants as kind
 use Rattle.decl_grammar.specs.declared.fault.ReadFault.{ReadFault}
 use Rattle.decl_grammar.specs.declared.symbol.Symbol.{Symbol}
-use Rattle.decl_grammar.specs.declared.written.MemberAt.{MemberAt}
 use Rattle.decl_grammar.specs.declared.written.Modifiers.{Modifiers}
 use Rattle.decl_grammar.specs.declared.written.Unmodified.{Unmodified}
 use Rattle.decl_grammar.specs.Symbols.{numbers}
@@ -14,7 +13,7 @@ use Rattle.decl_grammar.specs.Reading.{has, starts, done}
 use Rattle.decl_grammar.specs.Form.{first_of, nested_type}
 use Rattle.decl_grammar.specs.Types.{name, named_text, dot_name, name_chain, first_pair, next_pair, pairs_or_value, annotation_arguments, annotation_body, annotation, modifier_annotation, annotations, primitive_type, named_part, next_part, class_type, dim, base_type, class_array, primitive_array, reference, annotated_reference, wildcard_bound, wildcard, type_argument, next_argument, arguments_form, annotated_class, next_bound, bounds, type_param, next_type_param, type_params, optional_params, next_class, classes, modifier, plain_modifier, optional_modifiers, type_modifiers}
 use Rattle.decl_grammar.specs.Expressions.{created_part, next_created_part, created_type, creation_form, created_arguments_form, test_form, test_name_form, reference_form, annotation_over, annotated_form, part_symbols, step, plain_dots, plain_squares, told_steps, two_readings, other_steps, signs_form, value_squares, listed_values, listed_end, array_form, value_of, value_form, paired_end, listed_more, value_or_end, assigned_end, plain_constant, plus_constant, bare_dim, dot_class, array_class, chain_form, literal_constant, named_constant, negated_constant, primitive_class, void_class, plain_form, constant_end, constant_items_form, constant_array, constant_form, kept, constant_alone, initialiser_form}
-use Rattle.decl_grammar.specs.Grammar.{param_modifier, param_modifiers, params_from, next_params, varargs, named_end, param_rest_form, receiver, some_dims, dot_this, with_dims, behind_first_name, first_rest_form, behind_annotations, first_params, params, thrown, body, method_signature, constructor_signature, element_end, element_signature, field_rest, typed_member, constructed_or, void_method, primitive_member, named_member, generic_method, annotated_method, generic_rest, generic, static_rest, plain_modified, nested_member, unmodified_of, annotation_unmodified, modified_form, member_form, joined_lists}
+use Rattle.decl_grammar.specs.Grammar.{param_modifier, param_modifiers, params_from, next_params, varargs, named_end, param_rest_form, receiver, some_dims, dot_this, with_dims, behind_first_name, first_rest_form, behind_annotations, first_params, params, thrown, body, method_signature, constructor_signature, element_end, element_signature, field_rest, typed_member, constructed_or, void_method, primitive_member, named_member, generic_method, annotated_method, generic_rest, generic, static_rest, plain_modified, nested_member, unmodified_of, annotation_unmodified}
 use Rattle.decl_grammar.specs.Rule.{reads}
 use Rattle.decl_grammar.proofs.Progress.{done_rest}
 use Rattle.decl_grammar.proofs.OneToken.{ok, more, not_both}
@@ -25,24 +24,23 @@ use Rattle.decl_crossings.specs.Crossings.{FieldCrosses}
 use Rattle.decl_limits.specs.Children.{most, IsFull, NextTypeParam, NextConstant, enum_heading, generic_name}
 use Rattle.decl_types.proofs.MemberFirsts.{modified_first}
 use Rattle.decl_types.specs.Members.{modified_firsts, member_firsts}
-use Rattle.decl_children.specs.Fronts.{SomeFront, Passes, Tells}
+use Rattle.decl_children.specs.Fronts.{Passes, Tells}
 use Rattle.decl_children.specs.Walks.{TypeParamsCrowd, ConstantsCrowd}
-use Rattle.decl_children.specs.Members.{MemberCrowds, TypeCrowds}
+use Rattle.decl_children.specs.Members.{MemberCrowds}
 use Rattle.decl_children.specs.Results.{ExecutableCrowds}
-use Rattle.decl_children.specs.TypeWalks.{Steps, unmodified_form, nothing_form, ParamsOver, ConstantsOver}
-use Rattle.decl_children.specs.Unmodifieds.{count_of, constructs_one, own_of, field_front, FieldsBehind, OwnBehind}
-use Rattle.decl_children.specs.WalkSteps.{Decides, OneMore, NothingSteps, PlainSteps, FieldsOver}
-use Rattle.decl_children.specs.declared.walks.Step.{Step}
+use Rattle.decl_children.specs.TypeWalks.{unmodified_form, nothing_form, ParamsOver, ConstantsOver}
+use Rattle.decl_children.specs.Unmodifieds.{own_of, field_front, OwnBehind}
+use Rattle.decl_children.specs.WalkSteps.{Decides, OneMore, FieldsOver}
 use Rattle.decl_children.specs.declared.walks.Step.TheVariants as step
 use Rattle.decl_crossings.proofs.PhraseReads.{read-phrase}
-use Rattle.decl_children.proofs.Thens.{then-back, then-as, values-same}
+use Rattle.decl_children.proofs.Thens.{then-back, then-as}
 use Rattle.decl_children.proofs.ThenRows.{HasEnd}
 use Rattle.decl_children.proofs.TypeReads.{params-read, constants-read}
 use Rattle.decl_children.proofs.Passages.{passes-reads, passes-value}
 use Rattle.decl_children.proofs.FieldReads.{FieldsRead, fields-goes, fields-back}
-use Rattle.decl_children.proofs.MemberWalks.{DeclaredTo, in_fields, in_own, member-back, ends-member}
+use Rattle.decl_children.proofs.MemberWalks.{DeclaredTo, in_fields, in_own, member-back}
 use Rattle.decl_children.proofs.WalkAnswers.{tells-as}
-use Rattle.decl_children.proofs.WalkSteps.{member-not, no-type, steps-of}
+use Rattle.decl_children.proofs.WalkSteps.{member-not, no-type}
 
 -- ---- type parameters, constants and fields
 

@@ -15,22 +15,21 @@ use Rattle.decl_grammar.specs.declared.written.TypeParamAt.{TypeParamAt}
 use Rattle.decl_grammar.specs.declared.written.TypeRest.{TypeRest}
 use Rattle.decl_grammar.specs.Symbols.{operator, at_interface}
 use Rattle.decl_grammar.specs.Form.{Form, terminal, pair, turn, maybe, many, either, Is}
-use Rattle.decl_grammar.specs.Types.{keyword, sign, behind, before, list_or_none, silently, name, name_at, annotations, type_form, type_param, optional_params, type_modifiers}
-use Rattle.decl_grammar.specs.Grammar.{plain_members, constant, constants, joined_lists, member_form, members_in, superclass, implemented, extended, class_form, interface_form, annotation_form, enum_members, enum_form, type_rest, ordinary}
+use Rattle.decl_grammar.specs.Types.{keyword, sign, behind, before, list_or_none, silently, name, name_at, annotations, type_form, type_param, optional_params}
+use Rattle.decl_grammar.specs.Grammar.{plain_members, constant, constants, joined_lists, member_form, members_in, superclass, implemented, extended, class_form, interface_form, annotation_form, enum_members, enum_form, type_rest}
 use Rattle.decl_grammar.specs.Rule.{WholeAt}
 use Rattle.decl_grammar.specs.File.{IsPhrase}
 use Rattle.decl_grammar.specs.Reading.{has}
 use Rattle.decl_limits.specs.Separators.{Scan, unscanned, scan_next, scanned}
-use Rattle.decl_limits.specs.Children.{most, blank, NextItem, FurtherParam, NextParam, class_heading, interface_heading, annotation_heading, enum_heading, whole_members, whole_constants, both, open_type, generic_name, executable_heading, member_children, declared_children, ExecutableFull, MemberFull, TypeFull, FileFull, IsCrowded}
+use Rattle.decl_limits.specs.Children.{most, blank, NextItem, FurtherParam, NextParam, class_heading, interface_heading, annotation_heading, enum_heading, whole_members, whole_constants, both, open_type, executable_heading, member_children, declared_children, ExecutableFull, MemberFull, TypeFull, FileFull, IsCrowded}
 use Rattle.decl_limits.proofs.Scans.{whole-count, whole-most, first-scanned, one-scanned, more-most, bounded, Adds, adds-less, adds-both, mark-adds}
 use Rattle.decl_limits.proofs.Braces.{level, effect}
-use Rattle.decl_limits.proofs.RuleBraces.{phrase-level}
 use Rattle.decl_limits.proofs.EvenForms.{even}
-use Rattle.decl_limits.proofs.Counted.{AtLeast, at-least, none, one, weaker, in-pair, in-turn, in-behind, in-before, in-maybe, in-row, in-either}
-use Rattle.decl_limits.proofs.Reached.{Reaches, reach-added, reach-least, reach-less, reach-first, reach-second, reach-turn, reach-behind, reach-before, reach-either}
+use Rattle.decl_limits.proofs.Counted.{AtLeast, none, one, in-turn, in-behind, in-before, in-maybe, in-row}
+use Rattle.decl_limits.proofs.Reached.{Reaches, reach-added, reach-least, reach-second, reach-turn, reach-behind, reach-before, reach-either}
 use Rattle.decl_limits.proofs.FewMembers.{weight, items-few, own-few, member-least, members-least}
 use Rattle.decl_limits.proofs.FewParams.{listed, further, further-few, further-less, optional-least, first-params-least, constants-least}
-use Rattle.decl_limits.proofs.ClosedTypes.{closed, rest-closed}
+use Rattle.decl_limits.proofs.ClosedTypes.{rest-closed}
 
 -- ---- whole types
 

@@ -1,12 +1,12 @@
 -- What is passed over between brackets closes the braces that it opens: the brackets that are still to be closed say which braces are.
-use Rattle.std.proofs.Common.{◌≡◌, ℕ, zero, suc, ◌≤◌, Bool, true, false, cond, eqb, ◌||◌, ◌&&◌, List, [], ◌∷◌, ◌++◌, ◌⊎◌, Some, None, inl, inr, refl, sym, ap, subst, ◌∙◌, arith}
+use Rattle.std.proofs.Common.{◌≡◌, ℕ, suc, ◌≤◌, Bool, true, false, cond, eqb, ◌||◌, List, [], ◌∷◌, Some, None, refl, sym, ap, subst, ◌∙◌, arith}
 use Rattle.std.specs.Option.{option_map_or}
 use Rattle.std.proofs.lemmas.Bool.{eqb-true}
 use Rattle.decl_grammar.specs.declared.symbol.Symbol.{Symbol}
 use Rattle.decl_grammar.specs.Reading.{has, done, fault, ◌>>=◌, one_at, openers, closers, pass, skip}
 use Rattle.decl_grammar.proofs.OneToken.{within, within-has}
 use Rattle.decl_limits.specs.Separators.{Scan, left_to, scan_next, scanned}
-use Rattle.decl_limits.proofs.Scans.{picked, none-scanned, first-scanned, Adds}
+use Rattle.decl_limits.proofs.Scans.{picked, Adds}
 
 -- Once these brackets are closed, the braces around are those, and at least so many are counted within the innermost: each `}` among them closes the innermost braces.
 abbrev Ready : List ℕ → ℕ → List ℕ → List ℕ → ℕ → Type 0

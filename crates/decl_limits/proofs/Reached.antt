@@ -1,5 +1,5 @@
 -- What the most that is counted within the same braces reaches in a phrase of a form, by what the phrase means: one lemma for each way to make forms of others.
-use Rattle.std.proofs.Common.{◌≡◌, ℕ, ◌+◌, ◌≤◌, List, ◌∷◌, ◌++◌, ◌⊎◌, inl, inr, refl, ap, arith}
+use Rattle.std.proofs.Common.{ℕ, ◌+◌, ◌≤◌, List, inl, inr, ap, arith}
 use Rattle.decl_grammar.specs.declared.symbol.Symbol.{Symbol}
 use Rattle.decl_grammar.specs.Form.{Form, pair, turn, either, Is}
 use Rattle.decl_grammar.specs.Types.{behind, before}

@@ -1,10 +1,10 @@
 -- What a scan of symbols does to the counts: one list behind another, that the most never falls, and symbols that keep the braces around and add so many.
-use Rattle.std.proofs.Common.{◌≡◌, ℕ, zero, suc, ◌+◌, ◌≤◌, max, Bool, true, false, cond, eqb, ◌||◌, List, [], ◌∷◌, ◌++◌, ◌⊎◌, inl, inr, refl, sym, ap, subst, ◌∙◌, arith}
+use Rattle.std.proofs.Common.{◌≡◌, ℕ, suc, ◌+◌, ◌≤◌, Bool, true, false, cond, eqb, ◌||◌, List, [], ◌∷◌, ◌++◌, ◌⊎◌, inl, inr, refl, sym, ap, subst, ◌∙◌, arith}
 use Rattle.std.proofs.Math.Nat.{le-max_left, le-max_right}
 use Rattle.std.proofs.lemmas.Bool.{eqb-true}
 use Rattle.decl_grammar.specs.declared.symbol.Symbol.{Symbol}
 use Rattle.decl_grammar.specs.Reading.{has}
-use Rattle.decl_limits.specs.Separators.{separates, separators, Scan, unscanned, one_more, entered, left_to, scan_next, scanned}
+use Rattle.decl_limits.specs.Separators.{separators, Scan, unscanned, one_more, entered, left_to, scan_next, scanned}
 use Rattle.decl_limits.proofs.Separated.{none-there, first-there}
 
 pub none-scanned : (s : Scan) → scanned s [] ≡ s
