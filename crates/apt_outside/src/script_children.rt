@@ -1,10 +1,11 @@
 // Children that follow scripts.
+ghost use Rattle.std.specs.Prelude.{◌≡◌, ◌<◌, OnOk, vec_len, vec_capacity};
 ghost use Rattle.apt_outside.specs.Scripted.{TakesSaid, EachJoined, LiveStarted};
 
-use crate::script::{Call, Script, Started};
-use crate::scripting::{add_frame, begin, copy_call, find_script, give};
+use crate::script::{Attempt, Call, Script, Started};
+use crate::scripting::{add_frame, attempt, find_script, give};
 use crate::{Children, Fault};
-use std::alloc::Global;
+use std::alloc::{AllocError, Global};
 
 /// Children in memory that say what scripts give, and tell all of it. They are numbered from 0 in the order of the starts that
 /// succeeded. A start of a name without a script fails, and so does one after 4,294,967,295 that succeeded; no other call does.
@@ -29,8 +30,9 @@ pub struct ScriptChildren {
 }
 
 impl ScriptChildren {
-    ghost use Rattle.std.specs.Prelude.{◌≡◌, [], option_copied};
-    ghost use Rattle.apt_outside.specs.Scripted.{sent_bytes};
+    ghost use Rattle.std.specs.Prelude.{◌≡◌, ◌+◌, ◌-◌, ◌^◌, ◌<◌, ◌≤◌, ◌++◌, ◌∷◌, [], nat_le, ◌||◌, is_none, length, map, string_bytes, IfOk, OnOk, option_copied, vec_len, vec_capacity};
+    ghost use Rattle.apt_outside.specs.Count.{Rose};
+    ghost use Rattle.apt_outside.specs.Scripted.{sent_bytes, script_of, shown_call, IsJoined};
 
     /// Children of these scripts, none of which was started.
     pub fn new(alloc: Global, scripts: Vec<Script>) -> Self
@@ -60,6 +62,87 @@ impl ScriptChildren {
             Some(started) => Some(&started.joined),
         }
     }
+
+    // Makes room for one start more, and begins its child.
+    fn prepare(&mut self, name: &str, command: &[String]) -> Result<Attempt, AllocError>
+        ensures scripts { self.new.scripts ≡ self.old.scripts }
+        ensures started { self.new.started.items ≡ self.old.started.items }
+        ensures live { self.new.live.items ≡ self.old.live.items }
+        ensures tried { self.new.tried.items ≡ self.old.tried.items }
+        ensures faults { self.new.faults ≡ self.old.faults }
+        ensures started_room { OnOk result (vec_len self.new.started < vec_capacity self.new.started) }
+        ensures live_room { OnOk result (vec_len self.new.live < vec_capacity self.new.live) }
+        ensures tried_room { OnOk result (vec_len self.new.tried < vec_capacity self.new.tried) }
+        ensures call { IfOk result (λ attempt. shown_call attempt.call ≡ (name.now, map string_bytes command.now)) }
+        ensures begun { IfOk result (λ attempt. shown_call attempt.begun.call ≡ (name.now, map string_bytes command.now)) }
+        ensures sent { IfOk result (λ attempt. attempt.begun.sent.items ≡ []) }
+        ensures taken { IfOk result (λ attempt. attempt.begun.taken ≡ 0) }
+        ensures joined { IfOk result (λ attempt. IsJoined self.old.scripts.items attempt.begun) }
+    {
+        make_room(&mut self.tried, &mut self.live, &mut self.started)?;
+        attempt(self.alloc, &self.scripts, name, command)
+    }
+
+    // Whether a start of this name is to fail.
+    fn refuses(&self, name: &str) -> bool
+        ensures { result ≡ (nat_le (2 ^ 32 - 1) (length self.now.started.items) || is_none (script_of self.now.scripts.items name.now)) }
+    {
+        self.started.len() >= u32::MAX as usize || find_script(&self.scripts, name).is_none()
+    }
+
+    // Counts a start that fails.
+    fn refuse(&mut self, attempt: Attempt)
+        requires room { vec_len self.old.tried < vec_capacity self.old.tried }
+        ensures scripts { self.new.scripts ≡ self.old.scripts }
+        ensures started { self.new.started ≡ self.old.started }
+        ensures live { self.new.live ≡ self.old.live }
+        ensures tried { self.new.tried.items ≡ self.old.tried.items ++ attempt.call ∷ [] }
+        ensures later { self.old.faults ≤ self.new.faults }
+        ensures rose { Rose self.old.faults self.new.faults }
+    {
+        self.tried.push(attempt.call).unwrap();
+        self.faults = self.faults.saturating_add(1);
+    }
+
+    // Adds a child that was just started, and gives its number.
+    fn accept(&mut self, attempt: Attempt) -> u32
+        requires few { length self.old.started.items < 2 ^ 32 - 1 }
+        requires started_room { vec_len self.old.started < vec_capacity self.old.started }
+        requires live_room { vec_len self.old.live < vec_capacity self.old.live }
+        requires tried_room { vec_len self.old.tried < vec_capacity self.old.tried }
+        requires taken { attempt.begun.taken ≡ 0 }
+        requires joined { IsJoined self.old.scripts.items attempt.begun }
+        ensures number { result ≡ length self.old.started.items }
+        ensures scripts { self.new.scripts ≡ self.old.scripts }
+        ensures started { self.new.started.items ≡ self.old.started.items ++ attempt.begun ∷ [] }
+        ensures live { self.new.live.items ≡ self.old.live.items ++ result ∷ [] }
+        ensures tried { self.new.tried.items ≡ self.old.tried.items ++ attempt.call ∷ [] }
+        ensures faults { self.new.faults ≡ self.old.faults }
+    {
+        let number = self.started.len() as u32;
+        self.tried.push(attempt.call).unwrap();
+        self.started.push(attempt.begun).unwrap();
+        self.live.push(number).unwrap();
+        number
+    }
+}
+
+// Makes room for one start more.
+fn make_room(
+    tried: &mut Vec<Call>,
+    live: &mut Vec<u32>,
+    started: &mut Vec<Started>,
+) -> Result<(), AllocError>
+    ensures tried { tried.new.items ≡ tried.old.items }
+    ensures live { live.new.items ≡ live.old.items }
+    ensures started { started.new.items ≡ started.old.items }
+    ensures tried_room { OnOk result (vec_len tried.new < vec_capacity tried.new) }
+    ensures live_room { OnOk result (vec_len live.new < vec_capacity live.new) }
+    ensures started_room { OnOk result (vec_len started.new < vec_capacity started.new) }
+{
+    tried.reserve(1)?;
+    live.reserve(1)?;
+    started.reserve(1)
 }
 
 impl Children for ScriptChildren {
@@ -77,22 +160,12 @@ impl Children for ScriptChildren {
     ghost sound = { λ c told k. sound_known c.scripts.items (slice_get c.started.items k) };
 
     fn start(&mut self, name: &str, command: &[String]) -> Result<u32, Fault> {
-        let call = copy_call(self.alloc, name, command)?;
-        let tried = copy_call(self.alloc, name, command)?;
-        self.tried.reserve(1)?;
-        self.live.reserve(1)?;
-        self.started.reserve(1)?;
-        let begun = begin(self.alloc, &self.scripts, call)?;
-        let number = self.started.len();
-        if number >= u32::MAX as usize || find_script(&self.scripts, name).is_none() {
-            self.tried.push(tried).unwrap();
-            self.faults = self.faults.saturating_add(1);
+        let attempt = self.prepare(name, command)?;
+        if self.refuses(name) {
+            self.refuse(attempt);
             return Err(Fault::Failed);
         }
-        self.tried.push(tried).unwrap();
-        self.started.push(begun).unwrap();
-        self.live.push(number as u32).unwrap();
-        Ok(number as u32)
+        Ok(self.accept(attempt))
     }
 
     fn send(&mut self, child: u32, frame: &[u8]) -> Result<(), Fault> {

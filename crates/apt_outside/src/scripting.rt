@@ -1,14 +1,14 @@
 // Reads scripts.
-ghost use Rattle.std.specs.Prelude.{◌≡◌, [], ◌∷◌, ◌++◌, ◌≤◌, ◌<◌, length, take, drop, IfOk, OnOk, OnErr, map, flat_map, string_bytes, option_copied};
+ghost use Rattle.std.specs.Prelude.{◌≡◌, [], ◌∷◌, ◌++◌, ◌≤◌, ◌<◌, length, take, drop, IfOk, OnOk, OnErr, map, flat_map, string_bytes, option_copied, ◌+◌, vec_len, vec_capacity};
 ghost use Rattle.apt_outside.specs.Scripted.{script_of, answer_of, said_of, shown_call, frames_of, HasGiven, IsJoined};
 
-use crate::script::{Call, Script, Started};
+use crate::script::{Attempt, Call, Script, Started};
 use std::alloc::{AllocError, Global};
 
 /// A record of a start: the child's name and the words of its command.
 ///
 /// Want of memory is the only error.
-pub fn copy_call(alloc: Global, name: &str, command: &[String]) -> Result<Call, AllocError>
+fn copy_call(alloc: Global, name: &str, command: &[String]) -> Result<Call, AllocError>
     ensures { IfOk result (λ call. shown_call call ≡ (name.now, map string_bytes command.now)) }
 {
     let mut words = Vec::new(alloc);
@@ -56,20 +56,69 @@ fn answer_at(answers: &Vec<Vec<u8>>, at: usize) -> &[u8]
 }
 
 /// A child that was just started.
-pub fn begin(alloc: Global, scripts: &Vec<Script>, call: Call) -> Result<Started, AllocError>
-    ensures call { IfOk result (λ started. started.call ≡ call) }
+fn begin(
+    alloc: Global,
+    scripts: &Vec<Script>,
+    name: &str,
+    command: &[String],
+) -> Result<Started, AllocError>
+    ensures call { IfOk result (λ started. shown_call started.call ≡ (name.now, map string_bytes command.now)) }
     ensures sent { IfOk result (λ started. started.sent.items ≡ []) }
     ensures taken { IfOk result (λ started. started.taken ≡ 0) }
     ensures joined { IfOk result (IsJoined scripts.now.items) }
 {
-    let said = answer_after(scripts, call.name.as_str(), 0).to_vec(alloc)?;
+    let said = answer_after(scripts, name, 0).to_vec(alloc)?;
     Ok(Started {
-        call,
+        call: copy_call(alloc, name, command)?,
         sent: Vec::new(alloc),
         joined: Vec::new(alloc),
         said,
         taken: 0,
     })
+}
+
+/// What a start wants of memory: the record of its call, and the child that it begins.
+///
+/// Want of memory is the only error.
+pub fn attempt(
+    alloc: Global,
+    scripts: &Vec<Script>,
+    name: &str,
+    command: &[String],
+) -> Result<Attempt, AllocError>
+    ensures call { IfOk result (λ attempt. shown_call attempt.call ≡ (name.now, map string_bytes command.now)) }
+    ensures begun { IfOk result (λ attempt. shown_call attempt.begun.call ≡ (name.now, map string_bytes command.now)) }
+    ensures sent { IfOk result (λ attempt. attempt.begun.sent.items ≡ []) }
+    ensures taken { IfOk result (λ attempt. attempt.begun.taken ≡ 0) }
+    ensures joined { IfOk result (λ attempt. IsJoined scripts.now.items attempt.begun) }
+{
+    Ok(Attempt {
+        call: copy_call(alloc, name, command)?,
+        begun: begin(alloc, scripts, name, command)?,
+    })
+}
+
+// Makes room for a frame more, and for what a child then says.
+fn make_room(started: &mut Started, frame: &[u8], answer: &[u8]) -> Result<(), AllocError>
+    ensures call { started.new.call ≡ started.old.call }
+    ensures sent { started.new.sent ≡ started.old.sent }
+    ensures taken { started.new.taken ≡ started.old.taken }
+    ensures joined { started.new.joined.items ≡ started.old.joined.items }
+    ensures said { started.new.said.items ≡ started.old.said.items }
+    ensures frame { OnOk result (vec_len started.new.joined + length frame.now ≤ vec_capacity started.new.joined) }
+    ensures answer { OnOk result (vec_len started.new.said + length answer.now ≤ vec_capacity started.new.said) }
+{
+    started.joined.reserve(frame.len())?;
+    started.said.reserve(answer.len())
+}
+
+// Puts a copy of a frame behind others.
+fn push_frame(alloc: Global, frames: &mut Vec<Vec<u8>>, frame: &[u8]) -> Result<(), AllocError>
+    ensures ok { OnOk result (map (λ f. f.items) frames.new.items ≡ map (λ f. f.items) frames.old.items ++ frame.now ∷ []) }
+    ensures err { OnErr result (frames.new.items ≡ frames.old.items) }
+{
+    frames.push(frame.to_vec(alloc)?)?;
+    Ok(())
 }
 
 /// Adds a frame to those that a child was sent, and what it then says more.
@@ -86,11 +135,9 @@ pub fn add_frame(
     ensures ok { OnOk result (frames_of started.new ≡ frames_of started.old ++ frame.now ∷ []) }
     ensures err { OnErr result (frames_of started.new ≡ frames_of started.old) }
 {
-    let copy = frame.to_vec(alloc)?;
     let answer = answer_after(scripts, started.call.name.as_str(), started.sent.len() + 1);
-    started.joined.reserve(frame.len())?;
-    started.said.reserve(answer.len())?;
-    started.sent.push(copy)?;
+    make_room(started, frame, answer)?;
+    push_frame(alloc, &mut started.sent, frame)?;
     started.joined.extend_from_slice(frame).unwrap();
     started.said.extend_from_slice(answer).unwrap();
     Ok(())
