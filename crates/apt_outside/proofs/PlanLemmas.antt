@@ -1,9 +1,8 @@
 -- How a counted call follows its plan.
-use Rattle.std.proofs.Common.{◌≡◌, ℕ, ◌+◌, ◌-◌, ◌^◌, ◌==◌, min, Bool, true, false, cond, Some, Ok, Err, refl, sym, ap, ◌∙◌}
+use Rattle.std.proofs.Common.{◌≡◌, ℕ, ◌+◌, ◌-◌, ◌^◌, ◌==◌, min, Bool, false, cond, Some, Ok, sym, ap, ◌∙◌}
 use Rattle.std.specs.List.{list_any}
 use Rattle.std.proofs.lemmas.Bool.{false≢true}
 use Rattle.apt_outside.specs.Plan.{Plan, Follows, next_call, fails_next}
-use Rattle.apt_outside.specs.declared.fault.Fault.TheVariants.{Failed}
 
 module _ (plan : Plan) (calls before : ℕ) (is : calls ≡ next_call plan) where
   told : (b : Bool) → list_any (λ k. k == calls) plan.numbers ≡ b → fails_next plan ≡ b

@@ -1,7 +1,6 @@
 use Rattle.std.proofs.Common.{◌≡◌, ◌++◌, ◌∷◌, [], Some, length, map, sym, ap, ◌∙◌, subst, string_bytes, option_map}
 use Rattle.std.specs.List.{Contains}
 use Rattle.apt_outside.specs.Child.{Try}
-use Rattle.apt_outside.specs.declared.script.Script.{Script}
 use Rattle.apt_outside.specs.Scripted.{known_of, child_of}
 use Rattle.apt_outside.proofs.ChildLemmas.{known_push_same, known_push_other, fresh_push, fresh_child}
 use Rattle.apt_outside.proofs.Joined.{get_past}
