@@ -1,3 +1,4 @@
 pub mod FieldRows
 pub mod Ends
 pub mod ConstantRows
+pub mod Closings

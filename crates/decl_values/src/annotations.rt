@@ -7,6 +7,7 @@ ghost use Rattle.decl_grammar.specs.Types.{named_text, annotation, annotation_bo
 ghost use Rattle.decl_grammar.specs.Rule.{reads, read_nest};
 ghost use Rattle.decl_values.specs.Ends.{paired_step, pairs_from, PairedItem};
 
+use crate::around::{closed, ended, one_item};
 use crate::reached::End;
 use crate::rows::{fallen, furthest};
 use crate::values::{lone_value_of, value_of};
@@ -53,13 +54,12 @@ fn paired_step_of<'a, 's>(
     ensures { Gives (λ x. (x.0, x.1.now)) result (paired_step room symbols.now) }
 {
     if is_next(symbols, 62) {
-        let (_, rest) = one(symbols, 62)?;
-        return Ok((None, rest));
+        return ended(None, symbols, 62);
     }
     let (_, rest) = one(symbols, 68)?;
     let (text, rest) = read_name(room, rest)?;
-    let name = Name::new(alloc, text)?;
     let (_, rest) = one(rest, 73)?;
+    let name = Name::new(alloc, text)?;
     Ok((Some(name), rest))
 }
 
@@ -126,8 +126,8 @@ fn first_pair_of<'a, 's>(
     ensures { Gives (λ x. (x.0.items, x.1.now)) result (reads room first_pair symbols.now) }
 {
     let (text, rest) = first_name_of(room, symbols)?;
-    let name = Name::new(alloc, text)?;
     let (_, rest) = one(rest, 73)?;
+    let name = Name::new(alloc, text)?;
     pairs_of(alloc, room, name, rest)
 }
 
@@ -144,10 +144,9 @@ fn pairs_or_value_of<'a, 's>(
     if is_next(symbols, 1) {
         return first_pair_of(alloc, room, symbols);
     }
-    let (value, rest) = lone_value_of(alloc, room, symbols)?;
     let name = Name::new(alloc, "value")?;
-    let mut all = Vec::new(alloc);
-    all.push(ElementValuePair { name, value })?;
+    let (value, rest) = lone_value_of(alloc, room, symbols)?;
+    let all = one_item(alloc, ElementValuePair { name, value })?;
     Ok((all, rest))
 }
 
@@ -165,8 +164,7 @@ fn arguments_of<'a, 's>(
 {
     let (_, rest) = one(symbols, 61)?;
     if is_next(rest, 62) {
-        let (_, rest) = one(rest, 62)?;
-        return Ok((Vec::new(alloc), rest));
+        return closed(Vec::new(alloc), rest, 62);
     }
     pairs_or_value_of(alloc, room, rest)
 }

@@ -7,6 +7,7 @@ ghost use Rattle.decl_grammar.specs.Rule.{reads, read_nest};
 ghost use Rattle.decl_values.specs.ConstantRows.{ConstantItem, items_from, constant_rest};
 
 use crate::annotations::annotation_of;
+use crate::around::closed;
 use crate::values::listed_step_of;
 use apt_base::List;
 use decl_constants::plain_value_of;
@@ -62,13 +63,11 @@ fn constant_rest_of<'a, 's>(
     ensures { Gives (λ x. (x.0.items, x.1.now)) result (reads room constant_rest symbols.now) }
 {
     if is_next(symbols, 64) {
-        let (_, rest) = one(symbols, 64)?;
-        return Ok((Vec::new(alloc), rest));
+        return closed(Vec::new(alloc), symbols, 64);
     }
     if is_next(symbols, 68) {
         let (_, rest) = one(symbols, 68)?;
-        let (_, rest) = one(rest, 64)?;
-        return Ok((Vec::new(alloc), rest));
+        return closed(Vec::new(alloc), rest, 64);
     }
     constant_items_of(alloc, room, symbols)
 }

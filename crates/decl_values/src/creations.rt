@@ -9,6 +9,7 @@ ghost use Rattle.decl_grammar.specs.Rule.{reads, read_nest};
 ghost use Rattle.decl_values.specs.Ends.{argument_firsts, created_class};
 
 use crate::annotations::annotations_of;
+use crate::around::{closed, one_item};
 use crate::type_arguments::{more_arguments_of, optional_arguments_of, type_argument_of};
 use decl_constants::primitive_type_of;
 use decl_grammar::{ReadFault, Symbol};
@@ -45,14 +46,11 @@ fn created_arguments_in<'a, 's>(
     let (_, rest) = one(symbols, 75)?;
     if starts_argument(rest) {
         let (first, rest) = type_argument_of(alloc, room, rest)?;
-        let mut front = Vec::new(alloc);
-        front.push(first)?;
+        let front = one_item(alloc, first)?;
         let (all, rest) = more_arguments_of(alloc, room, front, rest)?;
-        let (_, rest) = one(rest, 74)?;
-        return Ok((all, rest));
+        return closed(all, rest, 74);
     }
-    let (_, rest) = one(rest, 74)?;
-    Ok((Vec::new(alloc), rest))
+    closed(Vec::new(alloc), rest, 74)
 }
 
 // The type arguments of a class that is created, which may be `<>`.

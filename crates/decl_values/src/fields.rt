@@ -1,10 +1,11 @@
 // Reads initialisers (JLS 8.3) and what stands behind the name of a field, up to the `;` that ends the declaration.
-ghost use Rattle.std.specs.Prelude.{◌≡◌, ◌<◌, [], ◌∷◌, ℕ, List, length, IfOk, Ok, Some, None};
+ghost use Rattle.std.specs.Prelude.{◌≡◌, ◌<◌, [], ◌∷◌, ℕ, List, length, IfOk, Ok, Some, None, if◌then◌else◌, ◌==◌};
 ghost use Rattle.decl_turns.specs.declared.states.Place.TheVariants as places;
 ghost use Rattle.decl_grammar.specs.Reading.{Gives};
-ghost use Rattle.decl_values.specs.Ends.{EndsWith, initialiser_read, value_or_end_read, ConstantTried, kept_here, declared_step, FieldItem};
+ghost use Rattle.decl_values.specs.Ends.{EndsWith, initialiser_read, value_or_end_read, ConstantTried, declared_step, FieldItem};
 ghost use Rattle.decl_values.specs.FieldRows.{fields_from};
 
+use crate::around::ended;
 use crate::constant_forms::constant_of;
 use crate::reached::End;
 use crate::rows::{ended_of, fallen, furthest};
@@ -17,8 +18,8 @@ use decl_turns::Place;
 use std::alloc::Global;
 
 // What was read as a constant form, where it ended here.
-fn kept_if(value: Option<ValueText>, left: usize, here: usize) -> Option<ValueText>
-    ensures { result ≡ kept_here value left here }
+fn kept_if<T: Drop>(value: Option<T>, left: usize, here: usize) -> Option<T>
+    ensures { result ≡ (if here == left then value else None) }
 {
     if here == left {
         return value;
@@ -106,8 +107,7 @@ fn declared_step_of<'a, 's>(
     ensures { Gives (λ x. (x.0, x.1.now)) result (declared_step room symbols.now) }
 {
     if is_next(symbols, 67) {
-        let (_, rest) = one(symbols, 67)?;
-        return Ok((None, rest));
+        return ended(None, symbols, 67);
     }
     let (_, rest) = one(symbols, 68)?;
     let (name, rest) = read_name_at(alloc, room, rest)?;

@@ -12,6 +12,7 @@
 #![tactic(auto)]
 
 mod annotations;
+mod around;
 mod constant_forms;
 mod creations;
 mod fields;

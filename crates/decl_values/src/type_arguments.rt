@@ -4,10 +4,12 @@ ghost use Rattle.decl_grammar.specs.Reading.{Gives, starts};
 ghost use Rattle.decl_grammar.specs.Form.{maybe, nest, type_arguments};
 ghost use Rattle.decl_grammar.specs.Types.{wildcard_bound, type_argument, next_argument, arguments_form, wildcard, bounded_text};
 ghost use Rattle.decl_grammar.specs.Rule.{reads, read_nest};
+ghost use Rattle.decl_values.specs.Closings.{bound_read};
 ghost use Rattle.decl_values.specs.Ends.{arguments_behind};
 ghost use Rattle.decl_grammar.specs.declared.fault.ReadFault.TheVariants as faults;
 
 use crate::annotations::annotations_of;
+use crate::around::{closed, one_item, put_first};
 use crate::types::{annotated_reference_of, reference_of};
 use apt_base::List;
 use decl_grammar::{ReadFault, Symbol};
@@ -16,15 +18,26 @@ use decl_tree::{Around, BaseType, TypeText};
 use std::alloc::Global;
 
 // The same type within something around it.
-fn within(alloc: Global, item: Around, text: TypeText) -> Result<TypeText, ReadFault>
+fn within(item: Around, text: TypeText) -> Result<TypeText, ReadFault>
     ensures { MatchResult result (λ x. x ≡ bounded_text item text) (λ e. e ≡ faults.Memory) }
 {
     let TypeText { around, base } = text;
-    let mut items = Vec::new(alloc);
-    items.push(item)?;
-    items.extend_from_slice(around.as_slice())?;
-    let around = List::from_vec(items);
+    let around = put_first(item, around)?;
     Ok(TypeText { around, base })
+}
+
+// The type in the bound of a wildcard, within `extends` or `super`.
+#[cycle(values)]
+fn bounded_of<'a, 's>(
+    alloc: Global,
+    room: usize,
+    item: Around,
+    symbols: &'s [Symbol<'a>],
+) -> Result<(TypeText, &'s [Symbol<'a>]), ReadFault>
+    ensures { Gives (λ x. (x.0, x.1.now)) result (bound_read item room symbols.now) }
+{
+    let (text, rest) = annotated_reference_of(alloc, room, symbols)?;
+    Ok((within(item, text)?, rest))
 }
 
 // The bound of a wildcard.
@@ -39,12 +52,10 @@ fn wildcard_bound_of<'a, 's>(
 {
     if is_next(symbols, 26) {
         let (_, rest) = one(symbols, 26)?;
-        let (text, rest) = annotated_reference_of(alloc, room, rest)?;
-        return Ok((within(alloc, Around::Extends, text)?, rest));
+        return bounded_of(alloc, room, Around::Extends, rest);
     }
     let (_, rest) = one(symbols, 49)?;
-    let (text, rest) = annotated_reference_of(alloc, room, rest)?;
-    Ok((within(alloc, Around::Super, text)?, rest))
+    bounded_of(alloc, room, Around::Super, rest)
 }
 
 // Whether the bound of a wildcard begins here.
@@ -136,11 +147,9 @@ fn arguments_in<'a, 's>(
 {
     let (_, rest) = one(symbols, 75)?;
     let (first, rest) = type_argument_of(alloc, room, rest)?;
-    let mut front = Vec::new(alloc);
-    front.push(first)?;
+    let front = one_item(alloc, first)?;
     let (all, rest) = more_arguments_of(alloc, room, front, rest)?;
-    let (_, rest) = one(rest, 74)?;
-    Ok((all, rest))
+    closed(all, rest, 74)
 }
 
 /// A list of type arguments (JLS 4.5.1).

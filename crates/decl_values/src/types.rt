@@ -7,7 +7,8 @@ ghost use Rattle.decl_grammar.specs.Types.{modifier_annotation, named_part, next
 ghost use Rattle.decl_grammar.specs.Rule.{reads};
 
 use crate::annotations::{annotation_body_of, annotations_of};
-use crate::type_arguments::type_arguments_of;
+use crate::around::one_item;
+use crate::type_arguments::optional_arguments_of;
 use apt_base::{List, Name};
 use decl_constants::primitive_type_of;
 use decl_grammar::{ReadFault, Symbol};
@@ -42,12 +43,7 @@ fn named_part_of<'a, 's>(
 {
     let (text, rest) = read_name(room, symbols)?;
     let name = Name::new(alloc, text)?;
-    if is_next(rest, 75) {
-        let (arguments, rest) = type_arguments_of(alloc, room, rest)?;
-        let arguments = Some(List::from_vec(arguments));
-        return Ok((NamedPart { name, arguments }, rest));
-    }
-    let arguments = None;
+    let (arguments, rest) = optional_arguments_of(alloc, room, rest)?;
     Ok((NamedPart { name, arguments }, rest))
 }
 
@@ -111,8 +107,7 @@ pub fn class_type_of<'a, 's>(
     ensures { Gives (λ x. (x.0.items, x.1.now)) result (reads room class_type symbols.now) }
 {
     let (first, rest) = named_part_of(alloc, room, symbols)?;
-    let mut all = Vec::new(alloc);
-    all.push(first)?;
+    let all = one_item(alloc, first)?;
     more_parts_of(alloc, room, all, rest)
 }
 
@@ -201,12 +196,11 @@ fn primitive_array_of<'a, 's>(
     ensures { Gives (λ x. (x.0, x.1.now)) result (turned type_in (reads room primitive_array symbols.now)) }
 {
     let (kind, rest) = primitive_type_of(room, symbols)?;
-    let base = BaseType::Primitive(kind);
     let (first, rest) = dim_of(alloc, room, rest)?;
-    let mut front = Vec::new(alloc);
-    front.push(first)?;
+    let front = one_item(alloc, first)?;
     let (dims, rest) = more_dims_of(alloc, room, front, rest)?;
     let around = List::from_vec(dims);
+    let base = BaseType::Primitive(kind);
     Ok((TypeText { around, base }, rest))
 }
 
@@ -221,9 +215,9 @@ fn class_array_of<'a, 's>(
     ensures { Gives (λ x. (x.0, x.1.now)) result (turned type_in (reads room class_array symbols.now)) }
 {
     let (parts, rest) = class_type_of(alloc, room, symbols)?;
-    let base = BaseType::Named(List::from_vec(parts));
     let (dims, rest) = dims_of(alloc, room, rest)?;
     let around = List::from_vec(dims);
+    let base = BaseType::Named(List::from_vec(parts));
     Ok((TypeText { around, base }, rest))
 }
 

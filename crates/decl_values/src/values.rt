@@ -10,6 +10,7 @@ ghost use Rattle.decl_values.specs.Ends.{EndsWith, expression_as_value, array_le
 ghost use Rattle.decl_turns.specs.declared.states.Place.TheVariants as places;
 
 use crate::annotations::annotation_of;
+use crate::around::{closed, ended};
 use crate::reached::End;
 use crate::rows::{ended_of, fallen, furthest};
 use apt_base::List;
@@ -135,13 +136,11 @@ pub fn listed_step_of<'a, 's>(
     ensures { Gives (λ x. (x.0, x.1.now)) result (listed_step symbols.now) }
 {
     if is_next(symbols, 64) {
-        let (_, rest) = one(symbols, 64)?;
-        return Ok((false, rest));
+        return ended(false, symbols, 64);
     }
     let (_, rest) = one(symbols, 68)?;
     if is_next(rest, 64) {
-        let (_, rest) = one(rest, 64)?;
-        return Ok((false, rest));
+        return ended(false, rest, 64);
     }
     Ok((true, rest))
 }
@@ -253,13 +252,11 @@ fn array_rest_of<'a, 's>(
     ensures { Gives (λ x. (x.0.items, x.1.now)) result (reads room array_rest symbols.now) }
 {
     if is_next(symbols, 64) {
-        let (_, rest) = one(symbols, 64)?;
-        return Ok((Vec::new(alloc), rest));
+        return closed(Vec::new(alloc), symbols, 64);
     }
     if is_next(symbols, 68) {
         let (_, rest) = one(symbols, 68)?;
-        let (_, rest) = one(rest, 64)?;
-        return Ok((Vec::new(alloc), rest));
+        return closed(Vec::new(alloc), rest, 64);
     }
     values_of(alloc, room, symbols)
 }

@@ -135,56 +135,59 @@ decreases-types::reference_of l = 80 * l.room + 25
 abbrev pub decreases-types::annotated_reference_of : goal.decreases-types::annotated_reference_of
 decreases-types::annotated_reference_of l = 80 * l.room + 26
 
+abbrev pub decreases-type_arguments::bounded_of : goal.decreases-type_arguments::bounded_of
+decreases-type_arguments::bounded_of l = 80 * l.room + 27
+
 abbrev pub decreases-type_arguments::wildcard_bound_of : goal.decreases-type_arguments::wildcard_bound_of
-decreases-type_arguments::wildcard_bound_of l = 80 * l.room + 27
+decreases-type_arguments::wildcard_bound_of l = 80 * l.room + 28
 
 abbrev pub decreases-type_arguments::wildcard_of : goal.decreases-type_arguments::wildcard_of
-decreases-type_arguments::wildcard_of l = 80 * l.room + 28
+decreases-type_arguments::wildcard_of l = 80 * l.room + 29
 
 abbrev pub decreases-type_arguments::type_argument_of : goal.decreases-type_arguments::type_argument_of
-decreases-type_arguments::type_argument_of l = 80 * l.room + 29
+decreases-type_arguments::type_argument_of l = 80 * l.room + 30
 
 abbrev pub decreases-type_arguments::next_argument_of : goal.decreases-type_arguments::next_argument_of
-decreases-type_arguments::next_argument_of l = 80 * l.room + 30
+decreases-type_arguments::next_argument_of l = 80 * l.room + 31
 
 abbrev pub decreases-type_arguments::more_arguments_of : goal.decreases-type_arguments::more_arguments_of
-decreases-type_arguments::more_arguments_of l = 80 * l.room + 31
+decreases-type_arguments::more_arguments_of l = 80 * l.room + 32
 
 abbrev pub decreases-type_arguments::arguments_in : goal.decreases-type_arguments::arguments_in
-decreases-type_arguments::arguments_in l = 80 * l.room + 32
+decreases-type_arguments::arguments_in l = 80 * l.room + 33
 
 abbrev pub decreases-creations::created_arguments_in : goal.decreases-creations::created_arguments_in
-decreases-creations::created_arguments_in l = 80 * l.room + 33
+decreases-creations::created_arguments_in l = 80 * l.room + 34
 
 abbrev pub decreases-creations::created_part_of : goal.decreases-creations::created_part_of
-decreases-creations::created_part_of l = 80 * l.room + 34
+decreases-creations::created_part_of l = 80 * l.room + 35
 
 abbrev pub decreases-creations::next_created_part_of : goal.decreases-creations::next_created_part_of
-decreases-creations::next_created_part_of l = 80 * l.room + 35
+decreases-creations::next_created_part_of l = 80 * l.room + 36
 
 abbrev pub decreases-creations::more_created_parts_of : goal.decreases-creations::more_created_parts_of
-decreases-creations::more_created_parts_of l = 80 * l.room + 36
+decreases-creations::more_created_parts_of l = 80 * l.room + 37
 
 abbrev pub decreases-creations::created_class_of : goal.decreases-creations::created_class_of
-decreases-creations::created_class_of l = 80 * l.room + 37
+decreases-creations::created_class_of l = 80 * l.room + 38
 
 abbrev pub decreases-creations::created_type_of : goal.decreases-creations::created_type_of
-decreases-creations::created_type_of l = 80 * l.room + 38
+decreases-creations::created_type_of l = 80 * l.room + 39
 
 abbrev pub decreases-creations::creation_of : goal.decreases-creations::creation_of
-decreases-creations::creation_of l = 80 * l.room + 39
+decreases-creations::creation_of l = 80 * l.room + 40
 
 abbrev pub decreases-pieces::test_of : goal.decreases-pieces::test_of
-decreases-pieces::test_of l = 80 * l.room + 34
+decreases-pieces::test_of l = 80 * l.room + 35
 
 abbrev pub decreases-pieces::test_name_of : goal.decreases-pieces::test_name_of
-decreases-pieces::test_name_of l = 80 * l.room + 34
+decreases-pieces::test_name_of l = 80 * l.room + 35
 
 abbrev pub decreases-pieces::reference_end_of : goal.decreases-pieces::reference_end_of
-decreases-pieces::reference_end_of l = 80 * l.room + 34
+decreases-pieces::reference_end_of l = 80 * l.room + 35
 
 abbrev pub decreases-pieces::part_in : goal.decreases-pieces::part_in
-decreases-pieces::part_in l = 80 * l.room + 40
+decreases-pieces::part_in l = 80 * l.room + 41
 
 abbrev pub invariant-types::more_parts_of-row : goal.invariant-types::more_parts_of-row
 invariant-types::more_parts_of-row l = with_front l.all.items (reads l.room (many next_part) l.rest) ≡ with_front l.fn.front.items (reads l.room (many next_part) l.fn.symbols)
