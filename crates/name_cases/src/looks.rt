@@ -1,91 +1,88 @@
 // Look-ups in words.
 use crate::declared::field_of;
-use crate::shown::{Pieces, mirror};
-use apt_base::{ElementRef, List, Name};
-use case_lines::{CaseFault, items, name, numbers};
+use crate::shown::{element_word, mirror_word, mirror_words};
+use apt_base::{ElementRef, Name};
+use case_lines::{CaseFault, element_at, given, name, one_word};
 use decl_syntax::{Body, Member, TypeText, Unit};
 use element_table::{Table, unit_name};
 use name_resolve::{Finds, Found, name_meaning};
 use std::alloc::Global;
-use type_mirror::Mirror;
 use type_resolve::{interfaces, is_type, resolve_annotation, resolve_type, superclass};
 
-fn path_of(alloc: Global, word: &str) -> Result<Vec<u16>, CaseFault> {
-    let mut path = Vec::new(alloc);
-    for step in &numbers(alloc, &items(alloc, word)?)? {
-        match u16::try_from(*step) {
-            Ok(step) => path.push(step)?,
-            Err(_) => return Err(CaseFault::NotACase),
-        }
-    }
-    Ok(path)
+fn found_word(alloc: Global, found: &Found<'_>) -> Result<String, CaseFault> {
+    given(
+        alloc,
+        unit_name(alloc, found.unit),
+        |alloc, unit: &Name| element_word(alloc, unit.as_str(), found.path.as_slice()),
+    )
 }
 
-fn element(alloc: Global, unit: &Name, path: &[u16]) -> Result<String, CaseFault> {
-    let mut words = String::from_str(alloc, unit.as_str())?;
-    for step in path {
-        words.push_str(format!(in alloc; ":{step}")?.as_str())?;
-    }
-    Ok(words)
-}
-
-fn shown(alloc: Global, finds: &Finds<'_>) -> Result<String, CaseFault> {
+fn finds_word(alloc: Global, finds: &Finds<'_>) -> Result<String, CaseFault> {
     match finds {
-        Finds::Nothing => Ok(String::from_str(alloc, "none")?),
-        Finds::One(find) => {
-            let unit = unit_name(alloc, find.unit)?;
-            element(alloc, &unit, find.path.as_slice())
-        }
-        Finds::Several => Ok(String::from_str(alloc, "several")?),
+        Finds::Nothing => one_word(alloc, "none"),
+        Finds::One(found) => found_word(alloc, found),
+        Finds::Several => one_word(alloc, "several"),
     }
 }
 
-/// What a name means in an element of a unit of the table, or in a clause of it: the words are the unit, the path and the name.
-pub fn meaning(
+// What a name means in an element of a unit of the table, or in a clause of it.
+fn meaning(
     alloc: Global,
     table: &Table,
     header: bool,
-    words: &[&str; 3],
+    at: &ElementRef,
+    word: &str,
 ) -> Result<String, CaseFault> {
-    let unit_word = name(alloc, words[0])?;
-    let path = path_of(alloc, words[1])?;
-    let Some(part) = table.part(&unit_word) else {
+    let Some(part) = table.part(&at.unit) else {
         return Err(CaseFault::NotACase);
     };
-    match table.find(&unit_word) {
+    match table.find(&at.unit) {
         None => Err(CaseFault::NotACase),
         Some(unit) => {
+            let path = Vec::from_slice(alloc, at.path.as_slice())?;
             let at = Found { part, unit, path };
-            let finds = name_meaning(alloc, table, header, &at, words[2])?;
-            shown(alloc, &finds)
+            given(
+                alloc,
+                name_meaning(alloc, table, header, &at, word),
+                finds_word,
+            )
         }
     }
 }
 
-fn reference(alloc: Global, unit: &str, path: &str) -> Result<ElementRef, CaseFault> {
-    Ok(ElementRef {
-        unit: name(alloc, unit)?,
-        path: List::from_vec(path_of(alloc, path)?),
-    })
+fn annotation_word(alloc: Global, found: &Option<ElementRef>) -> Result<String, CaseFault> {
+    match found {
+        None => one_word(alloc, "none"),
+        Some(at) => element_word(alloc, at.unit.as_str(), at.path.as_slice()),
+    }
 }
 
-/// The annotation interface that a name means on an element of the table: the words are the unit, the path and the name.
-pub fn annotation(alloc: Global, table: &Table, words: &[&str; 3]) -> Result<String, CaseFault> {
-    let scope = reference(alloc, words[0], words[1])?;
-    let of = name(alloc, words[2])?;
-    if table.element(&scope).is_none() {
+// The annotation interface that a name means on an element of the table.
+fn annotation_of(
+    alloc: Global,
+    table: &Table,
+    scope: &ElementRef,
+    of: &Name,
+) -> Result<String, CaseFault> {
+    if table.element(scope).is_none() {
         return Err(CaseFault::NotACase);
     }
-    match resolve_annotation(alloc, table, &scope, &of)? {
-        None => Ok(String::from_str(alloc, "none")?),
-        Some(at) => element(alloc, &at.unit, at.path.as_slice()),
-    }
+    given(
+        alloc,
+        resolve_annotation(alloc, table, scope, of),
+        annotation_word,
+    )
 }
 
-fn mirror_words(alloc: Global, of: &Mirror) -> Result<String, CaseFault> {
-    let mut pieces = Pieces::new(alloc);
-    mirror(&mut pieces, of);
-    pieces.into_string()
+fn annotation(
+    alloc: Global,
+    table: &Table,
+    scope: &ElementRef,
+    word: &str,
+) -> Result<String, CaseFault> {
+    given(alloc, name(alloc, word), |alloc, of: &Name| {
+        annotation_of(alloc, table, scope, of)
+    })
 }
 
 // The type of the field of a class that has no other member.
@@ -99,60 +96,99 @@ fn type_of(unit: &Unit) -> Option<&TypeText> {
     }
 }
 
-/// The mirror that a type means in an element of the table: the words are the unit, the path and the type.
-pub fn type_word(alloc: Global, table: &Table, words: &[&str; 3]) -> Result<String, CaseFault> {
-    let scope = reference(alloc, words[0], words[1])?;
-    let unit = field_of(alloc, words[2])?;
-    if table.element(&scope).is_none() {
+fn type_meaning(
+    alloc: Global,
+    table: &Table,
+    scope: &ElementRef,
+    text: &TypeText,
+) -> Result<String, CaseFault> {
+    if table.element(scope).is_none() {
         return Err(CaseFault::NotACase);
     }
-    match type_of(&unit) {
+    given(alloc, resolve_type(alloc, table, scope, text), mirror_word)
+}
+
+fn field_type(
+    alloc: Global,
+    table: &Table,
+    scope: &ElementRef,
+    unit: &Unit,
+) -> Result<String, CaseFault> {
+    match type_of(unit) {
         None => Err(CaseFault::NotACase),
-        Some(text) => {
-            let of = resolve_type(alloc, table, &scope, text)?;
-            mirror_words(alloc, &of)
-        }
+        Some(text) => type_meaning(alloc, table, scope, text),
     }
 }
 
-/// The superclass of a type of the table: the words are its unit and its path.
-pub fn superclass_word(
+// The mirror that a type means in an element of the table.
+fn type_mirror(
     alloc: Global,
     table: &Table,
-    words: &[&str; 2],
+    scope: &ElementRef,
+    word: &str,
 ) -> Result<String, CaseFault> {
-    let at = reference(alloc, words[0], words[1])?;
-    if !is_type(table, &at) {
-        return Err(CaseFault::NotACase);
-    }
-    let of = superclass(alloc, table, &at)?;
-    mirror_words(alloc, &of)
+    given(alloc, field_of(alloc, word), |alloc, unit: &Unit| {
+        field_type(alloc, table, scope, unit)
+    })
 }
 
-fn all_mirrors(alloc: Global, list: &[Mirror]) -> Result<String, CaseFault> {
-    let mut pieces = Pieces::new(alloc);
-    if list.is_empty() {
-        pieces.add("[]");
-    }
-    let mut before = "";
-    for each in list {
-        pieces.add(before);
-        mirror(&mut pieces, each);
-        before = " ";
-    }
-    pieces.into_string()
-}
-
-/// The interfaces of a type of the table: the words are its unit and its path.
-pub fn interface_words(
+fn meant_at(
     alloc: Global,
     table: &Table,
-    words: &[&str; 2],
+    call: &str,
+    at: &ElementRef,
+    word: &str,
 ) -> Result<String, CaseFault> {
-    let at = reference(alloc, words[0], words[1])?;
-    if !is_type(table, &at) {
+    match call {
+        "within" => meaning(alloc, table, false, at, word),
+        "header" => meaning(alloc, table, true, at, word),
+        "annotation" => annotation(alloc, table, at, word),
+        "type" => type_mirror(alloc, table, at, word),
+        _ => Err(CaseFault::NotACase),
+    }
+}
+
+/// What a call on a word in an element gives: the words are the unit, the path and that word.
+pub fn meant(
+    alloc: Global,
+    table: &Table,
+    call: &str,
+    words: &[&str; 3],
+) -> Result<String, CaseFault> {
+    given(
+        alloc,
+        element_at(alloc, words[0], words[1]),
+        |alloc, at: &ElementRef| meant_at(alloc, table, call, at, words[2]),
+    )
+}
+
+fn above_at(
+    alloc: Global,
+    table: &Table,
+    call: &str,
+    at: &ElementRef,
+) -> Result<String, CaseFault> {
+    if !is_type(table, at) {
         return Err(CaseFault::NotACase);
     }
-    let list = interfaces(alloc, table, &at)?;
-    all_mirrors(alloc, list.as_slice())
+    match call {
+        "superclass" => given(alloc, superclass(alloc, table, at), mirror_word),
+        "interfaces" => given(alloc, interfaces(alloc, table, at), mirror_words),
+        _ => Err(CaseFault::NotACase),
+    }
+}
+
+/// What a call on a type of the table gives: its superclass, or its interfaces.
+pub fn above(
+    alloc: Global,
+    table: &Table,
+    call: &str,
+    unit: &str,
+    path: &str,
+) -> Result<String, CaseFault> {
+    given(
+        alloc,
+        element_at(alloc, unit, path),
+        |alloc, at: &ElementRef| above_at(alloc, table, call, at),
+    )
 }

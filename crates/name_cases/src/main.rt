@@ -35,7 +35,7 @@ mod reaches;
 mod shown;
 mod types;
 
-use case_lines::{Calls, CaseFault, run};
+use case_lines::{Calls, CaseFault, done_or, one_word, put, run};
 use decl_syntax::Unit;
 use element_table::{EnterFault, Part, Table};
 use std::alloc::Global;
@@ -51,55 +51,45 @@ struct Names {
 impl Calls for Names {
     fn call(&mut self, alloc: Global, words: &[&str]) -> Result<String, CaseFault> {
         match words {
-            ["empty"] => {
-                self.table = Table::new(alloc);
-                text_of(alloc, "done")
-            }
+            ["empty"] => renew(alloc, &mut self.table),
             ["source", package, imports, file, pieces @ ..] => {
-                let unit = declared::unit(alloc, &[*package, *imports, *file], pieces)?;
-                enter(alloc, &mut self.table, Part::Source, unit)
+                let words = [*package, *imports, *file];
+                declare(alloc, &mut self.table, Part::Source, &words, pieces)
             }
             ["stub", package, imports, file, pieces @ ..] => {
-                let unit = declared::unit(alloc, &[*package, *imports, *file], pieces)?;
-                enter(alloc, &mut self.table, Part::Stub, unit)
+                let words = [*package, *imports, *file];
+                declare(alloc, &mut self.table, Part::Stub, &words, pieces)
             }
             ["file", package, imports] => {
-                let unit = declared::package_file(alloc, *package, *imports)?;
-                enter(alloc, &mut self.table, Part::Source, unit)
+                declare_package(alloc, &mut self.table, package, imports)
             }
             ["chain", last] => chain(alloc, &mut self.table, last.parse::<u32>()?),
-            ["within", unit, path, word] => {
-                looks::meaning(alloc, &self.table, false, &[*unit, *path, *word])
-            }
-            ["header", unit, path, word] => {
-                looks::meaning(alloc, &self.table, true, &[*unit, *path, *word])
-            }
-            ["annotation", unit, path, word] => {
-                looks::annotation(alloc, &self.table, &[*unit, *path, *word])
-            }
-            ["type", unit, path, word] => {
-                looks::type_word(alloc, &self.table, &[*unit, *path, *word])
-            }
-            ["superclass", unit, path] => {
-                looks::superclass_word(alloc, &self.table, &[*unit, *path])
-            }
-            ["interfaces", unit, path] => {
-                looks::interface_words(alloc, &self.table, &[*unit, *path])
-            }
-            ["candidates", unit] => reaches::candidate_words(alloc, &self.table, *unit),
-            ["reach", unit] => reaches::reach_words(alloc, &self.table, *unit),
-            ["kept"] => {
-                self.kept = self.table.copy(alloc)?;
-                text_of(alloc, "done")
-            }
-            ["agree", list] => reaches::agree_word(alloc, &self.kept, &self.table, *list),
-            _ => Err(CaseFault::NotACase),
+            ["kept"] => keep(alloc, &mut self.kept, &self.table),
+            ["agree", list] => reaches::agree_word(alloc, &self.kept, &self.table, list),
+            _ => look(alloc, &self.table, words),
         }
     }
 }
 
-fn text_of(alloc: Global, word: &str) -> Result<String, CaseFault> {
-    Ok(String::from_str(alloc, word)?)
+// The calls that leave both tables as they are, and look at one.
+fn look(alloc: Global, table: &Table, words: &[&str]) -> Result<String, CaseFault> {
+    match words {
+        [call, unit, path, word] => looks::meant(alloc, table, call, &[*unit, *path, *word]),
+        [call, unit, path] => looks::above(alloc, table, call, unit, path),
+        [call, unit] => reaches::names_of(alloc, table, call, unit),
+        _ => Err(CaseFault::NotACase),
+    }
+}
+
+fn renew(alloc: Global, table: &mut Table) -> Result<String, CaseFault> {
+    put(table, Table::new(alloc));
+    one_word(alloc, "done")
+}
+
+fn keep(alloc: Global, kept: &mut Table, table: &Table) -> Result<String, CaseFault> {
+    let copy = table.copy(alloc)?;
+    put(kept, copy);
+    one_word(alloc, "done")
 }
 
 fn refusal(fault: &EnterFault) -> &'static str {
@@ -110,19 +100,34 @@ fn refusal(fault: &EnterFault) -> &'static str {
     }
 }
 
-// A function of its own, so that what drops a unit is proved once.
-fn let_go(_fault: EnterFault) {}
+fn refused(alloc: Global, fault: &EnterFault) -> Result<String, CaseFault> {
+    one_word(alloc, refusal(fault))
+}
 
-/// Enters a unit: `done`, or what stands against it.
+// Enters a unit: `done`, or what stands against it.
 fn enter(alloc: Global, table: &mut Table, part: Part, unit: Unit) -> Result<String, CaseFault> {
-    match table.enter(part, unit) {
-        Ok(()) => text_of(alloc, "done"),
-        Err(fault) => {
-            let word = refusal(&fault);
-            let_go(fault);
-            text_of(alloc, word)
-        }
-    }
+    done_or(alloc, table.enter(part, unit), refused)
+}
+
+// Enters the unit of a package, of imports and of the types of a file, which the pieces declare.
+fn declare(
+    alloc: Global,
+    table: &mut Table,
+    part: Part,
+    words: &[&str; 3],
+    pieces: &[&str],
+) -> Result<String, CaseFault> {
+    enter(alloc, table, part, declared::unit(alloc, words, pieces)?)
+}
+
+fn declare_package(
+    alloc: Global,
+    table: &mut Table,
+    package: &str,
+    imports: &str,
+) -> Result<String, CaseFault> {
+    let unit = declared::package_file(alloc, package, imports)?;
+    enter(alloc, table, Part::Source, unit)
 }
 
 fn class(
@@ -131,8 +136,7 @@ fn class(
     name: &str,
     pieces: &[&str],
 ) -> Result<String, CaseFault> {
-    let unit = declared::unit(alloc, &["m", "[]", name], pieces)?;
-    enter(alloc, table, Part::Source, unit)
+    declare(alloc, table, Part::Source, &["m", "[]", name], pieces)
 }
 
 fn link(alloc: Global, table: &mut Table, number: u32) -> Result<String, CaseFault> {
@@ -142,7 +146,7 @@ fn link(alloc: Global, table: &mut Table, number: u32) -> Result<String, CaseFau
     class(alloc, table, name.as_str(), &[piece.as_str()])
 }
 
-/// Enters the classes of a chain.
+// Enters the classes of a chain.
 fn chain(alloc: Global, table: &mut Table, last: u32) -> Result<String, CaseFault> {
     for number in 0..last {
         link(alloc, table, number)?;

@@ -1,33 +1,36 @@
 // Candidates, reaches and the names on which tables agree, in words.
 use apt_base::{List, Name};
-use case_lines::{CaseFault, joined, name, names};
+use case_lines::{CaseFault, Pieces, given, name, names, one_word, yes_or_no};
 use element_table::Table;
 use reach_map::{agrees, candidates, reach};
 use std::alloc::Global;
 
-fn name_words(alloc: Global, names: &List<Name>) -> Result<String, CaseFault> {
-    let mut words = Vec::new(alloc);
-    for each in names.as_slice() {
-        words.push(String::from_str(alloc, each.as_str())?)?;
-    }
-    joined(alloc, &words)
+fn names_word(alloc: Global, names: &List<Name>) -> Result<String, CaseFault> {
+    let mut pieces = Pieces::new(alloc);
+    pieces.items(names.as_slice());
+    pieces.into_string()
 }
 
-/// The candidates of a unit of the table.
-pub fn candidate_words(alloc: Global, table: &Table, word: &str) -> Result<String, CaseFault> {
-    match table.find(&name(alloc, word)?) {
+fn candidates_at(alloc: Global, table: &Table, unit: &Name) -> Result<String, CaseFault> {
+    match table.find(unit) {
         None => Err(CaseFault::NotACase),
-        Some(unit) => {
-            let names = candidates(alloc, unit)?;
-            name_words(alloc, &names)
-        }
+        Some(unit) => given(alloc, candidates(alloc, unit), names_word),
     }
 }
 
-/// The reach of a name.
-pub fn reach_words(alloc: Global, table: &Table, word: &str) -> Result<String, CaseFault> {
-    let names = reach(alloc, table, &name(alloc, word)?)?;
-    name_words(alloc, &names)
+fn names_at(alloc: Global, table: &Table, call: &str, unit: &Name) -> Result<String, CaseFault> {
+    match call {
+        "candidates" => candidates_at(alloc, table, unit),
+        "reach" => given(alloc, reach(alloc, table, unit), names_word),
+        _ => Err(CaseFault::NotACase),
+    }
+}
+
+/// What a call on the name of a unit gives: its candidates, or its reach.
+pub fn names_of(alloc: Global, table: &Table, call: &str, unit: &str) -> Result<String, CaseFault> {
+    given(alloc, name(alloc, unit), |alloc, unit: &Name| {
+        names_at(alloc, table, call, unit)
+    })
 }
 
 /// `yes` where the tables agree on the names of a list, and `no` where they do not.
@@ -37,11 +40,7 @@ pub fn agree_word(
     other: &Table,
     word: &str,
 ) -> Result<String, CaseFault> {
-    let list = names(alloc, word)?;
-    let said = if agrees(one, other, &list) {
-        "yes"
-    } else {
-        "no"
-    };
-    Ok(String::from_str(alloc, said)?)
+    given(alloc, names(alloc, word), |alloc, names: &List<Name>| {
+        one_word(alloc, yes_or_no(agrees(one, other, names)))
+    })
 }

@@ -1,55 +1,8 @@
-// Mirrors in words.
-use apt_base::ElementRef;
-use case_lines::CaseFault;
+// Mirrors and elements in words.
+use apt_base::{ElementRef, List};
+use case_lines::{CaseFault, Pieces};
 use std::alloc::Global;
 use type_mirror::{Around, BaseMirror, DeclaredMirror, Mirror, PrimitiveKind};
-
-/// A text that is put together piece by piece. Want of memory leaves pieces out, and is told at the end.
-#[derive(Drop)]
-pub struct Pieces {
-    alloc: Global,
-    text: String,
-    complete: bool,
-}
-
-impl Pieces {
-    /// No pieces yet.
-    pub fn new(alloc: Global) -> Pieces {
-        Pieces {
-            alloc,
-            text: String::new(alloc),
-            complete: true,
-        }
-    }
-
-    /// One more piece.
-    pub fn add(&mut self, piece: &str) {
-        if self.text.push_str(piece).is_err() {
-            self.complete = false;
-        }
-    }
-
-    /// An element: its unit and the steps of its path.
-    pub fn element(&mut self, at: &ElementRef) {
-        self.add(at.unit.as_str());
-        for step in at.path.as_slice() {
-            match format!(in self.alloc; ":{step}") {
-                Ok(piece) => self.add(piece.as_str()),
-                Err(_) => self.complete = false,
-            }
-        }
-    }
-
-    /// The pieces.
-    pub fn into_string(self) -> Result<String, CaseFault> {
-        let Pieces { text, complete, .. } = self;
-        if complete {
-            Ok(text)
-        } else {
-            Err(CaseFault::Memory)
-        }
-    }
-}
 
 fn primitive(kind: PrimitiveKind) -> &'static str {
     match kind {
@@ -80,6 +33,19 @@ fn back(item: Around) -> &'static str {
     }
 }
 
+// An element: its unit and the steps of its path.
+fn element(pieces: &mut Pieces, unit: &str, path: &[u16]) {
+    pieces.add(unit);
+    for step in path {
+        pieces.add(":");
+        pieces.number(*step as u64);
+    }
+}
+
+fn element_at(pieces: &mut Pieces, at: &ElementRef) {
+    element(pieces, at.unit.as_str(), at.path.as_slice())
+}
+
 fn within(pieces: &mut Pieces, word: &str, piece: &str) {
     pieces.add(word);
     pieces.add("(");
@@ -87,9 +53,8 @@ fn within(pieces: &mut Pieces, word: &str, piece: &str) {
     pieces.add(")");
 }
 
-/// A mirror.
 #[cycle(mirrors)]
-pub fn mirror(pieces: &mut Pieces, of: &Mirror) {
+fn mirror(pieces: &mut Pieces, of: &Mirror) {
     for each in of.around.as_slice() {
         pieces.add(front(*each));
     }
@@ -107,7 +72,7 @@ fn base(pieces: &mut Pieces, of: &BaseMirror) {
         BaseMirror::Error(text) => within(pieces, "error", text.as_str()),
         BaseMirror::Variable(at) => {
             pieces.add("variable(");
-            pieces.element(at);
+            element_at(pieces, at);
             pieces.add(")")
         }
         BaseMirror::Wildcard => pieces.add("?"),
@@ -129,19 +94,45 @@ fn declared(pieces: &mut Pieces, of: &DeclaredMirror) {
             pieces.add(").")
         }
     }
-    pieces.element(&of.element);
-    arguments(pieces, of.arguments.as_slice())
+    element_at(pieces, &of.element);
+    if of.arguments.is_empty() {
+        return;
+    }
+    pieces.add("<");
+    several(pieces, of.arguments.as_slice(), ",");
+    pieces.add(">")
 }
 
 #[cycle(mirrors)]
-fn arguments(pieces: &mut Pieces, items: &[Mirror]) {
+fn several(pieces: &mut Pieces, items: &[Mirror], between: &str) {
     let mut first = true;
     for each in items {
-        pieces.add(if first { "<" } else { "," });
+        pieces.add(if first { "" } else { between });
         mirror(pieces, each);
         first = false;
     }
-    if !items.is_empty() {
-        pieces.add(">")
+}
+
+/// The words of a mirror.
+pub fn mirror_word(alloc: Global, of: &Mirror) -> Result<String, CaseFault> {
+    let mut pieces = Pieces::new(alloc);
+    mirror(&mut pieces, of);
+    pieces.into_string()
+}
+
+/// The words of several mirrors, with spaces between them, or `[]`.
+pub fn mirror_words(alloc: Global, list: &List<Mirror>) -> Result<String, CaseFault> {
+    let mut pieces = Pieces::new(alloc);
+    if list.is_empty() {
+        pieces.add("[]");
     }
+    several(&mut pieces, list.as_slice(), " ");
+    pieces.into_string()
+}
+
+/// The word of an element.
+pub fn element_word(alloc: Global, unit: &str, path: &[u16]) -> Result<String, CaseFault> {
+    let mut pieces = Pieces::new(alloc);
+    element(&mut pieces, unit, path);
+    pieces.into_string()
 }

@@ -1,73 +1,84 @@
 // Types in words, written as their shapes.
-use crate::declared::{count, text};
-use case_lines::CaseFault;
-use decl_syntax::FieldWriter;
+use case_lines::{CaseFault, Fields, several};
 use std::alloc::Global;
 
-fn bytes(writer: &mut FieldWriter, bytes: &[u8]) -> Result<(), CaseFault> {
-    for each in bytes {
-        writer.u8(*each)?;
-    }
-    Ok(())
+// A number of four bytes behind one byte.
+fn counted(fields: &mut Fields, number: &str) {
+    fields.u8(1);
+    let _number = fields.u32_of(number);
 }
 
 // One of the names of a class type, with the number of its arguments if it has any.
-fn name_token(writer: &mut FieldWriter, token: &str) -> Result<(), CaseFault> {
-    match token.split_once('<') {
+fn class_name(fields: &mut Fields, word: &str) {
+    match word.split_once('<') {
         None => {
-            text(writer, token)?;
-            Ok(writer.u8(0)?)
+            fields.text(word);
+            fields.u8(0)
         }
         Some((name, number)) => {
-            text(writer, name)?;
-            writer.u8(1)?;
-            Ok(writer.u32(number.parse::<u32>()?)?)
+            fields.text(name);
+            counted(fields, number)
         }
     }
 }
 
-fn token(writer: &mut FieldWriter, token: &str) -> Result<(), CaseFault> {
-    match token {
-        "[]" => bytes(writer, &[2]),
-        "?extends" => bytes(writer, &[3, 1, 1]),
-        "?super" => bytes(writer, &[3, 2, 1]),
-        "?" => bytes(writer, &[3, 0, 0]),
-        "int" => bytes(writer, &[0, 3]),
-        "void" => bytes(writer, &[0, 8]),
-        _ => match token.split_once('.') {
-            Some(("", number)) => {
-                writer.u8(1)?;
-                Ok(writer.u32(number.parse::<u32>()?)?)
-            }
-            _ => name_token(writer, token),
-        },
+fn class_word(fields: &mut Fields, word: &str) {
+    match word.split_once('.') {
+        Some(("", number)) => counted(fields, number),
+        _ => class_name(fields, word),
     }
 }
 
-fn tokens(alloc: Global, writer: &mut FieldWriter, word: &str) -> Result<(), CaseFault> {
-    let list: Vec<&str> = word.split('/').collect(alloc)?;
-    for each in &list {
-        token(writer, *each)?;
+fn type_word(fields: &mut Fields, word: &str) {
+    match word {
+        "[]" => fields.bytes(&[2]),
+        "?" => fields.bytes(&[3, 0, 0]),
+        "?extends" => fields.bytes(&[3, 1, 1]),
+        "?super" => fields.bytes(&[3, 2, 1]),
+        "int" => fields.bytes(&[0, 3]),
+        "void" => fields.bytes(&[0, 8]),
+        _ => class_word(fields, word),
+    }
+}
+
+fn type_words(alloc: Global, fields: &mut Fields, word: &str) -> Result<(), CaseFault> {
+    let words: Vec<&str> = word.split('/').collect(alloc)?;
+    for each in &words {
+        type_word(fields, each);
     }
     Ok(())
 }
 
-// The type of a name, without arguments.
-fn named(alloc: Global, writer: &mut FieldWriter, word: &str) -> Result<(), CaseFault> {
-    let names: Vec<&str> = word.split('.').collect(alloc)?;
-    writer.u8(1)?;
-    count(writer, names.as_slice())?;
-    for each in &names {
-        text(writer, *each)?;
-        writer.u8(0)?;
+fn listed_names(fields: &mut Fields, names: &[&str]) {
+    fields.u8(1);
+    fields.count(names.len());
+    for each in names {
+        fields.text(each);
+        fields.u8(0);
     }
+}
+
+// The type of a name, without arguments.
+fn named(alloc: Global, fields: &mut Fields, word: &str) -> Result<(), CaseFault> {
+    let names: Vec<&str> = word.split('.').collect(alloc)?;
+    listed_names(fields, &names);
     Ok(())
 }
 
 /// A type: the names of a class type without arguments, or the words of another type from the outside in.
-pub fn type_text(alloc: Global, writer: &mut FieldWriter, word: &str) -> Result<(), CaseFault> {
+pub fn type_text(alloc: Global, fields: &mut Fields, word: &str) -> Result<(), CaseFault> {
     if word.contains('/') || word == "int" || word == "void" {
-        return tokens(alloc, writer, word);
+        return type_words(alloc, fields, word);
     }
-    named(alloc, writer, word)
+    named(alloc, fields, word)
+}
+
+/// Types, which `+` joins.
+pub fn type_texts(alloc: Global, fields: &mut Fields, word: &str) -> Result<(), CaseFault> {
+    let types = several(alloc, word)?;
+    fields.count(types.len());
+    for each in &types {
+        type_text(alloc, fields, each)?;
+    }
+    Ok(())
 }
