@@ -2,7 +2,7 @@
 ghost use Rattle.std.specs.Prelude.{◌≤◌, length, OnOk};
 
 use crate::base::{FieldReader, FieldWriter};
-use case_lines::{CaseFault, escaped, hex_bytes, hex_digits, push_word, text, truth, yes_or_no};
+use case_lines::{CaseFault, Pieces, escaped, hex_bytes, hex_digits, text, truth, yes_or_no};
 use std::alloc::Global;
 
 // Bytes whose number fits in a field's length.
@@ -35,16 +35,15 @@ fn write_field(
     word: &str,
 ) -> Result<(), CaseFault> {
     match kind {
-        "u8" => writer.u8(word.parse::<u8>()?)?,
-        "u16" => writer.u16(word.parse::<u16>()?)?,
-        "u32" => writer.u32(word.parse::<u32>()?)?,
-        "i64" => writer.i64(word.parse::<i64>()?)?,
-        "bool" => writer.bool(truth(word)?)?,
-        "text" => write_text(alloc, writer, word)?,
-        "bytes" => write_bytes(alloc, writer, word)?,
-        _ => return Err(CaseFault::NotACase),
+        "u8" => Ok(writer.u8(word.parse::<u8>()?)?),
+        "u16" => Ok(writer.u16(word.parse::<u16>()?)?),
+        "u32" => Ok(writer.u32(word.parse::<u32>()?)?),
+        "i64" => Ok(writer.i64(word.parse::<i64>()?)?),
+        "bool" => Ok(writer.bool(truth(word)?)?),
+        "text" => write_text(alloc, writer, word),
+        "bytes" => write_bytes(alloc, writer, word),
+        _ => Err(CaseFault::NotACase),
     }
-    Ok(())
 }
 
 /// The bytes of fields, each a word `KIND=VALUE`.
@@ -85,41 +84,64 @@ fn read_field(
     }
 }
 
+fn truth_word(alloc: Global, truth: Option<bool>) -> Result<Option<String>, CaseFault> {
+    match truth {
+        Some(truth) => Ok(Some(String::from_str(alloc, yes_or_no(truth))?)),
+        None => Ok(None),
+    }
+}
+
+fn text_word(alloc: Global, text: Option<&str>) -> Result<Option<String>, CaseFault> {
+    match text {
+        Some(text) => escaped(alloc, text.as_bytes()).map(Some),
+        None => Ok(None),
+    }
+}
+
+fn bytes_word(alloc: Global, bytes: Option<&[u8]>) -> Result<Option<String>, CaseFault> {
+    match bytes {
+        Some(bytes) => hex_digits(alloc, bytes).map(Some),
+        None => Ok(None),
+    }
+}
+
 fn read_long_field(
     alloc: Global,
     reader: &mut FieldReader<'_>,
     kind: &str,
 ) -> Result<Option<String>, CaseFault> {
-    let word = match kind {
-        "bool" => match reader.bool() {
-            Some(truth) => String::from_str(alloc, yes_or_no(truth))?,
-            None => return Ok(None),
-        },
-        "text" => match reader.text() {
-            Some(text) => escaped(alloc, text.as_bytes())?,
-            None => return Ok(None),
-        },
-        "bytes" => match reader.bytes() {
-            Some(bytes) => hex_digits(alloc, bytes)?,
-            None => return Ok(None),
-        },
-        _ => return Err(CaseFault::NotACase),
-    };
-    Ok(Some(word))
+    match kind {
+        "bool" => truth_word(alloc, reader.bool()),
+        "text" => text_word(alloc, reader.text()),
+        "bytes" => bytes_word(alloc, reader.bytes()),
+        _ => Err(CaseFault::NotACase),
+    }
+}
+
+// Adds the word for the field that stands next, or `none`.
+fn add_field(
+    alloc: Global,
+    pieces: &mut Pieces,
+    reader: &mut FieldReader<'_>,
+    kind: &str,
+) -> Result<(), CaseFault> {
+    pieces.space();
+    pieces.add(kind);
+    pieces.add("=");
+    match read_field(alloc, reader, kind)? {
+        Some(word) => pieces.add(word.as_str()),
+        None => pieces.add("none"),
+    }
+    Ok(())
 }
 
 /// The fields of these kinds at the front of bytes, each as `KIND=VALUE` or `KIND=none`.
 pub fn read(alloc: Global, bytes: &str, kinds: &[&str]) -> Result<String, CaseFault> {
     let bytes = hex_bytes(alloc, bytes)?;
     let mut reader = FieldReader::new(&bytes);
-    let mut words = String::new(alloc);
+    let mut pieces = Pieces::new(alloc);
     for kind in kinds {
-        push_word(&mut words, kind)?;
-        words.push('=')?;
-        match read_field(alloc, &mut reader, kind)? {
-            Some(word) => words.push_str(word.as_str())?,
-            None => words.push_str("none")?,
-        }
+        add_field(alloc, &mut pieces, &mut reader, kind)?;
     }
-    Ok(words)
+    pieces.into_string()
 }

@@ -1,6 +1,6 @@
 // The questions of a child, and the host's replies, for which words stand.
-use crate::base::{List, element};
-use case_lines::{CaseFault, name, value};
+use crate::base::List;
+use case_lines::{CaseFault, both, element, name, value};
 use std::alloc::Global;
 use type_mirror::{Around, BaseMirror, Mirror, PrimitiveKind};
 use wire_frames::{Frame, Question, Refused, Reply};
@@ -19,24 +19,28 @@ fn base(alloc: Global, word: &str) -> Result<BaseMirror, CaseFault> {
         "int" => Ok(BaseMirror::Primitive(PrimitiveKind::Int)),
         "?" => Ok(BaseMirror::Wildcard),
         "void" => Ok(BaseMirror::Void),
-        _ => Ok(BaseMirror::Error(name(alloc, word)?)),
+        _ => name(alloc, word).map(BaseMirror::Error),
     }
+}
+
+fn arounds(alloc: Global, words: &[&str]) -> Result<List<Around>, CaseFault> {
+    let mut arounds = List::new(alloc);
+    for word in words {
+        arounds.push(around(word)?)?;
+    }
+    Ok(arounds)
 }
 
 // A mirror: what stands around it from the outside in, and its base, joined by colons.
 fn mirror(alloc: Global, word: &str) -> Result<Mirror, CaseFault> {
     let parts: Vec<&str> = word.split(':').collect(alloc)?;
-    let Some((last, outer)) = parts.split_last() else {
-        return Err(CaseFault::NotACase);
-    };
-    let mut arounds = List::new(alloc);
-    for part in outer {
-        arounds.push(around(part)?)?;
+    match parts.as_slice() {
+        [outer @ .., last] => {
+            let (around, base) = both(arounds(alloc, outer), base(alloc, last))?;
+            Ok(Mirror { around, base })
+        }
+        [] => Err(CaseFault::NotACase),
     }
-    Ok(Mirror {
-        around: arounds,
-        base: base(alloc, last)?,
-    })
 }
 
 fn refused(word: &str) -> Result<Frame, CaseFault> {

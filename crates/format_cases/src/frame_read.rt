@@ -1,24 +1,41 @@
 // The frames for which words stand.
-use crate::base::{Claim, List, Name, element, elements};
+use crate::base::{Claim, ElementRef, List, Name};
 use crate::frame_asked;
-use case_lines::{CaseFault, hex_bytes, items, name, names, truth, value};
+use case_lines::{CaseFault, both, element, hex_bytes, list, truth, value};
 use std::alloc::Global;
 use wire_frames::{Created, Creation, Frame, Hello, Init, Message, Reply};
+
+// What stands behind the keys of words.
+fn name(alloc: Global, word: &str, key: &str) -> Result<Name, CaseFault> {
+    case_lines::name(alloc, value(word, key)?)
+}
+
+fn names(alloc: Global, word: &str, key: &str) -> Result<List<Name>, CaseFault> {
+    case_lines::names(alloc, value(word, key)?)
+}
 
 fn content(alloc: Global, word: &str) -> Result<List<u8>, CaseFault> {
     Ok(List::from_vec(hex_bytes(alloc, value(word, "content")?)?))
 }
 
-// The options of a list, each a key and a value that a colon joins.
-fn options(alloc: Global, word: &str) -> Result<List<(Name, Name)>, CaseFault> {
-    let mut options = List::new(alloc);
-    for item in &items(alloc, word)? {
-        let Some((key, value)) = item.split_once(':') else {
-            return Err(CaseFault::NotACase);
-        };
-        options.push((name(alloc, key)?, name(alloc, value)?))?;
+fn origins(alloc: Global, word: &str) -> Result<List<ElementRef>, CaseFault> {
+    list(alloc, value(word, "origins")?, element)
+}
+
+fn flag(word: &str, key: &str) -> Result<bool, CaseFault> {
+    truth(value(word, key)?)
+}
+
+// A key and a value that a colon joins.
+fn option(alloc: Global, word: &str) -> Result<(Name, Name), CaseFault> {
+    match word.split_once(':') {
+        Some((key, value)) => both(case_lines::name(alloc, key), case_lines::name(alloc, value)),
+        None => Err(CaseFault::NotACase),
     }
-    Ok(options)
+}
+
+fn options(alloc: Global, word: &str) -> Result<List<(Name, Name)>, CaseFault> {
+    list(alloc, value(word, "options")?, option)
 }
 
 fn created(word: &str) -> Result<Created, CaseFault> {
@@ -43,73 +60,108 @@ fn claim(word: &str) -> Result<Claim, CaseFault> {
 
 fn init(alloc: Global, words: [&str; 3]) -> Result<Frame, CaseFault> {
     let [called, level, given] = words;
+    let level = value(level, "level")?.parse::<u16>()?;
+    let (name, options) = both(name(alloc, called, "name"), options(alloc, given))?;
     Ok(Frame::Init(Init {
-        name: name(alloc, value(called, "name")?)?,
-        level: value(level, "level")?.parse::<u16>()?,
-        options: options(alloc, value(given, "options")?)?,
+        name,
+        level,
+        options,
     }))
 }
 
 fn round(alloc: Global, words: [&str; 5]) -> Result<Frame, CaseFault> {
     let [number, over, error, offered, roots] = words;
+    let number = number.parse::<u32>()?;
+    let over = flag(over, "over")?;
+    let error = flag(error, "error")?;
+    let (offered, roots) = both(
+        names(alloc, offered, "offered"),
+        names(alloc, roots, "roots"),
+    )?;
     Ok(Frame::Round {
-        number: number.parse::<u32>()?,
-        over: truth(value(over, "over")?)?,
-        error: truth(value(error, "error")?)?,
-        offered: names(alloc, value(offered, "offered")?)?,
-        roots: names(alloc, value(roots, "roots")?)?,
+        number,
+        over,
+        error,
+        offered,
+        roots,
     })
 }
 
 fn hello(alloc: Global, words: [&str; 3]) -> Result<Frame, CaseFault> {
     let [patterns, options, claimed] = words;
+    let claim = claim(value(claimed, "claim")?)?;
+    let (patterns, options) = both(
+        names(alloc, patterns, "patterns"),
+        names(alloc, options, "options"),
+    )?;
     Ok(Frame::Hello(Hello {
-        patterns: names(alloc, value(patterns, "patterns")?)?,
-        options: names(alloc, value(options, "options")?)?,
-        claim: claim(value(claimed, "claim")?)?,
+        patterns,
+        options,
+        claim,
     }))
+}
+
+fn place(alloc: Global, word: &str) -> Result<Option<ElementRef>, CaseFault> {
+    match value(word, "element")? {
+        "none" => Ok(None),
+        word => element(alloc, word).map(Some),
+    }
 }
 
 fn message(alloc: Global, words: [&str; 3]) -> Result<Frame, CaseFault> {
-    let [kind, place, text] = words;
-    let element = match value(place, "element")? {
-        "none" => None,
-        word => Some(element(alloc, word)?),
-    };
+    let [kind, at, text] = words;
+    let kind = value(kind, "kind")?.parse::<u8>()?;
+    let (element, text) = both(place(alloc, at), name(alloc, text, "text"))?;
     Ok(Frame::Message(Message {
-        kind: value(kind, "kind")?.parse::<u8>()?,
+        kind,
         element,
-        text: name(alloc, value(text, "text")?)?,
+        text,
     }))
 }
 
-fn source(alloc: Global, words: [&str; 3]) -> Result<Frame, CaseFault> {
-    let [called, bytes, origins] = words;
-    Ok(Frame::Create(Creation::Source {
-        name: name(alloc, value(called, "name")?)?,
-        content: content(alloc, bytes)?,
-        origins: elements(alloc, value(origins, "origins")?)?,
-    }))
+fn source(alloc: Global, words: [&str; 3]) -> Result<Creation, CaseFault> {
+    let [called, bytes, from] = words;
+    let ((name, content), origins) = both(
+        both(name(alloc, called, "name"), content(alloc, bytes)),
+        origins(alloc, from),
+    )?;
+    Ok(Creation::Source {
+        name,
+        content,
+        origins,
+    })
 }
 
-fn resource(alloc: Global, words: [&str; 5]) -> Result<Frame, CaseFault> {
-    let [location, package, relative, bytes, origins] = words;
-    Ok(Frame::Create(Creation::Resource {
-        location: value(location, "location")?.parse::<u8>()?,
-        package: name(alloc, value(package, "package")?)?,
-        relative: name(alloc, value(relative, "relative")?)?,
-        content: content(alloc, bytes)?,
-        origins: elements(alloc, value(origins, "origins")?)?,
-    }))
+fn resource(alloc: Global, words: [&str; 5]) -> Result<Creation, CaseFault> {
+    let [location, package, relative, bytes, from] = words;
+    let location = value(location, "location")?.parse::<u8>()?;
+    let ((package, relative), (content, origins)) = both(
+        both(
+            name(alloc, package, "package"),
+            name(alloc, relative, "relative"),
+        ),
+        both(content(alloc, bytes), origins(alloc, from)),
+    )?;
+    Ok(Creation::Resource {
+        location,
+        package,
+        relative,
+        content,
+        origins,
+    })
 }
 
-fn class(alloc: Global, words: [&str; 3]) -> Result<Frame, CaseFault> {
-    let [called, bytes, origins] = words;
-    Ok(Frame::Create(Creation::Class {
-        name: name(alloc, value(called, "name")?)?,
-        content: content(alloc, bytes)?,
-        origins: elements(alloc, value(origins, "origins")?)?,
-    }))
+fn class(alloc: Global, words: [&str; 3]) -> Result<Creation, CaseFault> {
+    let [called, bytes, from] = words;
+    let ((name, content), origins) = both(
+        both(name(alloc, called, "name"), content(alloc, bytes)),
+        origins(alloc, from),
+    )?;
+    Ok(Creation::Class {
+        name,
+        content,
+        origins,
+    })
 }
 
 /// The frame of a kind and its fields.
@@ -129,14 +181,24 @@ fn child_frame(alloc: Global, words: &[&str]) -> Result<Frame, CaseFault> {
     match *words {
         ["hello", patterns, options, claim] => hello(alloc, [patterns, options, claim]),
         ["done", claimed] => Ok(Frame::Done {
-            claimed: truth(value(claimed, "claimed")?)?,
+            claimed: flag(claimed, "claimed")?,
         }),
-        ["source", name, content, origins] => source(alloc, [name, content, origins]),
-        ["resource", location, package, relative, content, origins] => {
-            resource(alloc, [location, package, relative, content, origins])
-        }
-        ["class", name, content, origins] => class(alloc, [name, content, origins]),
         ["message", kind, element, text] => message(alloc, [kind, element, text]),
+        _ => creation_frame(alloc, words),
+    }
+}
+
+fn creation_frame(alloc: Global, words: &[&str]) -> Result<Frame, CaseFault> {
+    match *words {
+        ["source", name, content, origins] => {
+            source(alloc, [name, content, origins]).map(Frame::Create)
+        }
+        ["resource", location, package, relative, content, origins] => {
+            resource(alloc, [location, package, relative, content, origins]).map(Frame::Create)
+        }
+        ["class", name, content, origins] => {
+            class(alloc, [name, content, origins]).map(Frame::Create)
+        }
         _ => frame_asked::frame(alloc, words),
     }
 }

@@ -1,8 +1,6 @@
 // The words for frames, as they are read.
-use crate::base::{
-    Claim, ElementRef, List, Name, element_word, elements_word, name_word, names_word,
-};
-use case_lines::{CaseFault, hex_digits, yes_or_no};
+use crate::base::{Claim, ElementRef, List, Name};
+use case_lines::{CaseFault, Pieces, yes_or_no};
 use std::alloc::Global;
 use wire_frames::{Creation, Frame, Hello, Message};
 
@@ -14,48 +12,65 @@ fn claim_word(claim: Claim) -> &'static str {
     }
 }
 
-fn hello(alloc: Global, hello: &Hello) -> Result<String, CaseFault> {
-    let patterns = names_word(alloc, &hello.patterns)?;
-    let options = names_word(alloc, &hello.options)?;
-    let claim = claim_word(hello.claim);
-    Ok(format!(in alloc; "hello patterns={patterns} options={options} claim={claim}")?)
+fn hello(pieces: &mut Pieces, hello: &Hello) {
+    pieces.add("hello patterns=");
+    pieces.items(hello.patterns.as_slice());
+    pieces.add(" options=");
+    pieces.items(hello.options.as_slice());
+    pieces.add(" claim=");
+    pieces.add(claim_word(hello.claim))
 }
 
-fn message(alloc: Global, message: &Message) -> Result<String, CaseFault> {
-    let kind = message.kind;
-    let text = name_word(alloc, &message.text)?;
-    let element = match &message.element {
-        None => String::from_str(alloc, "none")?,
-        Some(element) => element_word(alloc, element)?,
-    };
-    Ok(format!(in alloc; "message kind={kind} element={element} text={text}")?)
+fn done(pieces: &mut Pieces, claimed: bool) {
+    pieces.add("done claimed=");
+    pieces.add(yes_or_no(claimed))
+}
+
+fn message(pieces: &mut Pieces, message: &Message) {
+    pieces.add("message kind=");
+    pieces.number(message.kind as u64);
+    pieces.add(" element=");
+    match &message.element {
+        None => pieces.add("none"),
+        Some(element) => pieces.element(element),
+    }
+    pieces.add(" text=");
+    pieces.name(&message.text)
+}
+
+// What the creation of a file of each kind ends with.
+fn content_and_origins(pieces: &mut Pieces, content: &List<u8>, origins: &List<ElementRef>) {
+    pieces.add(" content=");
+    pieces.digits(content.as_slice());
+    pieces.add(" origins=");
+    pieces.items(origins.as_slice())
 }
 
 fn file(
-    alloc: Global,
+    pieces: &mut Pieces,
     kind: &str,
     name: &Name,
     content: &List<u8>,
     origins: &List<ElementRef>,
-) -> Result<String, CaseFault> {
-    let name = name_word(alloc, name)?;
-    let content = hex_digits(alloc, content.as_slice())?;
-    let origins = elements_word(alloc, origins)?;
-    Ok(format!(in alloc; "{kind} name={name} content={content} origins={origins}")?)
+) {
+    pieces.add(kind);
+    pieces.add(" name=");
+    pieces.name(name);
+    content_and_origins(pieces, content, origins)
 }
 
-fn creation(alloc: Global, creation: &Creation) -> Result<String, CaseFault> {
+fn creation(pieces: &mut Pieces, creation: &Creation) {
     match creation {
         Creation::Source {
             name,
             content,
             origins,
-        } => file(alloc, "source", name, content, origins),
+        } => file(pieces, "source", name, content, origins),
         Creation::Class {
             name,
             content,
             origins,
-        } => file(alloc, "class", name, content, origins),
+        } => file(pieces, "class", name, content, origins),
         Creation::Resource {
             location,
             package,
@@ -63,30 +78,36 @@ fn creation(alloc: Global, creation: &Creation) -> Result<String, CaseFault> {
             content,
             origins,
         } => {
-            let package = name_word(alloc, package)?;
-            let relative = name_word(alloc, relative)?;
-            let content = hex_digits(alloc, content.as_slice())?;
-            let origins = elements_word(alloc, origins)?;
-            Ok(format!(in alloc;
-                "resource location={location} package={package} relative={relative} content={content} origins={origins}"
-            )?)
+            pieces.add("resource location=");
+            pieces.number(*location as u64);
+            pieces.add(" package=");
+            pieces.name(package);
+            pieces.add(" relative=");
+            pieces.name(relative);
+            content_and_origins(pieces, content, origins)
         }
     }
 }
 
-/// The words for a frame.
-pub fn frame(alloc: Global, frame: &Frame) -> Result<String, CaseFault> {
+fn show(pieces: &mut Pieces, frame: &Frame) {
     match frame {
-        Frame::Hello(sent) => hello(alloc, sent),
-        Frame::Done { claimed } => {
-            let claimed = yes_or_no(*claimed);
-            Ok(format!(in alloc; "done claimed={claimed}")?)
-        }
-        Frame::Create(created) => creation(alloc, created),
-        Frame::Message(sent) => message(alloc, sent),
+        Frame::Hello(sent) => hello(pieces, sent),
+        Frame::Done { claimed } => done(pieces, *claimed),
+        Frame::Create(created) => creation(pieces, created),
+        Frame::Message(sent) => message(pieces, sent),
         Frame::Init(_) | Frame::Round { .. } | Frame::Reply(_) => {
-            Ok(String::from_str(alloc, "a frame of the host")?)
+            pieces.add("a frame of the host")
         }
-        Frame::Ask(_) => Ok(String::from_str(alloc, "a question")?),
+        Frame::Ask(_) => pieces.add("a question"),
     }
+}
+
+/// The words for a frame, or for none.
+pub fn frame(alloc: Global, frame: &Option<Frame>) -> Result<String, CaseFault> {
+    let mut pieces = Pieces::new(alloc);
+    match frame {
+        Some(frame) => show(&mut pieces, frame),
+        None => pieces.add("none"),
+    }
+    pieces.into_string()
 }

@@ -12,7 +12,7 @@ mod frame_shown;
 mod records;
 
 use base::{is_dotted, is_identifier, is_pattern};
-use case_lines::{Calls, CaseFault, hex_bytes, hex_digits, run, text, yes_or_no};
+use case_lines::{Calls, CaseFault, given, hex_bytes, hex_digits, run, text, yes_or_no};
 use frame_decoder::decode;
 use std::alloc::Global;
 use std::process::ExitCode;
@@ -54,8 +54,7 @@ fn is_so(call: &str, text: &str) -> Result<bool, CaseFault> {
 }
 
 fn encoded_words(alloc: Global, words: &[&str]) -> Result<String, CaseFault> {
-    let frame = frame_read::frame(alloc, words)?;
-    encoded(alloc, &frame)
+    given(alloc, frame_read::frame(alloc, words), encoded)
 }
 
 fn encoded(alloc: Global, frame: &Frame) -> Result<String, CaseFault> {
@@ -68,10 +67,8 @@ fn encoded(alloc: Global, frame: &Frame) -> Result<String, CaseFault> {
 
 // The frame whose tag and fields the bytes are.
 fn frame_read_from(alloc: Global, word: &str) -> Result<String, CaseFault> {
-    match decode(alloc, &hex_bytes(alloc, word)?)? {
-        Some(frame) => frame_shown::frame(alloc, &frame),
-        None => Ok(String::from_str(alloc, "none")?),
-    }
+    let bytes = hex_bytes(alloc, word)?;
+    given(alloc, decode(alloc, &bytes), frame_shown::frame)
 }
 
 fn main(rt: HostRuntime) -> ExitCode {
