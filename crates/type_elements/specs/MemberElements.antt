@@ -89,11 +89,11 @@ abbrev pub package_in : Option UnitText → List ℕ
 package_in None = []
 package_in (Some unit) = unit.«package»
 
-abbrev pub package_of : TypeTable → ElementRef → List ℕ
-package_of table at = package_in (unit_of table at.unit)
+abbrev pub package_name : TypeTable → ElementRef → List ℕ
+package_name table at = package_in (unit_of table at.unit)
 
 abbrev pub in_one_package : TypeTable → ElementRef → ElementRef → Bool
-in_one_package table one other = bytes_eq (package_of table one) (package_of table other)
+in_one_package table one other = bytes_eq (package_name table one) (package_name table other)
 
 -- what is none of public, protected and private is for its package alone (JLS 6.6.1)
 abbrev pub package_allows : TypeTable → ElementRef → ElementRef → Bool

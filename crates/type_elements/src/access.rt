@@ -34,8 +34,8 @@ pub fn is_private(table: &Table, at: &ElementRef) -> bool
 }
 
 // The package of its unit.
-fn package_of<'a>(table: &'a Table, at: &ElementRef) -> &'a str
-    ensures { result.now ≡ elements.package_of table.now at.now }
+fn package_name<'a>(table: &'a Table, at: &ElementRef) -> &'a str
+    ensures { result.now ≡ elements.package_name table.now at.now }
 {
     match table.find(&at.unit) {
         None => "",
@@ -47,5 +47,5 @@ fn package_of<'a>(table: &'a Table, at: &ElementRef) -> &'a str
 pub fn package_allows(table: &Table, other: &ElementRef, at: &ElementRef) -> bool
     ensures { result ≡ elements.package_allows table.now other.now at.now }
 {
-    has_modifier(table, ACCESS, at) || package_of(table, other) == package_of(table, at)
+    has_modifier(table, ACCESS, at) || package_name(table, other) == package_name(table, at)
 }

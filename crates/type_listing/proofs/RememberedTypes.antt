@@ -1,37 +1,15 @@
 -- The key of an element is that of no other one, so what is remembered under it has its members.
-use Rattle.std.proofs.Common.{◌≡◌, ℕ, Bool, true, false, cond, List, [], ◌∷◌, ◌++◌, length, None, Some, refl, sym, ap, subst, ◌∙◌, arith}
+use Rattle.std.proofs.Common.{◌≡◌, ℕ, Bool, true, false, cond, List, [], None, Some, refl, sym, ap, subst, ◌∙◌}
 use Rattle.std.proofs.lemmas.Map.Text.{is_eq-slice_cmp}
 use Rattle.std.proofs.lemmas.Slice.Eq.{bytes_eq-Decides}
 use Rattle.std.specs.Cmp.Lexicographic.{slice_cmp}
 use Rattle.std.specs.Ordering.{nat_cmp, is_eq}
 use Rattle.apt_base.specs.declared.element.ElementRef.{ElementRef}
 use Rattle.element_table.specs.TypeTable.{TypeTable}
-use Rattle.type_listing.specs.Remembered.{AreMembers, element_key, Key, known_at, AreRight}
+use Rattle.type_listing.specs.Remembered.{AreMembers, Key, known_at, AreRight}
 use Rattle.type_listing.specs.declared.known.KnownMembers.{KnownMembers}
-
-head_is : (x y : ℕ) (xs ys : List ℕ) → x ∷ xs ≡ y ∷ ys → x ≡ y
-head_is x y xs ys h = cc
-
-tail_is : (x y : ℕ) (xs ys : List ℕ) → x ∷ xs ≡ y ∷ ys → xs ≡ ys
-tail_is x y xs ys h = cc
-
--- fronts of one length
-fronts_are : (xs ys r s : List ℕ) → length xs ≡ length ys → xs ++ r ≡ ys ++ s → (xs ≡ ys) × (r ≡ s)
-fronts_are [] [] r s e h = (refl, h)
-fronts_are [] (y ∷ ys) r s e h = absurd (omega arith)
-fronts_are (x ∷ xs) [] r s e h = absurd (omega arith)
-fronts_are (x ∷ xs) (y ∷ ys) r s e h =
-    let rest = fronts_are xs ys r s (omega arith) (tail_is x y (xs ++ r) (ys ++ s) h) in
-    (ap (λ (n : ℕ). n ∷ xs) (head_is x y (xs ++ r) (ys ++ s) h) ∙ ap (λ (l : List ℕ). y ∷ l) rest.0, rest.1)
-
-key_is : (one other : ElementRef) → element_key one ≡ element_key other → one ≡ other
-key_is one other h =
-    let count : length one.unit ≡ length other.unit = head_is (length one.unit) (length other.unit) (one.unit ++ one.path) (other.unit ++ other.path) h in
-    let parts = fronts_are one.unit other.unit one.path other.path count
-    (tail_is (length one.unit) (length other.unit) (one.unit ++ one.path) (other.unit ++ other.path) h) in
-    let with_unit : List ℕ → ElementRef = λ u. record { unit = u; path = one.path } in
-    let with_path : List ℕ → ElementRef = λ p. record { unit = other.unit; path = p } in
-    ap with_unit parts.0 ∙ ap with_path parts.1
+use Rattle.type_numbers.proofs.KeyLaws.{element_is}
+use Rattle.type_numbers.specs.Keys.{element_key}
 
 some_is : (one other : KnownMembers) → Some one ≡ Some other → one ≡ other
 some_is one other h = cc
@@ -65,7 +43,7 @@ right-more table old new at k known right is members updates = λ other q found 
     by : (other : ElementRef) (q : Key) (found : KnownMembers) → q.items ≡ element_key other → (b : Bool) → is_eq (slice_cmp nat_cmp k.items q.items) ≡ b
         → cond (is_eq (slice_cmp nat_cmp k.items q.items)) (Some known) (known_at old q.items) ≡ Some found → AreMembers table other found
     by other q found same true e at_q =
-        let here : at ≡ other = key_is at other (sym is ∙ alike_keys k.items q.items e ∙ same) in
+        let here : at ≡ other = element_is at other (sym is ∙ alike_keys k.items q.items e ∙ same) in
         let value : known ≡ found = some_is known found (ap (λ (b : Bool). cond b (Some known) (known_at old q.items)) (sym e) ∙ at_q) in
         subst (λ (x : ElementRef). AreMembers table x found) here (subst (λ (x : KnownMembers). AreMembers table at x) value members)
     by other q found same false e at_q =

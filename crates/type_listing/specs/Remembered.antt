@@ -1,5 +1,5 @@
 -- The members of types that are remembered, each with the least number of levels of supertypes within which they are closed.
-use Rattle.std.specs.Prelude.{◌≡◌, ℕ, zero, suc, ◌≤◌, List, ◌∷◌, ◌++◌, length, map, fold, Option, None, Some, Vec, nat_le, if◌then◌else◌}
+use Rattle.std.specs.Prelude.{◌≡◌, ℕ, zero, suc, ◌≤◌, List, map, fold, Option, None, Some, Vec, nat_le, if◌then◌else◌}
 use Rattle.std.specs.BTreeMap.{is_at}
 use Rattle.std.specs.Map.{lookup}
 use Rattle.std.specs.Cmp.Lexicographic.{slice_cmp}
@@ -9,6 +9,7 @@ use Rattle.apt_base.specs.declared.element.ElementRef.{ElementRef}
 use Rattle.element_table.specs.TypeTable.{TypeTable}
 use Rattle.type_listing.specs.Members.{Elements, with_supertype, members}
 use Rattle.type_listing.specs.declared.known.KnownMembers.{KnownMembers}
+use Rattle.type_numbers.specs.Keys.{element_key}
 
 -- the list where there are as many levels, and open where there are fewer
 abbrev pub closed_from : ℕ → Elements → ℕ → Option Elements
@@ -35,10 +36,6 @@ pub record IsGathered (table : TypeTable) (at : ElementRef) (supers : List Eleme
   pub gathered : (n : ℕ) → members table n at ≡ fold (with_supertype table at) (closed_from levels list n) (map (above table n) supers)
 
 -- ---- what is remembered, by the key of an element
-
--- the length of the name of its unit, this name and its path: no other element has the same
-abbrev pub element_key : ElementRef → List ℕ
-element_key at = length at.unit ∷ (at.unit ++ at.path)
 
 abbrev pub Key : Type 0
 Key = Vec ℕ Global

@@ -1,6 +1,5 @@
 // The members of types that are remembered.
-ghost use Rattle.std.specs.Prelude.{◌≡◌, ◌++◌, IfOk, OnOk, IfSome};
-ghost use Rattle.type_listing.specs.Remembered as remembered;
+ghost use Rattle.std.specs.Prelude.{◌≡◌, IfOk, IfSome};
 ghost use Rattle.type_listing.specs.Remembered.{AreMembers};
 
 use crate::known::KnownMembers;
@@ -9,40 +8,7 @@ use element_table::Table;
 use std::alloc::Global;
 use std::collections::BTreeMap;
 use std::marker::Model;
-
-// ---- keys
-
-fn push_bytes(key: &mut Vec<usize>, bytes: &[u8]) -> Result<(), NoMemory>
-    ensures { OnOk result (key.new.items ≡ key.old.items ++ bytes.now) }
-{
-    for each in bytes {
-        key.push(*each as usize)?;
-    }
-    Ok(())
-}
-
-fn push_path(key: &mut Vec<usize>, path: &[u16]) -> Result<(), NoMemory>
-    ensures { OnOk result (key.new.items ≡ key.old.items ++ path.now) }
-{
-    for each in path {
-        key.push(*each as usize)?;
-    }
-    Ok(())
-}
-
-// The key of an element, which no other one has.
-fn element_key(alloc: Global, at: &ElementRef) -> Result<Vec<usize>, NoMemory>
-    ensures { IfOk result (λ key. key.items ≡ remembered.element_key at.now) }
-{
-    let unit = at.unit.as_str().as_bytes();
-    let mut key = Vec::new(alloc);
-    key.push(unit.len())?;
-    push_bytes(&mut key, unit)?;
-    push_path(&mut key, at.path.as_slice())?;
-    Ok(key)
-}
-
-// ---- what is remembered
+use type_numbers::element_key;
 
 /// The members of types over one table, each type once. Contracts see the table.
 #[derive(Drop)]

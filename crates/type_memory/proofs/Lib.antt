@@ -1,4 +1,3 @@
 pub mod GrownTypes
 pub mod RememberedAnswers
 pub mod RememberedSupertypes
-pub mod RememberedValues

@@ -9,7 +9,7 @@ use Rattle.type_levels.specs.declared.answer.Answer.{Answer}
 use Rattle.type_levels.specs.declared.question.Pair.{Pair}
 use Rattle.type_memory.specs.Known.{Known, AreBothKnown, Grows, known_of, type_at}
 use Rattle.type_memory.specs.Remembered.{AreRight, IsAnswer, key_of, subtype_at}
-use Rattle.type_memory.proofs.RememberedValues.{each-found, each-more, each-none, each-same, each-weaker}
+use Rattle.type_numbers.proofs.RememberedValues.{each-found, each-more, each-none, each-same, each-weaker}
 use Rattle.type_mirror.specs.declared.mirror.Mirror.{Mirror}
 use Rattle.type_numbers.specs.Numbers as numbers
 use Rattle.type_numbers.proofs.NumberLaws.{grown-at, grown-known}

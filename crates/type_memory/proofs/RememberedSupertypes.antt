@@ -4,7 +4,7 @@ use Rattle.std.specs.BTreeMap.{BTreeMap}
 use Rattle.element_table.specs.TypeTable.{TypeTable}
 use Rattle.type_memory.specs.Known.{Known, IsKnown, known_of}
 use Rattle.type_memory.specs.Remembered.{AreDirect, AreSupertypes}
-use Rattle.type_memory.proofs.RememberedValues.{each-weaker}
+use Rattle.type_numbers.proofs.RememberedValues.{each-weaker}
 use Rattle.type_mirror.specs.declared.mirror.Mirror.{Mirror}
 use Rattle.type_numbers.specs.Numbers as numbers
 use Rattle.type_numbers.specs.Numbers.{at}

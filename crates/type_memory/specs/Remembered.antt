@@ -1,19 +1,15 @@
 -- What is remembered of the types of one table: the direct supertypes of some, and which are subtypes of others.
 use Rattle.std.specs.Prelude.{◌≡◌, ℕ, ◌+◌, ◌*◌, ◌&&◌, List, Option, Some, None, nat_lt, if◌then◌else◌}
-use Rattle.std.specs.BTreeMap.{BTreeMap, get}
-use Rattle.std.specs.Ordering.{nat_cmp}
+use Rattle.std.specs.BTreeMap.{BTreeMap}
 use Rattle.element_table.specs.TypeTable.{TypeTable}
 use Rattle.type_levels.specs.Steps.{all_steps}
 use Rattle.type_levels.specs.declared.answer.Answer.{Answer}
 use Rattle.type_levels.specs.declared.question.Pair.{Pair}
 use Rattle.type_memory.specs.Known.{Known, IsKnown, AreBothKnown, known_of, type_at}
+use Rattle.type_numbers.specs.Remembered.{EachHas}
 use Rattle.type_relations.specs.Direct.{direct}
 use Rattle.type_steps.specs.Supertypes.{AllMayStand}
 use Rattle.type_subtypes.specs.Subtypes.{contained, next_of, subtype}
-
--- what stands at each number has this
-unfoldable pub EachHas : {V : Type 0} → (ℕ → V → Type 0) → BTreeMap ℕ V → Type 0
-EachHas P held = (number : ℕ) (value : _) → get nat_cmp held number ≡ Some value → P number value
 
 -- ---- direct supertypes
 

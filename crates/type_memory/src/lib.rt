@@ -11,6 +11,4 @@ mod known_types;
 mod relation;
 mod subtypes;
 
-pub use known_types::KnownTypes;
-pub use relation::KnownSubtypes;
 pub use subtypes::RememberedSubtypes;

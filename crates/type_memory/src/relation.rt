@@ -8,7 +8,7 @@ use type_subtypes::Subtypes;
 
 /// Subtypes (JLS 4.10) over the table of types that are known.
 #[derive(Drop)]
-pub struct KnownSubtypes {
+pub(crate) struct KnownSubtypes {
     /// What gives memory to the search.
     pub alloc: Global,
 }

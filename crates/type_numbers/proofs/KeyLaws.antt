@@ -72,7 +72,8 @@ element_are one other r s h =
     let paths = counted_are one.path other.path r s units.1 in
     (element_from one other units.0 paths.0, paths.1)
 
-element_is : (one other : ElementRef) → element_key one ≡ element_key other → one ≡ other
+-- no other element has the same key
+pub element_is : (one other : ElementRef) → element_key one ≡ element_key other → one ≡ other
 element_is one other h =
     let units = counted_are one.unit other.unit (counted one.path) (counted other.path) h in
     element_from one other units.0 (counted_is one.path other.path units.1)

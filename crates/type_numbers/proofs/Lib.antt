@@ -4,3 +4,4 @@ pub mod HeldSteps
 pub mod KeyLaws
 pub mod LayerMaps
 pub mod NumberLaws
+pub mod RememberedValues

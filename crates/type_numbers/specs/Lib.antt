@@ -2,3 +2,4 @@ pub mod Held
 pub mod Keys
 pub mod Nodes
 pub mod Numbers
+pub mod Remembered

@@ -68,6 +68,15 @@ fn push_element(key: &mut Vec<usize>, element: &ElementRef) -> Result<(), NoMemo
     push_path(key, element.path.as_slice())
 }
 
+/// The key of an element, by which what is known of it can be found: numbers that no other element has.
+pub fn element_key(alloc: Global, element: &ElementRef) -> Result<Vec<usize>, NoMemory>
+    ensures { IfOk result (λ k. k.items ≡ element_key element.now) }
+{
+    let mut key = Vec::new(alloc);
+    push_element(&mut key, element)?;
+    Ok(key)
+}
+
 fn push_elements(key: &mut Vec<usize>, elements: &[ElementRef]) -> Result<(), NoMemory>
     ensures { OnOk result (key.new.items ≡ key.old.items ++ elements_key elements.now) }
 {
@@ -121,7 +130,7 @@ fn executable_key(
     Ok(key)
 }
 
-fn element_key(alloc: Global, element: &ElementRef) -> Result<Vec<usize>, NoMemory>
+fn variable_key(alloc: Global, element: &ElementRef) -> Result<Vec<usize>, NoMemory>
     ensures { IfOk result (λ k. k.items ≡ (3 ∷ []) ++ element_key element.now) }
 {
     let mut key = begun(alloc, &[3])?;
@@ -147,7 +156,7 @@ pub(crate) fn key_of(alloc: Global, node: &Node) -> Result<Vec<usize>, NoMemory>
             declared_key(alloc, element, enclosing, arguments.as_slice())
         }
         Node::Error(text) => text_key(alloc, 2, text.as_str()),
-        Node::Variable(element) => element_key(alloc, element),
+        Node::Variable(element) => variable_key(alloc, element),
         Node::Array(item) => begun(alloc, &[4, *item]),
         Node::Unbounded => begun(alloc, &[5]),
         Node::Extends(bound) => begun(alloc, &[6, *bound]),

@@ -2,14 +2,9 @@
 use Rattle.std.proofs.Common.{◌≡◌, ℕ, zero, suc, ◌+◌, ◌<◌, Bool, true, false, cond, List, [], ◌∷◌, ◌++◌, length, get_or, take, drop, map, find, unwrap_or, Option, Some, None, refl, sym, ap, subst, ◌∙◌, arith}
 use Rattle.std.proofs.lemmas.List.{map-append}
 use Rattle.std.proofs.Math.Seq.{take-suc}
-use Rattle.std.specs.BTreeMap.{BTreeMap, get, is_at, IsEmpty, IsUnchanged}
-use Rattle.std.specs.Map.{lookup}
-use Rattle.std.specs.FinMap.{nat_cmp-IsAntisymmetric}
+use Rattle.std.specs.BTreeMap.{BTreeMap}
 use Rattle.std.specs.List.{AllByRecursion}
 use Rattle.std.specs.Option.{option_map, option_to_list}
-use Rattle.std.specs.Ordering.{nat_cmp, is_eq}
-use Rattle.std.specs.declared.cmp.Ordering.{Ordering}
-use Rattle.std.specs.declared.cmp.Ordering.TheVariants.{Less, Equal, Greater}
 use Rattle.apt_base.proofs.FieldsLemmas.{some_is}
 use Rattle.apt_base.specs.declared.element.ElementRef.{ElementRef}
 use Rattle.type_mirror.specs.declared.mirror.Mirror.{Mirror}
@@ -21,9 +16,10 @@ use Rattle.type_numbers.specs.declared.node.Node.{Node}
 use Rattle.type_numbers.specs.declared.node.Node.TheVariants as node
 use Rattle.type_numbers.specs.Nodes.{layer_of}
 use Rattle.type_numbers.specs.Numbers.{at, IsKnown, AreKnown, Stands, AllStand, OptionStands, Grows, with_types, mirror_with}
-use Rattle.type_substitution.specs.Replaced.{Numbered, replacements_in, AreKnownIn, number_for, replaced_at, replaced_layer, replaced_node, Remembers}
+use Rattle.type_substitution.specs.Replaced.{Numbered, replacements_in, AreKnownIn, number_for, replaced_at, replaced_layer, replaced_node, IsMade, Remembers}
 use Rattle.type_numbers.proofs.LayerMaps.{all_given, all_joined, parts-split}
 use Rattle.type_numbers.proofs.NumberLaws.{grown-known, grown-at, grown-stands, grown-all, grown-option, grows-on, all-next}
+use Rattle.type_numbers.proofs.RememberedValues.{each-weaker}
 use Rattle.type_substitution.proofs.ReplacedLayers.{substituted-layer}
 
 -- ---- more types
@@ -59,54 +55,12 @@ grown-all_replaced t t' by (number ∷ numbers) g all known =
 -- ---- what is remembered
 
 pub grown-remembers : (t t' : List Mirror) (by : Numbered) (done : BTreeMap ℕ ℕ) → Grows t t' → AreKnownIn t by → Remembers t by done → Remembers t' by done
-unfolding Remembers
-grown-remembers t t' by done g all so_far number made here =
-    let was = so_far number made here in
-    let same = sym (grown-replaced t t' by number g all was.0) in
-    (grown-known t t' number g was.0, grown-stands t t' made (replaced_at t' by number) g (subst (λ (m : Mirror). Stands t made m) same was.1))
-
-pub remembers-nothing : (t : List Mirror) (by : Numbered) (done : BTreeMap ℕ ℕ) → IsEmpty done → Remembers t by done
-unfolding Remembers
-remembers-nothing t by done empty number made here =
-    let none : None ≡ Some made = sym (ap (lookup (is_at (nat_cmp number))) empty) ∙ here in
-    absurd cc
-
-pub remembers-same : (t : List Mirror) (by : Numbered) (done done' : BTreeMap ℕ ℕ) → IsUnchanged done done' → Remembers t by done → Remembers t by done'
-unfolding Remembers
-remembers-same t by done done' same so_far number made here = so_far number made (sym (ap (lookup (is_at (nat_cmp number))) same) ∙ here)
-
-pub remembers-made : (t : List Mirror) (by : Numbered) (done : BTreeMap ℕ ℕ) (number made : ℕ) → Remembers t by done → get nat_cmp done number ≡ Some made
-    → Stands t made (replaced_at t by number)
-unfolding Remembers
-remembers-made t by done number made so_far here = (so_far number made here).1
-
-equal_from : (o : Ordering) → is_eq o ≡ true → o ≡ Equal
-equal_from Less e = absurd cc
-equal_from Equal e = refl
-equal_from Greater e = absurd cc
-
--- one number more
-module _ (t : List Mirror) (by : Numbered) (done done' : BTreeMap ℕ ℕ) (number made : ℕ)
-    (so_far : (q r : ℕ) → get nat_cmp done q ≡ Some r → IsKnown t q × Stands t r (replaced_at t by q))
-    (updates : (q : ℕ) → get nat_cmp done' q ≡ cond (is_eq (nat_cmp number q)) (Some made) (get nat_cmp done q)) (known : IsKnown t number) (stands : Stands t made (replaced_at t by number)) where
-  abbrev Had : ℕ → ℕ → Type 0
-  Had q r = IsKnown t q × Stands t r (replaced_at t by q)
-
-  here : (q r : ℕ) → number ≡ q → made ≡ r → Had q r
-  here q r e e' = subst (λ (n : ℕ). Had n r) e (known, subst (λ (n : ℕ). Stands t n (replaced_at t by number)) e' stands)
-
-  -- by how the two numbers compare
-  more_at : (q r : ℕ) (b : Bool) → is_eq (nat_cmp number q) ≡ b → get nat_cmp done' q ≡ Some r → Had q r
-  more_at q r true alike got =
-      let found : Some made ≡ Some r = sym (updates q ∙ ap (λ (b : Bool). cond b (Some made) (get nat_cmp done q)) alike) ∙ got in
-      here q r (nat_cmp-IsAntisymmetric number q (equal_from (nat_cmp number q) alike)) (some_is made r found)
-  more_at q r false alike got = so_far q r (sym (updates q ∙ ap (λ (b : Bool). cond b (Some made) (get nat_cmp done q)) alike) ∙ got)
-
-pub remembers-more : (t : List Mirror) (by : Numbered) (done done' : BTreeMap ℕ ℕ) (number made : ℕ) → Remembers t by done
-    → ((q : ℕ) → get nat_cmp done' q ≡ cond (is_eq (nat_cmp number q)) (Some made) (get nat_cmp done q)) → IsKnown t number → Stands t made (replaced_at t by number) → Remembers t by done'
-unfolding Remembers
-remembers-more t by done done' number made so_far updates known stands q r got =
-    more_at t by done done' number made so_far updates known stands q r (is_eq (nat_cmp number q)) refl got
+grown-remembers t t' by done g all so_far = each-weaker (IsMade t by) (IsMade t' by) done stays so_far
+  where
+    stays : (number made : ℕ) → IsMade t by number made → IsMade t' by number made
+    stays number made was =
+        let same = sym (grown-replaced t t' by number g all was.0) in
+        (grown-known t t' number g was.0, grown-stands t t' made (replaced_at t' by number) g (subst (λ (m : Mirror). Stands t made m) same was.1))
 
 -- ---- variables
 

@@ -2,8 +2,7 @@
 use Rattle.std.specs.Prelude.{◌≡◌, ℕ, List, map, find, Option, Some}
 use Rattle.std.specs.List.{AllByRecursion}
 use Rattle.std.specs.Option.{option_map}
-use Rattle.std.specs.BTreeMap.{BTreeMap, get}
-use Rattle.std.specs.Ordering.{nat_cmp}
+use Rattle.std.specs.BTreeMap.{BTreeMap}
 use Rattle.apt_base.specs.declared.element.ElementRef.{ElementRef}
 use Rattle.type_mirror.specs.declared.mirror.Mirror.{Mirror}
 use Rattle.type_mirror.specs.Substitution.{Replacements, same_element, in_place, substituted}
@@ -11,6 +10,7 @@ use Rattle.type_layers.specs.Layers.{Layer, Variable, mirror_of, map_layer}
 use Rattle.type_numbers.specs.declared.node.Node.{Node}
 use Rattle.type_numbers.specs.Nodes.{layer_of}
 use Rattle.type_numbers.specs.Numbers.{at, IsKnown, Stands}
+use Rattle.type_numbers.specs.Remembered.{EachHas}
 
 -- variables, each with the number of the type that is put in its place
 abbrev pub Numbered : Type 0
@@ -48,6 +48,10 @@ replaced_option types by number = option_map (replaced_at types by) number
 abbrev pub all_replaced : List Mirror → Numbered → List ℕ → List Mirror
 all_replaced types by numbers = map (replaced_at types by) numbers
 
+-- a number was made of a number
+abbrev pub IsMade : List Mirror → Numbered → ℕ → ℕ → Type 0
+IsMade types by number made = IsKnown types number × Stands types made (replaced_at types by number)
+
 -- what was made of numbers so far
-unfoldable pub Remembers : List Mirror → Numbered → BTreeMap ℕ ℕ → Type 0
-Remembers types by done = (number result : ℕ) → get nat_cmp done number ≡ Some result → IsKnown types number × Stands types result (replaced_at types by number)
+abbrev pub Remembers : List Mirror → Numbered → BTreeMap ℕ ℕ → Type 0
+Remembers types by done = EachHas (IsMade types by) done

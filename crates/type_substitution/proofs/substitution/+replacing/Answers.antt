@@ -8,13 +8,14 @@ use Rattle.type_numbers.specs.Numbers.{Stands, AllStand}
 use Rattle.type_numbers.proofs.AddedTypes.{executable-split, executable-known}
 use Rattle.type_numbers.proofs.LayerMaps.{all-at}
 use Rattle.type_numbers.proofs.NumberLaws.{grown-known, grows-on}
-use Rattle.type_substitution.specs.Replaced.{replaced_at, replaced_node, all_replaced}
-use Rattle.type_substitution.proofs.ReplacedSteps.{known-below, all_known-below, grown-known_in, grown-replaced, grown-remembers, remembers-same, remembers-made, remembers-more, replaced-node, declared-split, declared-replaced, executable-replaced, all-dropped, each-next}
+use Rattle.type_numbers.proofs.RememberedValues.{each-found, each-more, each-same}
+use Rattle.type_substitution.specs.Replaced.{IsMade, replaced_at, replaced_node, all_replaced}
+use Rattle.type_substitution.proofs.ReplacedSteps.{known-below, all_known-below, grown-known_in, grown-replaced, grown-remembers, replaced-node, declared-split, declared-replaced, executable-replaced, all-dropped, each-next}
 use Rattle.type_substitution.proofs.substitution.+replacing.Goals as goal
 
 pub replaced-returns-in-Some-clause-stands : goal.replaced-returns-in-Some-clause-stands
 replaced-returns-in-Some-clause-stands t c =
-    remembers-made c.args.types.now c.args.by.now c.args.done.now c.args.number c.in-Some.made.now c.requires.so_far (sym c.in-Some.ensures.value)
+    (each-found (IsMade c.args.types.now c.args.by.now) c.args.done.now c.args.number c.in-Some.made.now c.requires.so_far (sym c.in-Some.ensures.value)).1
 
 pub replaced-replaced_node-requires : goal.replaced-replaced_node-requires
 replaced-replaced_node-requires t c = (
@@ -30,7 +31,7 @@ replaced-replaced_node-requires t c = (
 
 pub replaced-returns-in_err-insert-clause-so_far : goal.replaced-returns-in_err-insert-clause-so_far
 replaced-returns-in_err-insert-clause-so_far t c =
-    remembers-same c.replaced_node.new.types c.args.by.now c.replaced_node.new.done c.insert.new.self c.in_err-insert.ensures.err c.in_ok-made.ensures.so_far
+    each-same (IsMade c.replaced_node.new.types c.args.by.now) c.replaced_node.new.done c.insert.new.self c.in_err-insert.ensures.err c.in_ok-made.ensures.so_far
 
 pub replaced-returns-clause-stands : goal.replaced-returns-clause-stands
 replaced-returns-clause-stands t c =
@@ -43,9 +44,11 @@ replaced-returns-clause-so_far t c =
     let now = c.replaced_node.new.types in
     let same = replaced-node was c.args.by.now c.args.number c.node.result.now c.in_ok-node.node c.in_ok-node.ensures c.node.ensures.exact
     ∙ sym (grown-replaced was now c.args.by.now c.args.number c.in_ok-made.ensures.grows c.requires.by c.requires.known) in
-    remembers-more now c.args.by.now c.replaced_node.new.done c.insert.new.self c.args.number c.in_ok-made.made c.in_ok-made.ensures.so_far
-    (λ q. c.in_ok-insert.ensures.updates.0 q) (grown-known was now c.args.number c.in_ok-made.ensures.grows c.requires.known)
-    (subst (λ (m : Mirror). Stands now c.in_ok-made.made m) same c.in_ok-made.ensures.stands)
+    each-more (IsMade now c.args.by.now) c.replaced_node.new.done c.insert.new.self c.args.number c.in_ok-made.made c.in_ok-made.ensures.so_far
+    (λ q. c.in_ok-insert.ensures.updates.0 q) (
+      grown-known was now c.args.number c.in_ok-made.ensures.grows c.requires.known,
+      subst (λ (m : Mirror). Stands now c.in_ok-made.made m) same c.in_ok-made.ensures.stands,
+    )
 
 pub replaced_each-loop-number-preserved : goal.replaced_each-loop-number-preserved
 replaced_each-loop-number-preserved t c =

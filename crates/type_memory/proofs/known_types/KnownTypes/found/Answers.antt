@@ -2,7 +2,7 @@ use Rattle.std.proofs.Common.{ℕ, List, Option, sym, subst}
 use Rattle.type_memory.specs.Known.{Known, IsKnown, known_of}
 use Rattle.type_memory.specs.Remembered.{AreDirect}
 use Rattle.type_memory.proofs.RememberedSupertypes.{Had, direct-grown, supertypes-grown}
-use Rattle.type_memory.proofs.RememberedValues.{each-more, each-same}
+use Rattle.type_numbers.proofs.RememberedValues.{each-more, each-same}
 use Rattle.type_numbers.proofs.NumberLaws.{grown-known}
 use Rattle.type_memory.proofs.known_types.KnownTypes.found.Goals as goal
 

@@ -2,7 +2,7 @@ use Rattle.std.proofs.Common.{ℕ, List, Option, sym, subst}
 use Rattle.type_memory.specs.Known.{Known, known_of}
 use Rattle.type_memory.specs.Remembered.{AreDirect}
 use Rattle.type_memory.proofs.RememberedSupertypes.{Had}
-use Rattle.type_memory.proofs.RememberedValues.{each-found}
+use Rattle.type_numbers.proofs.RememberedValues.{each-found}
 use Rattle.type_memory.proofs.known_types.KnownTypes.recalled.Goals as goal
 
 pub returns-in_ok-copy-in-Some : goal.returns-in_ok-copy-in-Some
