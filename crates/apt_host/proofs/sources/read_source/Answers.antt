@@ -12,7 +12,7 @@ returns-in-Ok-clause-read c =
     let source = c.args.source.now in
     let result : Result Parsed FileFault = Ok c.in-Ok.parsed in
     let copied : c.in_ok-path.path ≡ source.path = c.in_ok-path.ensures in
-    let here : Parses (reading_of c.as_str.result.now c.as_slice.result.now) result = c.in-Ok.ensures in
+    let here : Parses (reading_of c.as_str.result.now c.as_slice.result.now) result = c.in-Ok.ensures.reading in
     let at_path : Parses (reading_of source.path c.as_slice.result.now) result = subst (λ (path : List ℕ). Parses (reading_of path c.as_slice.result.now) result) (c.as_str.ensures ∙ copied) here in
     read-as c.args.part source c.in-Ok.parsed _ (subst (λ (bytes : List ℕ). Parses (reading_of source.path bytes) result) c.as_slice.ensures at_path)
     (ap (λ (path : List ℕ). record { path = path; units = c.in-Ok.parsed.units }) copied)
@@ -22,7 +22,7 @@ returns-in-Err-clause-read c =
     let source = c.args.source.now in
     let result : Result Parsed FileFault = Err c.in-Err.fault in
     let copied : c.in_ok-path.path ≡ source.path = c.in_ok-path.ensures in
-    let here : Parses (reading_of c.as_str.result.now c.as_slice.result.now) result = c.in-Err.ensures in
+    let here : Parses (reading_of c.as_str.result.now c.as_slice.result.now) result = c.in-Err.ensures.reading in
     let at_path : Parses (reading_of source.path c.as_slice.result.now) result = subst (λ (path : List ℕ). Parses (reading_of path c.as_slice.result.now) result) (c.as_str.ensures ∙ copied) here in
     refused-as c.args.part source c.in-Err.fault (verdict c.unread.result) (subst (λ (bytes : List ℕ). Parses (reading_of source.path bytes) result) c.as_slice.ensures at_path)
     (c.unread.ensures.is ∙ ap (λ (path : List ℕ). of_unread c.args.part path c.in-Err.fault) copied)

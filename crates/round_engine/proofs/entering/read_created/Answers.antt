@@ -13,9 +13,9 @@ read_declarations-requires c = omega (arith, c.if-count-gt-MOST_BYTES.false)
 pub returns-in-Ok : goal.returns-in-Ok
 returns-in-Ok c =
     let short : length c.args.content.now ≤ 8388608 = omega (arith, c.if-count-gt-MOST_BYTES.false) in
-    gives-parsed c.args.path.now c.args.content.now c.in-Ok.parsed short c.in-Ok.ensures
+    gives-parsed c.args.path.now c.args.content.now c.in-Ok.parsed short c.in-Ok.ensures.reading
 
 pub returns-in-Err : goal.returns-in-Err
 returns-in-Err c =
     let short : length c.args.content.now ≤ 8388608 = omega (arith, c.if-count-gt-MOST_BYTES.false) in
-    gives-unparsed c.args.path.now c.args.content.now c.in-Err.fault short c.in-Err.ensures
+    gives-unparsed c.args.path.now c.args.content.now c.in-Err.fault short c.in-Err.ensures.reading
