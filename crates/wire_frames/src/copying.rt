@@ -1,106 +1,140 @@
-// Copies of lists and options that several frames have.
+// Copies of what frames hold: each kind of part, lists of parts, and several parts together.
 ghost use Rattle.std.specs.Prelude.{◌≡◌, IfOk};
 
-use apt_base::{ElementRef, List, Name, NoMemory};
+use apt_base::{ElementRef, List, Name, NoMemory, copy_names};
 use std::alloc::Global;
 use type_mirror::{Annotation, Mirror, Value};
 
-/// Equal elements in the same order.
-pub(crate) fn copy_elements(
-    alloc: Global,
-    elements: &[ElementRef],
-) -> Result<List<ElementRef>, NoMemory>
-    ensures { IfOk result (λ list. list ≡ elements.now) }
+/// What frames hold and copy.
+pub(crate) trait Part: Drop {
+    /// An equal part. It fails only for want of memory.
+    fn copied(&self, alloc: Global) -> Result<Self, NoMemory>
+        ensures { IfOk result (λ copy. copy ≡ self.now) };
+}
+
+/// Equal parts in the same order.
+pub(crate) fn copy_all<T: Part>(alloc: Global, parts: &[T]) -> Result<List<T>, NoMemory>
+    ensures { IfOk result (λ list. list ≡ parts.now) }
 {
     let mut copies = List::new(alloc);
-    for each in elements {
-        copies.push(each.copy(alloc)?)?;
+    for each in parts {
+        copies.push(each.copied(alloc)?)?;
     }
     Ok(copies)
 }
 
-/// Equal mirrors in the same order.
-pub(crate) fn copy_mirrors(alloc: Global, mirrors: &[Mirror]) -> Result<List<Mirror>, NoMemory>
-    ensures { IfOk result (λ list. list ≡ mirrors.now) }
-{
-    let mut copies = List::new(alloc);
-    for each in mirrors {
-        copies.push(each.copy(alloc)?)?;
-    }
-    Ok(copies)
-}
-
-// Letting go of a mirror.
-fn discard(_mirror: Mirror) {}
-
-/// Two equal mirrors.
-pub(crate) fn copy_two_mirrors(
+/// Two parts that are equal to these.
+pub(crate) fn copy_both<A: Part, B: Part>(
     alloc: Global,
-    one: &Mirror,
-    other: &Mirror,
-) -> Result<(Mirror, Mirror), NoMemory>
+    one: &A,
+    other: &B,
+) -> Result<(A, B), NoMemory>
     ensures { IfOk result (λ copies. (copies.0 ≡ one.now) × (copies.1 ≡ other.now)) }
 {
-    let one = one.copy(alloc)?;
-    match other.copy(alloc) {
-        Ok(other) => Ok((one, other)),
-        Err(error) => {
-            discard(one);
-            Err(error)
+    Ok((one.copied(alloc)?, other.copied(alloc)?))
+}
+
+/// Three parts that are equal to these.
+pub(crate) fn copy_three<A: Part, B: Part, C: Part>(
+    alloc: Global,
+    one: &A,
+    two: &B,
+    three: &C,
+) -> Result<(A, B, C), NoMemory>
+    ensures { IfOk result (λ copies. (copies.0 ≡ one.now) × (copies.1 ≡ two.now) × (copies.2 ≡ three.now)) }
+{
+    Ok((one.copied(alloc)?, two.copied(alloc)?, three.copied(alloc)?))
+}
+
+/// Four parts that are equal to these.
+pub(crate) fn copy_four<A: Part, B: Part, C: Part, D: Part>(
+    alloc: Global,
+    one: &A,
+    two: &B,
+    three: &C,
+    four: &D,
+) -> Result<(A, B, C, D), NoMemory>
+    ensures front { IfOk result (λ copies. (copies.0 ≡ one.now) × (copies.1 ≡ two.now)) }
+    ensures rest { IfOk result (λ copies. (copies.2 ≡ three.now) × (copies.3 ≡ four.now)) }
+{
+    let (one, two) = copy_both(alloc, one, two)?;
+    let (three, four) = copy_both(alloc, three, four)?;
+    Ok((one, two, three, four))
+}
+
+// ---- the kinds of parts
+
+impl Part for Name {
+    fn copied(&self, _: Global) -> Result<Name, NoMemory> {
+        self.copy()
+    }
+}
+
+impl Part for ElementRef {
+    fn copied(&self, alloc: Global) -> Result<ElementRef, NoMemory> {
+        self.copy(alloc)
+    }
+}
+
+impl Part for Mirror {
+    fn copied(&self, alloc: Global) -> Result<Mirror, NoMemory> {
+        self.copy(alloc)
+    }
+}
+
+impl Part for Value {
+    fn copied(&self, alloc: Global) -> Result<Value, NoMemory> {
+        self.copy(alloc)
+    }
+}
+
+impl Part for Annotation {
+    fn copied(&self, alloc: Global) -> Result<Annotation, NoMemory> {
+        self.copy(alloc)
+    }
+}
+
+impl<A: Part, B: Part> Part for (A, B) {
+    fn copied(&self, alloc: Global) -> Result<(A, B), NoMemory> {
+        copy_both(alloc, &self.0, &self.1)
+    }
+}
+
+impl<T: Part> Part for Option<T> {
+    fn copied(&self, alloc: Global) -> Result<Option<T>, NoMemory> {
+        match self {
+            None => Ok(None),
+            Some(part) => Ok(Some(part.copied(alloc)?)),
         }
     }
 }
 
-/// Equal annotations in the same order.
-pub(crate) fn copy_annotations(
-    alloc: Global,
-    annotations: &[Annotation],
-) -> Result<List<Annotation>, NoMemory>
-    ensures { IfOk result (λ list. list ≡ annotations.now) }
-{
-    let mut copies = List::new(alloc);
-    for each in annotations {
-        copies.push(each.copy(alloc)?)?;
+impl Part for List<u8> {
+    fn copied(&self, alloc: Global) -> Result<List<u8>, NoMemory> {
+        Ok(List::from_vec(self.as_slice().to_vec(alloc)?))
     }
-    Ok(copies)
 }
 
-fn copy_named_value(alloc: Global, named: &(Name, Value)) -> Result<(Name, Value), NoMemory>
-    ensures { IfOk result (λ copy. copy ≡ named.now) }
-{
-    Ok((named.0.copy()?, named.1.copy(alloc)?))
-}
-
-/// Equal values with equal names, in the same order.
-pub(crate) fn copy_named_values(
-    alloc: Global,
-    values: &[(Name, Value)],
-) -> Result<List<(Name, Value)>, NoMemory>
-    ensures { IfOk result (λ list. list ≡ values.now) }
-{
-    let mut copies = List::new(alloc);
-    for each in values {
-        copies.push(copy_named_value(alloc, each)?)?;
+impl Part for List<Name> {
+    fn copied(&self, alloc: Global) -> Result<List<Name>, NoMemory> {
+        copy_names(alloc, self.as_slice())
     }
-    Ok(copies)
 }
 
-/// Equal bytes.
-pub(crate) fn copy_content(alloc: Global, content: &List<u8>) -> Result<List<u8>, NoMemory>
-    ensures { IfOk result (λ list. list ≡ content.now) }
-{
-    Ok(List::from_vec(content.as_slice().to_vec(alloc)?))
+impl Part for List<(Name, Name)> {
+    fn copied(&self, alloc: Global) -> Result<List<(Name, Name)>, NoMemory> {
+        copy_all(alloc, self.as_slice())
+    }
 }
 
-/// An equal element, where there is one.
-pub(crate) fn copy_optional_element(
-    alloc: Global,
-    element: &Option<ElementRef>,
-) -> Result<Option<ElementRef>, NoMemory>
-    ensures { IfOk result (λ copy. copy ≡ element.now) }
-{
-    match element {
-        None => Ok(None),
-        Some(element) => Ok(Some(element.copy(alloc)?)),
+impl Part for List<ElementRef> {
+    fn copied(&self, alloc: Global) -> Result<List<ElementRef>, NoMemory> {
+        copy_all(alloc, self.as_slice())
+    }
+}
+
+impl Part for List<Mirror> {
+    fn copied(&self, alloc: Global) -> Result<List<Mirror>, NoMemory> {
+        copy_all(alloc, self.as_slice())
     }
 }

@@ -1,10 +1,10 @@
 // The frames and what they are made of.
 ghost use Rattle.std.specs.Prelude.{◌≡◌, IfOk};
 
-use crate::copying::{copy_content, copy_elements, copy_optional_element};
+use crate::copying::{copy_all, copy_both, copy_four, copy_three};
 use crate::question::Question;
 use crate::reply::Reply;
-use apt_base::{Claim, ElementRef, List, Name, NoMemory, copy_names};
+use apt_base::{Claim, ElementRef, List, Name, NoMemory};
 use std::alloc::Global;
 
 /// What the host says of itself to a child, first.
@@ -113,21 +113,11 @@ pub enum Frame {
 
 // ---- copies
 
-fn copy_option(option: &(Name, Name)) -> Result<(Name, Name), NoMemory>
-    ensures { IfOk result (λ copy. copy ≡ option.now) }
-{
-    Ok((option.0.copy()?, option.1.copy()?))
-}
-
 /// Equal options in the same order.
 pub fn copy_options(alloc: Global, options: &[(Name, Name)]) -> Result<List<(Name, Name)>, NoMemory>
     ensures { IfOk result (λ list. list ≡ options.now) }
 {
-    let mut copies = List::new(alloc);
-    for each in options {
-        copies.push(copy_option(each)?)?;
-    }
-    Ok(copies)
+    copy_all(alloc, options)
 }
 
 impl Init {
@@ -135,10 +125,11 @@ impl Init {
     pub fn copy(&self, alloc: Global) -> Result<Init, NoMemory>
         ensures { IfOk result (λ init. init ≡ self.now) }
     {
+        let (name, options) = copy_both(alloc, &self.name, &self.options)?;
         Ok(Init {
-            name: self.name.copy()?,
+            name,
             level: self.level,
-            options: copy_options(alloc, self.options.as_slice())?,
+            options,
         })
     }
 }
@@ -148,9 +139,10 @@ impl Hello {
     pub fn copy(&self, alloc: Global) -> Result<Hello, NoMemory>
         ensures { IfOk result (λ hello. hello ≡ self.now) }
     {
+        let (patterns, options) = copy_both(alloc, &self.patterns, &self.options)?;
         Ok(Hello {
-            patterns: copy_names(alloc, self.patterns.as_slice())?,
-            options: copy_names(alloc, self.options.as_slice())?,
+            patterns,
+            options,
             claim: self.claim,
         })
     }
@@ -166,33 +158,44 @@ impl Creation {
                 name,
                 content,
                 origins,
-            } => Ok(Creation::Source {
-                name: name.copy()?,
-                content: copy_content(alloc, content)?,
-                origins: copy_elements(alloc, origins.as_slice())?,
-            }),
+            } => {
+                let (name, content, origins) = copy_three(alloc, name, content, origins)?;
+                Ok(Creation::Source {
+                    name,
+                    content,
+                    origins,
+                })
+            }
             Creation::Resource {
                 location,
                 package,
                 relative,
                 content,
                 origins,
-            } => Ok(Creation::Resource {
-                location: *location,
-                package: package.copy()?,
-                relative: relative.copy()?,
-                content: copy_content(alloc, content)?,
-                origins: copy_elements(alloc, origins.as_slice())?,
-            }),
+            } => {
+                let (package, relative, content, origins) = copy_four(
+                    alloc, package, relative, content, origins,
+                )?;
+                Ok(Creation::Resource {
+                    location: *location,
+                    package,
+                    relative,
+                    content,
+                    origins,
+                })
+            }
             Creation::Class {
                 name,
                 content,
                 origins,
-            } => Ok(Creation::Class {
-                name: name.copy()?,
-                content: copy_content(alloc, content)?,
-                origins: copy_elements(alloc, origins.as_slice())?,
-            }),
+            } => {
+                let (name, content, origins) = copy_three(alloc, name, content, origins)?;
+                Ok(Creation::Class {
+                    name,
+                    content,
+                    origins,
+                })
+            }
         }
     }
 }
@@ -202,10 +205,11 @@ impl Message {
     pub fn copy(&self, alloc: Global) -> Result<Message, NoMemory>
         ensures { IfOk result (λ message. message ≡ self.now) }
     {
+        let (element, text) = copy_both(alloc, &self.element, &self.text)?;
         Ok(Message {
             kind: self.kind,
-            element: copy_optional_element(alloc, &self.element)?,
-            text: self.text.copy()?,
+            element,
+            text,
         })
     }
 }
@@ -223,13 +227,16 @@ impl Frame {
                 error,
                 offered,
                 roots,
-            } => Ok(Frame::Round {
-                number: *number,
-                over: *over,
-                error: *error,
-                offered: copy_names(alloc, offered.as_slice())?,
-                roots: copy_names(alloc, roots.as_slice())?,
-            }),
+            } => {
+                let (offered, roots) = copy_both(alloc, offered, roots)?;
+                Ok(Frame::Round {
+                    number: *number,
+                    over: *over,
+                    error: *error,
+                    offered,
+                    roots,
+                })
+            }
             Frame::Reply(reply) => Ok(Frame::Reply(reply.copy(alloc)?)),
             Frame::Hello(hello) => Ok(Frame::Hello(hello.copy(alloc)?)),
             Frame::Done { claimed } => Ok(Frame::Done { claimed: *claimed }),

@@ -1,8 +1,7 @@
 // What a child asks in a round.
 ghost use Rattle.std.specs.Prelude.{◌≡◌, IfOk};
-ghost use Rattle.wire_frames.specs.declared.question.Question.TheVariants as questions;
 
-use crate::copying::{copy_mirrors, copy_two_mirrors};
+use crate::copying::{copy_both, copy_three};
 use apt_base::{ElementRef, List, Name, NoMemory};
 use std::alloc::Global;
 use type_mirror::Mirror;
@@ -115,48 +114,6 @@ impl Question {
     }
 }
 
-fn copy_overrides(
-    alloc: Global,
-    overrider: &ElementRef,
-    overridden: &ElementRef,
-    in_type: &ElementRef,
-) -> Result<Question, NoMemory>
-    ensures { IfOk result (λ copy. copy ≡ questions.Overrides overrider.now overridden.now in_type.now) }
-{
-    Ok(Question::Overrides {
-        overrider: overrider.copy(alloc)?,
-        overridden: overridden.copy(alloc)?,
-        in_type: in_type.copy(alloc)?,
-    })
-}
-
-fn copy_member_type(
-    alloc: Global,
-    container: &Mirror,
-    element: &ElementRef,
-) -> Result<Question, NoMemory>
-    ensures { IfOk result (λ copy. copy ≡ questions.MemberType container.now element.now) }
-{
-    let element = element.copy(alloc)?;
-    Ok(Question::MemberType {
-        container: container.copy(alloc)?,
-        element,
-    })
-}
-
-fn copy_declared_type(
-    alloc: Global,
-    element: &ElementRef,
-    arguments: &List<Mirror>,
-) -> Result<Question, NoMemory>
-    ensures { IfOk result (λ copy. copy ≡ questions.DeclaredType element.now arguments.now) }
-{
-    Ok(Question::DeclaredType {
-        element: element.copy(alloc)?,
-        arguments: copy_mirrors(alloc, arguments.as_slice())?,
-    })
-}
-
 // The copies are three functions of a third of the questions each, which hand the others on.
 fn copy_question(alloc: Global, question: &Question) -> Result<Question, NoMemory>
     ensures { IfOk result (λ copy. copy ≡ question.now) }
@@ -195,25 +152,34 @@ fn copy_second(alloc: Global, question: &Question) -> Result<Question, NoMemory>
             overrider,
             overridden,
             in_type,
-        } => copy_overrides(alloc, overrider, overridden, in_type),
+        } => {
+            let (overrider, overridden, in_type) = copy_three(
+                alloc, overrider, overridden, in_type,
+            )?;
+            Ok(Question::Overrides {
+                overrider,
+                overridden,
+                in_type,
+            })
+        }
         Question::TypeOf(element) => Ok(Question::TypeOf(element.copy(alloc)?)),
         Question::Superclass(element) => Ok(Question::Superclass(element.copy(alloc)?)),
         Question::Interfaces(element) => Ok(Question::Interfaces(element.copy(alloc)?)),
         Question::Bounds(element) => Ok(Question::Bounds(element.copy(alloc)?)),
         Question::SameType(one, other) => {
-            let (one, other) = copy_two_mirrors(alloc, one, other)?;
+            let (one, other) = copy_both(alloc, one, other)?;
             Ok(Question::SameType(one, other))
         }
         Question::Subtype(one, other) => {
-            let (one, other) = copy_two_mirrors(alloc, one, other)?;
+            let (one, other) = copy_both(alloc, one, other)?;
             Ok(Question::Subtype(one, other))
         }
         Question::Assignable(one, other) => {
-            let (one, other) = copy_two_mirrors(alloc, one, other)?;
+            let (one, other) = copy_both(alloc, one, other)?;
             Ok(Question::Assignable(one, other))
         }
         Question::Contains(one, other) => {
-            let (one, other) = copy_two_mirrors(alloc, one, other)?;
+            let (one, other) = copy_both(alloc, one, other)?;
             Ok(Question::Contains(one, other))
         }
         _ => copy_third(alloc, question),
@@ -226,19 +192,23 @@ fn copy_third(alloc: Global, question: &Question) -> Result<Question, NoMemory>
 {
     match question {
         Question::Subsignature(one, other) => {
-            let (one, other) = copy_two_mirrors(alloc, one, other)?;
+            let (one, other) = copy_both(alloc, one, other)?;
             Ok(Question::Subsignature(one, other))
         }
         Question::DirectSupertypes(mirror) => Ok(Question::DirectSupertypes(mirror.copy(alloc)?)),
         Question::Erasure(mirror) => Ok(Question::Erasure(mirror.copy(alloc)?)),
         Question::Boxed(mirror) => Ok(Question::Boxed(mirror.copy(alloc)?)),
         Question::Unboxed(mirror) => Ok(Question::Unboxed(mirror.copy(alloc)?)),
-        Question::MemberType { container, element } => copy_member_type(alloc, container, element),
+        Question::MemberType { container, element } => {
+            let (container, element) = copy_both(alloc, container, element)?;
+            Ok(Question::MemberType { container, element })
+        }
         Question::AsElement(mirror) => Ok(Question::AsElement(mirror.copy(alloc)?)),
         Question::PrintType(mirror) => Ok(Question::PrintType(mirror.copy(alloc)?)),
-        Question::DeclaredType { element, arguments } => copy_declared_type(
-            alloc, element, arguments,
-        ),
+        Question::DeclaredType { element, arguments } => {
+            let (element, arguments) = copy_both(alloc, element, arguments)?;
+            Ok(Question::DeclaredType { element, arguments })
+        }
         Question::ArrayType(mirror) => Ok(Question::ArrayType(mirror.copy(alloc)?)),
         Question::AnnotatedWith(name) => Ok(Question::AnnotatedWith(name.copy()?)),
         Question::Roots => Ok(Question::Roots),

@@ -1,7 +1,7 @@
 // The host's answers in a round.
 ghost use Rattle.std.specs.Prelude.{◌≡◌, IfOk};
 
-use crate::copying::{copy_annotations, copy_elements, copy_mirrors, copy_named_values};
+use crate::copying::copy_all;
 use apt_base::{ElementRef, List, Name, NoMemory, copy_names};
 use std::alloc::Global;
 use type_mirror::{Annotation, Mirror, Value};
@@ -96,17 +96,15 @@ impl Reply {
     {
         match self {
             Reply::Elements(elements) => {
-                Ok(Reply::Elements(copy_elements(alloc, elements.as_slice())?))
+                Ok(Reply::Elements(copy_all(alloc, elements.as_slice())?))
             }
             Reply::Info(info) => Ok(Reply::Info(info.copy()?)),
             Reply::Texts(texts) => Ok(Reply::Texts(copy_names(alloc, texts.as_slice())?)),
             Reply::Annotations(annotations) => {
-                Ok(Reply::Annotations(copy_annotations(alloc, annotations.as_slice())?))
+                Ok(Reply::Annotations(copy_all(alloc, annotations.as_slice())?))
             }
-            Reply::Values(values) => {
-                Ok(Reply::Values(copy_named_values(alloc, values.as_slice())?))
-            }
-            Reply::Mirrors(mirrors) => Ok(Reply::Mirrors(copy_mirrors(alloc, mirrors.as_slice())?)),
+            Reply::Values(values) => Ok(Reply::Values(copy_all(alloc, values.as_slice())?)),
+            Reply::Mirrors(mirrors) => Ok(Reply::Mirrors(copy_all(alloc, mirrors.as_slice())?)),
             Reply::Truth(truth) => Ok(Reply::Truth(*truth)),
             Reply::Created(created) => Ok(Reply::Created(*created)),
             Reply::Noted => Ok(Reply::Noted),

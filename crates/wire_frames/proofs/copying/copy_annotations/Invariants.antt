@@ -1,6 +1,0 @@
-use Rattle.std.proofs.Common.{◌≡◌, take}
-use Rattle.wire_frames.proofs.copying.copy_annotations.Given as goal
-
--- the copies so far are the first of these
-abbrev pub invariant-loop-each : goal.invariant-loop-each
-invariant-loop-each l = l.copies ≡ take l.each-index l.annotations
