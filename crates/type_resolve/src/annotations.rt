@@ -1,13 +1,15 @@
 // Annotation interfaces by the names of annotations.
-ghost use Rattle.std.specs.Prelude.{◌≡◌, IfOk};
+ghost use Rattle.std.specs.Prelude.{◌≡◌, None, IfOk};
+ghost use Rattle.element_table.specs.TypeTable.{unit_of};
 ghost use Rattle.name_resolve.specs.Annotations.{if_annotation, found_annotation, annotation_meaning};
 ghost use Rattle.name_resolve.specs.Finds.{One};
 ghost use Rattle.name_resolve.specs.Meaning.{Within};
 ghost use Rattle.name_resolve.specs.Mirrors.{ref_of};
 ghost use Rattle.name_resolve.specs.Placed.{IsPlaced};
 ghost use Rattle.name_resolve.specs.Shown.{find_of, finds_of};
-ghost use Rattle.type_resolve.specs.Scopes.{scope_in, IsElement};
+ghost use Rattle.type_resolve.specs.Scopes.{package_part, package_at, scope_in, IsBareUnit, IsElement};
 
+use crate::packages::Bare;
 use crate::scopes::{bare_at, found_bare, found_in};
 use apt_base::{ElementRef, List, Name, NoMemory};
 use decl_tree::TypeKind;
@@ -81,6 +83,23 @@ fn annotation_at<'a>(
     found_annotation(alloc, &finds)
 }
 
+// The same of what stands in a package without a unit. Who calls holds the bare unit and lets it go.
+fn annotation_in_bare(
+    alloc: Global,
+    table: &Table,
+    bare: &Bare,
+    scope: &ElementRef,
+    name: &Name,
+) -> Result<Option<ElementRef>, NoMemory>
+    requires none { unit_of table.now scope.now.unit ≡ None }
+    requires part { bare.now.part ≡ package_part table.now (package_at table.now scope.now) }
+    requires stands { IsBareUnit table.now (package_at table.now scope.now) bare.now.unit }
+    ensures { IfOk result (λ at. at ≡ annotation_meaning table.now (scope_in table.now scope.now) name.now) }
+{
+    let at = found_bare(alloc, table, bare, scope)?;
+    annotation_at(alloc, table, &at, name)
+}
+
 /// The annotation interface that the name of an annotation means where it is written on this element, which is one of the table, as a condition (JLS 9.7). `None` where the name means nothing, different types, another kind of type or a type parameter.
 pub fn resolve_annotation(
     alloc: Global,
@@ -98,8 +117,9 @@ pub fn resolve_annotation(
         }
         None => {
             let bare = bare_at(alloc, table, scope)?;
-            let at = found_bare(alloc, table, &bare, scope)?;
-            annotation_at(alloc, table, &at, name)
+            let meant = annotation_in_bare(alloc, table, &bare, scope, name);
+            drop(bare);
+            meant
         }
     }
 }

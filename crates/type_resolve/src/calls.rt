@@ -1,16 +1,18 @@
 // The calls that give mirrors.
 ghost use Rattle.std.specs.Prelude.{◌≡◌, [], ◌∷◌, None, is_some, true, IfOk};
 ghost use Rattle.decl_elements.specs.Shown.{node_of};
+ghost use Rattle.element_table.specs.TypeTable.{unit_of};
 ghost use Rattle.name_resolve.specs.Meaning.{Within};
 ghost use Rattle.name_resolve.specs.Mirrors.{type_meaning, class_mirror, ref_of, superclass, interfaces};
 ghost use Rattle.name_resolve.specs.Placed.{IsPlaced};
 ghost use Rattle.name_resolve.specs.Shown.{find_of};
 ghost use Rattle.type_resolve.specs.MirrorParts.{IsScope, implied_in, supertype_in, supertypes_in};
 ghost use Rattle.name_resolve.specs.Ways.{declaration_of, type_at};
-ghost use Rattle.type_resolve.specs.Scopes.{find_in, scope_in, is_type, IsElement, IsType};
+ghost use Rattle.type_resolve.specs.Scopes.{find_in, package_part, package_at, scope_in, is_type, IsBareUnit, IsElement, IsType};
 
 use crate::annotations::reference;
 use crate::mirrors::{class_type, element_type, mirror};
+use crate::packages::Bare;
 use crate::scopes::{Scope, bare_at, found_bare, found_in};
 use apt_base::{ElementRef, List, Name, NoMemory};
 use decl_elements::{Place, place_at};
@@ -38,6 +40,23 @@ fn mirror_at<'a>(
     mirror(alloc, &scope, text)
 }
 
+// The same in a package without a unit. Who calls holds the bare unit and lets it go.
+fn mirror_in_bare(
+    alloc: Global,
+    table: &Table,
+    bare: &Bare,
+    scope: &ElementRef,
+    text: &TypeText,
+) -> Result<Mirror, NoMemory>
+    requires none { unit_of table.now scope.now.unit ≡ None }
+    requires part { bare.now.part ≡ package_part table.now (package_at table.now scope.now) }
+    requires stands { IsBareUnit table.now (package_at table.now scope.now) bare.now.unit }
+    ensures { IfOk result (λ m. m ≡ type_meaning table.now (scope_in table.now scope.now) text.now) }
+{
+    let at = found_bare(alloc, table, bare, scope)?;
+    mirror_at(alloc, table, at, text)
+}
+
 /// The mirror that a type means where it is written in this element, which is one of the table, as a condition (JLS 6.4, 6.5.5). A name that means nothing, or different types, gives an error type with the text. Types behind `extends` and `implements` are not for this call: `superclass` and `interfaces` have them.
 pub fn resolve_type(
     alloc: Global,
@@ -55,8 +74,9 @@ pub fn resolve_type(
         }
         None => {
             let bare = bare_at(alloc, table, scope)?;
-            let at = found_bare(alloc, table, &bare, scope)?;
-            mirror_at(alloc, table, at, text)
+            let meant = mirror_in_bare(alloc, table, &bare, scope, text);
+            drop(bare);
+            meant
         }
     }
 }

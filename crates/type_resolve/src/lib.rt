@@ -11,6 +11,7 @@ mod annotations;
 mod calls;
 mod mirrors;
 mod packages;
+mod pairs;
 mod scopes;
 mod spelling;
 

@@ -3,6 +3,7 @@ ghost use Rattle.std.specs.Prelude.{◌≡◌, IfOk};
 ghost use Rattle.name_resolve.specs.Placed.{bare_unit};
 ghost use Rattle.type_resolve.specs.Scopes.{package_part, IsBareUnit};
 
+use crate::pairs::beside;
 use apt_base::{List, NoMemory};
 use decl_tree::{Body, Unit, UnitText};
 use element_table::{Part, Table, unit_name};
@@ -35,11 +36,15 @@ fn with_bare(alloc: Global, table: &Table, part: Part, of: &Unit) -> Result<Bare
     ensures stands { IfOk result (λ bare. IsBareUnit table.now of.now.«package» bare.unit) }
 {
     let unit = bare_unit(alloc, of)?;
-    let name = unit_name(alloc, &unit)?;
+    let name = unit_name(alloc, &unit);
+    let (unit, name) = beside(unit, name)?;
     match table.find(&name) {
         None => Ok(Bare { part, unit }),
         // This does not come: who asks has found that the package has no unit.
-        Some(_) => Err(NoMemory),
+        Some(_) => {
+            drop(unit);
+            Err(NoMemory)
+        }
     }
 }
 
