@@ -1,8 +1,8 @@
 // Reads compilation units (JLS 7.3).
-ghost use Rattle.std.specs.Prelude.{◌≡◌, ℕ, [], ◌∷◌, ◌++◌, List, length, IfOk, Ok};
+ghost use Rattle.std.specs.Prelude.{[], List, IfOk, Ok};
 ghost use Rattle.decl_grammar.specs.Reading.{Gives};
-ghost use Rattle.decl_grammar.specs.Form.{many, maybe, with_front};
-ghost use Rattle.decl_grammar.specs.Grammar.{import_form, package_form, top_type, ordinary, Ordinary};
+ghost use Rattle.decl_grammar.specs.Form.{maybe};
+ghost use Rattle.decl_grammar.specs.Grammar.{package_form, ordinary, Ordinary};
 ghost use Rattle.decl_grammar.specs.Rule.{reads};
 ghost use Rattle.decl_parser.specs.FileShown.{ordinary_view};
 ghost use Rattle.decl_grammar.specs.File.{IsPhrase, IsShallow, phrase_at, Found, Missed, BadAt, DeepAt};
@@ -12,7 +12,7 @@ use apt_base::List;
 use decl_grammar::{NameAt, ParseFault, ReadFault, Symbol, TypeAt};
 use decl_tree::Import;
 use decl_types::package_of;
-use decl_values::{begin, imports_of, is_next, one};
+use decl_values::{imports_of, is_next, one};
 use std::alloc::Global;
 
 /// What a file declares: its package, its imports, and its types, with `None` for each `;` between them.

@@ -1,7 +1,7 @@
 // Reads files `package-info.java` (JLS 7.4.1).
-ghost use Rattle.std.specs.Prelude.{◌≡◌, ℕ, [], ◌∷◌, ◌++◌, List, length, IfOk, Ok};
+ghost use Rattle.std.specs.Prelude.{◌≡◌, [], ◌∷◌, ◌++◌, List, IfOk, Ok};
 ghost use Rattle.decl_grammar.specs.Reading.{Gives, starts};
-ghost use Rattle.decl_grammar.specs.Form.{ats, many, maybe, turned};
+ghost use Rattle.decl_grammar.specs.Form.{ats, many, turned};
 ghost use Rattle.decl_grammar.specs.Types.{silently};
 ghost use Rattle.decl_grammar.specs.Grammar.{package_part, annotated_package, semicolon, package_info, Info};
 ghost use Rattle.decl_grammar.specs.Rule.{reads};

@@ -1,10 +1,10 @@
 // Reads top-level types (JLS 7.6).
-ghost use Rattle.std.specs.Prelude.{◌≡◌, ℕ, [], ◌∷◌, ◌++◌, List, length, IfOk, Ok};
+ghost use Rattle.std.specs.Prelude.{◌≡◌, [], ◌∷◌, ◌++◌, Ok};
 ghost use Rattle.decl_grammar.specs.Reading.{Gives, starts};
-ghost use Rattle.decl_grammar.specs.Form.{many, with_front, modifier_words, first_of, nested_type};
+ghost use Rattle.decl_grammar.specs.Form.{many, modifier_words, first_of, nested_type};
 ghost use Rattle.decl_grammar.specs.Rows.{row_behind};
 ghost use Rattle.decl_parser.specs.MemberRows.{top_type_firsts};
-ghost use Rattle.decl_grammar.specs.Grammar.{type_rest, modified_type, top_type};
+ghost use Rattle.decl_grammar.specs.Grammar.{modified_type, top_type};
 ghost use Rattle.decl_grammar.specs.Rule.{reads};
 
 use crate::declarations::type_rest_of;

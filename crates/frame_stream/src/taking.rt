@@ -1,5 +1,5 @@
 // Takes one byte more of a stream.
-ghost use Rattle.std.specs.Prelude.{◌≡◌, ◌≤◌, ◌-◌, ◌++◌, ◌∷◌, [], Some, length, take, IfOk, OnOk, OnErr};
+ghost use Rattle.std.specs.Prelude.{◌≡◌, ◌≤◌, ◌-◌, [], Some, length, take, IfOk, OnOk, OnErr};
 ghost use Rattle.wire_frames.specs.Frames.{AreBytesOf};
 ghost use Rattle.frame_reader.specs.Stages.{found_in, fed, IsWholeFrame, wanted_in};
 ghost use Rattle.frame_reader.specs.declared.found.Found.TheVariants as founds;

@@ -1,7 +1,6 @@
 // The processors that are asked in a round, one after another.
-ghost use Rattle.std.specs.Prelude.{◌≡◌, ◌<◌, ◌^◌, ℕ, length, map, slice_index_or, slice_set, true, [], IfOk, IfErr};
+ghost use Rattle.std.specs.Prelude.{◌≡◌, ◌<◌, ◌^◌, length, map, slice_index_or, slice_set, true, [], IfOk, IfErr};
 ghost use Rattle.std.specs.List.{AllByRecursion};
-ghost use Rattle.wire_frames.specs.Frames.{spelling};
 ghost use Rattle.round_engine.specs.Refusals.{NamesAmong};
 ghost use Rattle.round_engine.specs.Faults.{stop_of, HasReason};
 ghost use Rattle.round_engine.specs.Run.{limit, round_frame, showing};

@@ -1,5 +1,5 @@
 // The rounds of a run.
-ghost use Rattle.std.specs.Prelude.{◌≡◌, ◌||◌, not, IfOk, IfErr, OnOk, drop, length, true, false, []};
+ghost use Rattle.std.specs.Prelude.{◌≡◌, ◌||◌, not, IfOk, IfErr, drop, true, false, []};
 ghost use Rattle.round_engine.specs.Refusals.{NamesAmong};
 ghost use Rattle.round_engine.specs.Faults.{stop_of, HasReason};
 ghost use Rattle.round_engine.specs.Units.{all_of};

@@ -1,6 +1,6 @@
 // Levels of supertypes: a level has each type once, at its first place.
 ghost use Rattle.std.specs.Prelude.{◌≡◌, ◌<◌, ◌∷◌, [], length, get_or, OnOk, IfOk};
-ghost use Rattle.type_numbers.specs.Numbers.{IsKnown, AreKnown, Grows};
+ghost use Rattle.type_numbers.specs.Numbers.{AreKnown, Grows};
 ghost use Rattle.type_members.specs.NearestLevels.{MayBeLevel, next_level};
 ghost use Rattle.type_members.specs.Once.{with_new, with_each};
 

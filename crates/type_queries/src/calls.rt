@@ -1,5 +1,4 @@
 // The questions on types, one call each.
-ghost use Rattle.std.specs.Prelude.{◌≡◌};
 ghost use Rattle.type_queries.specs.Questions.{same_question, type_question, print_question, boxed_question, unboxed_question, direct_question, erasure_question};
 ghost use Rattle.type_queries.specs.Verdicts.{Gives};
 

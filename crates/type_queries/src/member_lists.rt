@@ -1,5 +1,4 @@
 // The question on the members of a type.
-ghost use Rattle.std.specs.Prelude.{◌≡◌};
 ghost use Rattle.type_queries.specs.MemberLists.{members_question};
 ghost use Rattle.type_queries.specs.Verdicts.{Gives};
 

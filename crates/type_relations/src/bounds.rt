@@ -2,7 +2,7 @@
 ghost use Rattle.std.specs.Prelude.{◌≡◌, Some, IfOk};
 ghost use Rattle.decl_elements.specs.Shown.{node_of};
 ghost use Rattle.type_relations.specs.Named as named;
-ghost use Rattle.type_relations.specs.Named.{written_bounds, bounds_or_object, first_or, object_at};
+ghost use Rattle.type_relations.specs.Named.{written_bounds, bounds_or_object, object_at};
 ghost use Rattle.type_resolve.specs.Scopes.{IsElement};
 
 use crate::named::object_at;

@@ -11,7 +11,7 @@ use crate::bounds::only_object;
 use crate::places::place_of;
 use apt_base::{ElementRef, List, NoMemory};
 use decl_elements::Place;
-use decl_tree::{Member, TypeDecl, TypeKind};
+use decl_tree::{Member, TypeKind};
 use element_table::Table;
 use std::alloc::Global;
 use type_mirror::{BaseMirror, Mirror};

@@ -1,5 +1,5 @@
 // What stands at an element of a table, and what a question reads of it.
-ghost use Rattle.std.specs.Prelude.{◌≡◌, ◌≤◌, [], length, map, option_map, unwrap_or, IfOk, IfSome};
+ghost use Rattle.std.specs.Prelude.{◌≡◌, ◌≤◌, [], length, option_map, unwrap_or, IfOk, IfSome};
 ghost use Rattle.decl_tree.specs.declared.declaration.Member.{out-Member};
 ghost use Rattle.decl_elements.specs.Nodes.{children};
 ghost use Rattle.decl_elements.specs.Shown.{node_of};

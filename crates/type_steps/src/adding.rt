@@ -1,6 +1,6 @@
 // Numbers of mirrors that are small as trees: of what is written in a header, of a bound, of an erasure.
 ghost use Rattle.std.specs.Prelude.{IfOk};
-ghost use Rattle.type_numbers.specs.Numbers.{Stands, AllStand, OptionStands, Grows};
+ghost use Rattle.type_numbers.specs.Numbers.{AllStand, OptionStands, Grows};
 ghost use Rattle.type_steps.specs.Supertypes.{AllMayStand};
 
 use apt_base::{List, NoMemory};

@@ -1,5 +1,5 @@
 // What bytes of a stream are.
-ghost use Rattle.std.specs.Prelude.{◌≡◌, ◌≤◌, ◌<◌, length, take, IfOk};
+ghost use Rattle.std.specs.Prelude.{◌≤◌, ◌<◌, length, take, IfOk};
 ghost use Rattle.wire_frames.specs.Frames.{AreBytesOf};
 ghost use Rattle.vector_tables.specs.Cases.{Tells};
 ghost use Rattle.vector_tables.specs.FrameCases.{AreJust, IsWritten};
