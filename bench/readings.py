@@ -276,7 +276,7 @@ def without_annotations(words):
 
 def kind_of(tokens, brace):
     """Which kind of type has its members in these braces, by the words before them."""
-    heading = re.split("[;{}]", " ".join(tokens[:brace]))[-1]
+    heading = re.split("[;{}]", " ".join(without_annotations(tokens[:brace])))[-1]
     found = re.search(r"@ interface\b|\bclass\b|\binterface\b|\benum\b", heading)
     return found.group().replace(" ", "") if found else "braces"
 
@@ -321,21 +321,27 @@ RULES = {
     "4.3, 4.4, 8.1, 8.4.6: a supertype, a bound and what is thrown are class types, without brackets": [
         r" (extends|implements|throws|&) .*(\w|>) \| [\[@]$"],
     "4.3: a primitive type is no class type": [rf"(extends|implements|throws|,|&|\.) \| {PRIMITIVE}$"],
-    "4.3: behind brackets stand no names and no arguments": [r"\] \| (\.|<)$"],
+    "4.3: behind brackets stand no names, no arguments and, in a heading, no `::`": [
+        r"\] \| (\.|<)$", r" (extends|implements|throws) .*\] \| ::$"],
+    "4.3: a primitive type has no member types": [rf"{PRIMITIVE} \| \.$"],
     "4.3: void is no type": [
         r"(<|,|&|\.|extends|implements|super|throws) \| void$", r"\( (.*, )?(final )*\| void$"],
     "4.5.1: a type argument is no primitive type": [rf"(<|,|\?|extends|super) {PRIMITIVE} \| (,|&|\.|>+)$"],
     "8.4, 9.4: a method has no default value": [r"^(class|interface|enum) .*\) (\[ \] )*(throws .* )?\| default$"],
     "8.4.1: a parameter has no modifier but final": [rf"\( (.*, )?(final )*\| {MODIFIER}$"],
     "8.4.1: a receiver stands first and has a type, and no parameter has names before its own": [
-        r"\( .*\b(?!final )\w+ \w+ \. \| (?!this)", r", .*\| this$",
-        r"\( .*\b(?!final )\w+ \w+ \| \.$"],
-    "3.9: no name of a type or an annotation has `this`": [r"\( (.*@ )?(\w+ \. )*\| this$"],
+        r"\( .*(\b(?!final )\w+|[\]>]) \w+ \. \| (?!this)", r", .*\| this$",
+        r"\( .*(\b(?!final )\w+|[\]>]) \w+ \| \.$"],
+    "8.4.1: a parameter of any number is no receiver, and nothing stands behind its name": [r"\.\.\. (\w+ \| [\[@]|\| this)$"],
+    "8.6, 8.7: an initialiser has no modifier but static": [rf"^(class|enum) ({MODIFIER} )+\| \{{$"],
+    "3.9: no name of a type or an annotation has `this`": [r"\( (.*@ )?((\w+ (< .* >+ )?)?\. )*\| this$"],
     "8.8: a constructor has a body": [rf"^(class|enum) ({MODIFIER} )*(< .*>+ )?\w+ \( .*\) (throws .* )?\| ;$"],
     "9.6: an annotation type has no type parameters and extends nothing": [r"@ interface \w+ (< .* )?\| (<|extends)$"],
     "9.6.1: an element has no type parameters, and a type": [rf"^@interface ({MODIFIER} )*\| (void|<)$"],
     "9.6.1: an element has no parameters, throws nothing and has no body": [
         r"^@interface .*\( \| (?!\))", r"^@interface .*\) (\[ \] )*\| (throws|\{)$"],
+    "15.8: no expression begins with type arguments": [r"= < .*\| "],
+    "15.13: behind a type with arguments stands `::` in a value": [r"^annotation .*\w < .*, .*\| (?!::)"],
     "9.7: an annotation has one value without a name, or values with names": [
         r"^annotation (?!\w+ = ).*\| ,$", r"^annotation \w+ = .*, (?!\w+ = )(\w+ )?\| "],
 }
