@@ -1,5 +1,5 @@
 // The forms of which lists and optional parts are made, and modifiers.
-ghost use Rattle.std.specs.Prelude.{◌≡◌, ◌++◌, ℕ, List, Ok, Err, OnOk, MatchResult};
+ghost use Rattle.std.specs.Prelude.{◌≡◌, ◌++◌, ℕ, List, OnOk};
 ghost use Rattle.apt_base.specs.Forms.{Reader, u16_form, list_form, opt_form, opt_next, list_next};
 ghost use Rattle.apt_base.specs.Readings.{Gives};
 ghost use Rattle.decl_syntax.specs.Reading.{modifiers_next, type_next, value_next, annotation_next};
@@ -74,22 +74,6 @@ impl InUnit for AnnotationText {
         annotation_writing::annotation(writer, self)
     }
 }
-
-/// What was read before, and what was read behind it. Where the second was not read the first is let go here, for every type once.
-pub(crate) fn both<A: Drop, B: Drop>(
-    before: A,
-    read: Result<B, FormFault>,
-) -> Result<(A, B), FormFault>
-    ensures { MatchResult read (λ value. result ≡ Ok (before, value)) (λ fault. result ≡ Err fault) }
-{
-    match read {
-        Ok(value) => Ok((before, value)),
-        Err(fault) => Err(fault),
-    }
-}
-
-/// Letting go of what was read.
-pub(crate) fn discard<T: Drop>(_part: T) {}
 
 /// A list.
 #[tactic(auto, unfolding(apt_base::specs::Forms::list_next))]

@@ -4,7 +4,7 @@ ghost use Rattle.apt_base.specs.Readings.{Gives};
 ghost use Rattle.decl_tree.specs.Legal.{are_few};
 ghost use Rattle.decl_syntax.specs.Reading.{heading_next, field_next, signature_next, method_next, constructor_heading_next, constructor_next, constant_next};
 
-use crate::in_unit::{both, discard, list_of, optional, read_modifiers};
+use crate::in_unit::{list_of, optional, read_modifiers};
 use crate::type_reading::type_text;
 use apt_base::{FieldReader, FormFault, List, Name, read_optional_text, read_text, read_truth};
 use decl_tree::{
@@ -51,8 +51,8 @@ fn read_heading(alloc: Global, reader: &mut FieldReader, room: u32) -> Result<He
 {
     let name = read_text(alloc, reader)?;
     let modifiers = read_modifiers(reader)?;
-    let start = both((name, modifiers), list_of(alloc, reader, room))?;
-    let (((name, modifiers), annotations), doc) = both(start, read_optional_text(alloc, reader))?;
+    let annotations = list_of(alloc, reader, room)?;
+    let doc = read_optional_text(alloc, reader)?;
     Ok(Heading {
         name,
         modifiers,
@@ -71,8 +71,8 @@ pub(crate) fn field(
     ensures { Gives result (field_next room reader.old) reader.new }
 {
     let heading = read_heading(alloc, reader, room)?;
-    let typed = both(heading, type_text(alloc, reader, room))?;
-    let ((heading, of), constant) = both(typed, optional(alloc, reader, room))?;
+    let of = type_text(alloc, reader, room)?;
+    let constant = optional(alloc, reader, room)?;
     Ok(FieldDecl {
         name: heading.name,
         modifiers: heading.modifiers,
@@ -92,8 +92,8 @@ fn read_signature(
     ensures { Gives result (signature_next room reader.old) reader.new }
 {
     let heading = read_heading(alloc, reader, room)?;
-    let start = both(heading, list_of(alloc, reader, room))?;
-    let ((heading, parameters), result_type) = both(start, type_text(alloc, reader, room))?;
+    let parameters = list_of(alloc, reader, room)?;
+    let result_type = type_text(alloc, reader, room)?;
     Ok(Signature {
         heading,
         parameters,
@@ -111,15 +111,11 @@ pub(crate) fn method(
     ensures { Gives result (method_next room reader.old) reader.new }
 {
     let signature = read_signature(alloc, reader, room)?;
-    let taking = both(signature, list_of(alloc, reader, room))?;
-    let taking = both(taking, read_truth(reader))?;
-    let throwing = both(taking, list_of(alloc, reader, room))?;
-    let ((((signature, arguments), varargs), thrown), default_value) = both(
-        throwing,
-        optional(alloc, reader, room),
-    )?;
+    let arguments = list_of(alloc, reader, room)?;
+    let varargs = read_truth(reader)?;
+    let thrown = list_of(alloc, reader, room)?;
+    let default_value = optional(alloc, reader, room)?;
     if !are_few(signature.parameters.len(), arguments.len()) {
-        discard((signature, arguments, thrown, default_value));
         return Err(FormFault::Bad);
     }
     let Signature {
@@ -151,8 +147,8 @@ fn read_constructor_heading(
 {
     let modifiers = read_modifiers(reader)?;
     let annotations = list_of(alloc, reader, room)?;
-    let start = both(annotations, read_optional_text(alloc, reader))?;
-    let ((annotations, doc), parameters) = both(start, list_of(alloc, reader, room))?;
+    let doc = read_optional_text(alloc, reader)?;
+    let parameters = list_of(alloc, reader, room)?;
     Ok(ConstructorHeading {
         modifiers,
         annotations,
@@ -171,11 +167,10 @@ pub(crate) fn constructor(
     ensures { Gives result (constructor_next room reader.old) reader.new }
 {
     let heading = read_constructor_heading(alloc, reader, room)?;
-    let taking = both(heading, list_of(alloc, reader, room))?;
-    let taking = both(taking, read_truth(reader))?;
-    let (((heading, arguments), varargs), thrown) = both(taking, list_of(alloc, reader, room))?;
+    let arguments = list_of(alloc, reader, room)?;
+    let varargs = read_truth(reader)?;
+    let thrown = list_of(alloc, reader, room)?;
     if !are_few(heading.parameters.len(), arguments.len()) {
-        discard((heading, arguments, thrown));
         return Err(FormFault::Bad);
     }
     Ok(ConstructorDecl {
@@ -199,9 +194,9 @@ pub(crate) fn constant(
     ensures { Gives result (constant_next room reader.old) reader.new }
 {
     let name = read_text(alloc, reader)?;
-    let start = both(name, list_of(alloc, reader, room))?;
-    let start = both(start, read_optional_text(alloc, reader))?;
-    let (((name, annotations), doc), body) = both(start, read_truth(reader))?;
+    let annotations = list_of(alloc, reader, room)?;
+    let doc = read_optional_text(alloc, reader)?;
+    let body = read_truth(reader)?;
     Ok(ConstantDecl {
         name,
         annotations,

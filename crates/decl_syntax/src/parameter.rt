@@ -3,7 +3,7 @@ ghost use Rattle.std.specs.Prelude.{◌≡◌};
 ghost use Rattle.decl_syntax.specs.Reading.{type_param_next, param_next};
 ghost use Rattle.decl_syntax.specs.Shape.{type_param_form, param_form};
 
-use crate::in_unit::{InUnit, both, list_of, read_modifiers, write_list, write_modifiers};
+use crate::in_unit::{InUnit, list_of, read_modifiers, write_list, write_modifiers};
 use crate::{type_reading, type_writing};
 use apt_base::{FieldReader, FieldWriter, FormFault, NoMemory, read_text, write_text};
 use decl_tree::{Param, TypeParam};
@@ -17,8 +17,8 @@ impl InUnit for TypeParam {
     #[tactic(auto, unfolding(crate::specs::Reading::type_param_next))]
     fn read(alloc: Global, reader: &mut FieldReader, room: u32) -> Result<TypeParam, FormFault> {
         let name = read_text(alloc, reader)?;
-        let start = both(name, list_of(alloc, reader, room))?;
-        let ((name, annotations), bounds) = both(start, list_of(alloc, reader, room))?;
+        let annotations = list_of(alloc, reader, room)?;
+        let bounds = list_of(alloc, reader, room)?;
         Ok(TypeParam {
             name,
             annotations,
@@ -43,11 +43,8 @@ impl InUnit for Param {
     fn read(alloc: Global, reader: &mut FieldReader, room: u32) -> Result<Param, FormFault> {
         let name = read_text(alloc, reader)?;
         let modifiers = read_modifiers(reader)?;
-        let start = both((name, modifiers), list_of(alloc, reader, room))?;
-        let (((name, modifiers), annotations), of) = both(
-            start,
-            type_reading::type_text(alloc, reader, room),
-        )?;
+        let annotations = list_of(alloc, reader, room)?;
+        let of = type_reading::type_text(alloc, reader, room)?;
         Ok(Param {
             name,
             modifiers,

@@ -11,7 +11,7 @@ ghost use Rattle.decl_syntax.specs.Reading.{canonical_next, type_heading_next, h
 ghost use Rattle.decl_syntax.specs.Shape.{unit_form};
 ghost use Rattle.decl_syntax.specs.Shapes.{IsNoShape};
 
-use crate::in_unit::{both, discard, list_of, optional, read_modifiers};
+use crate::in_unit::{list_of, optional, read_modifiers};
 use crate::member_reading::{constant, constructor, field, method};
 use apt_base::{
     FieldReader, FormFault, List, Name, read_byte, read_count, read_optional_text, read_text,
@@ -123,8 +123,8 @@ fn read_type_heading(
     let kind = kind(reader)?;
     let name = canonical(alloc, reader, start)?;
     let modifiers = read_modifiers(reader)?;
-    let start = both((name, modifiers), list_of(alloc, reader, room))?;
-    let (((name, modifiers), annotations), doc) = both(start, read_optional_text(alloc, reader))?;
+    let annotations = list_of(alloc, reader, room)?;
+    let doc = read_optional_text(alloc, reader)?;
     Ok(TypeHeading {
         kind,
         name,
@@ -146,12 +146,9 @@ fn read_type_head(
     ensures ends { IfOk result (λ head. start + length head.heading.name ≤ 1024) }
 {
     let heading = read_type_heading(alloc, reader, room, start)?;
-    let start = both(heading, list_of(alloc, reader, room))?;
-    let start = both(start, optional(alloc, reader, room))?;
-    let (((heading, parameters), superclass), interfaces) = both(
-        start,
-        list_of(alloc, reader, room),
-    )?;
+    let parameters = list_of(alloc, reader, room)?;
+    let superclass = optional(alloc, reader, room)?;
+    let interfaces = list_of(alloc, reader, room)?;
     Ok(TypeHead {
         heading,
         parameters,
@@ -174,9 +171,8 @@ fn declaration(
 {
     let head = read_type_head(alloc, reader, room, start)?;
     let inner = start + head.heading.name.as_str().len() + 1;
-    let (head, members) = both(head, members(alloc, reader, room, inner))?;
+    let members = members(alloc, reader, room, inner)?;
     if !are_few(head.heading.kind, head.parameters.len(), members.as_slice()) {
-        discard((head, members));
         return Err(FormFault::Bad);
     }
     let TypeHead {
@@ -282,7 +278,7 @@ fn body(alloc: Global, reader: &mut FieldReader, room: u32, start: usize) -> Res
         }
         1 => {
             let all = list_of(alloc, reader, room)?;
-            let (all, doc) = both(all, read_optional_text(alloc, reader))?;
+            let doc = read_optional_text(alloc, reader)?;
             Ok(Body::Info(all, doc))
         }
         _ => Err(FormFault::Bad),
@@ -304,10 +300,10 @@ fn unit(alloc: Global, reader: &mut FieldReader) -> Result<UnitText, FormFault>
     ensures { Gives result (unit_next reader.old) reader.new }
 {
     let package = canonical(alloc, reader, 0)?;
+    let imports = list_of(alloc, reader, 0)?;
+    let siblings = read_texts(alloc, reader)?;
     let start = package_start(package.as_str());
-    let front = both(package, list_of(alloc, reader, 0))?;
-    let front = both(front, read_texts(alloc, reader))?;
-    let (((package, imports), siblings), body) = both(front, body(alloc, reader, 200, start))?;
+    let body = body(alloc, reader, 200, start)?;
     Ok(UnitText {
         package,
         imports,
@@ -325,7 +321,6 @@ fn whole(alloc: Global, bytes: &[u8]) -> Result<UnitText, FormFault>
     match unit(alloc, &mut reader) {
         Ok(unit) => {
             if reader.left() > 0 {
-                discard(unit);
                 Err(FormFault::Bad)
             } else {
                 Ok(unit)
