@@ -329,8 +329,8 @@ RULES = {
     "4.5.1: a type argument is no primitive type": [rf"(<|,|\?|extends|super) {PRIMITIVE} \| (,|&|\.|>+)$"],
     "8.4, 9.4: a method has no default value": [r"^(class|interface|enum) .*\) (\[ \] )*(throws .* )?\| default$"],
     "8.4.1: a parameter has no modifier but final": [rf"\( (.*, )?(final )*\| {MODIFIER}$"],
-    "8.4.1: a receiver stands first and has a type, and no parameter has names before its own": [
-        r"\( .*(\b(?!final )\w+|[\]>]) \w+ \. \| (?!this)", r", .*\| this$",
+    "8.4.1: a receiver stands first and has a type and no modifier, and no parameter has names before its own": [
+        r"\( .*(\b(?!final )\w+|[\]>]) \w+ \. \| (?!this)", r", .*\| this$", r"\( final .*\| this$",
         r"\( .*(\b(?!final )\w+|[\]>]) \w+ \| \.$"],
     "8.4.1: a parameter of any number is no receiver, and nothing stands behind its name": [r"\.\.\. (\w+ \| [\[@]|\| this)$"],
     "8.6, 8.7: an initialiser has no modifier but static": [rf"^(class|enum) ({MODIFIER} )+\| \{{$"],
