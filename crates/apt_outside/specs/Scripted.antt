@@ -1,7 +1,8 @@
 -- What scripted children say.
-use Rattle.std.specs.Prelude.{◌≡◌, ℕ, ◌+◌, ◌<◌, ◌≤◌, ◌-◌, ◌^◌, nat_le, Bool, ◌||◌, is_none, List, [], ◌∷◌, ◌++◌, length, take, drop, map, flat_map, string_bytes, bytes_eq, if◌then◌else◌, Option, None, Some, option_map, slice_get, Contains, IfSome}
+use Rattle.std.specs.Prelude.{◌≡◌, ℕ, ◌+◌, ◌<◌, ◌≤◌, ◌-◌, ◌^◌, nat_le, Bool, ◌||◌, is_none, List, [], ◌∷◌, ◌++◌, length, take, drop, map, flat_map, String, string_bytes, Vec, vec_len, vec_capacity, bytes_eq, if◌then◌else◌, Option, None, Some, option_map, slice_get, Contains, IfSome}
 use mathlib.Core.Path.{sym}
 use Rattle.std.proofs.lemmas.List.{take-append-drop}
+use Rattle.std.specs.declared.alloc.Global.{Global}
 use Rattle.apt_outside.specs.Child.{Says, Try, Child, Known, State, IsSound, sent_to}
 use Rattle.apt_outside.specs.declared.script.Script.{Script}
 use Rattle.apt_outside.specs.declared.script.Call.{Call}
@@ -29,8 +30,19 @@ script_says scripts name command frames = answers_of (script_of scripts name) (l
 abbrev pub shown_call : Call → Try
 shown_call call = (string_bytes call.name, map string_bytes call.command.items)
 
+-- a call with this name and these words
+abbrev pub IsCall : List ℕ → List (String Global) → Call → Type 0
+IsCall name words call = shown_call call ≡ (name, map string_bytes words)
+
+abbrev pub shown_frames : List (Vec ℕ Global) → List (List ℕ)
+shown_frames frames = map (λ f. f.items) frames
+
 abbrev pub frames_of : Started → List (List ℕ)
-frames_of s = map (λ f. f.items) s.sent.items
+frames_of s = shown_frames s.sent.items
+
+-- these bytes more need no memory
+abbrev pub HasRoom : Vec ℕ Global → List ℕ → Type 0
+HasRoom bytes more = vec_len bytes + length more ≤ vec_capacity bytes
 
 -- all that a child has said
 abbrev pub said_of : List Script → Started → List ℕ

@@ -1,6 +1,6 @@
 // Children that follow scripts.
 ghost use Rattle.std.specs.Prelude.{◌≡◌, ◌<◌, OnOk, vec_len, vec_capacity};
-ghost use Rattle.apt_outside.specs.Scripted.{TakesSaid, EachJoined, LiveStarted};
+ghost use Rattle.apt_outside.specs.Scripted.{refuses_start, TakesSaid, EachJoined, LiveStarted};
 
 use crate::script::{Attempt, Call, Script, Started};
 use crate::scripting::{add_frame, attempt, find_script, give};
@@ -30,9 +30,9 @@ pub struct ScriptChildren {
 }
 
 impl ScriptChildren {
-    ghost use Rattle.std.specs.Prelude.{◌≡◌, ◌+◌, ◌-◌, ◌^◌, ◌<◌, ◌≤◌, ◌++◌, ◌∷◌, [], nat_le, ◌||◌, is_none, length, map, string_bytes, IfOk, OnOk, option_copied, vec_len, vec_capacity};
+    ghost use Rattle.std.specs.Prelude.{◌≡◌, ◌+◌, ◌-◌, ◌^◌, ◌<◌, ◌≤◌, ◌++◌, ◌∷◌, [], length, IfOk, OnOk, option_copied, vec_len, vec_capacity};
     ghost use Rattle.apt_outside.specs.Count.{Rose};
-    ghost use Rattle.apt_outside.specs.Scripted.{sent_bytes, script_of, shown_call, IsJoined};
+    ghost use Rattle.apt_outside.specs.Scripted.{sent_bytes, IsCall, IsJoined};
 
     /// Children of these scripts, none of which was started.
     pub fn new(alloc: Global, scripts: Vec<Script>) -> Self
@@ -73,8 +73,8 @@ impl ScriptChildren {
         ensures started_room { OnOk result (vec_len self.new.started < vec_capacity self.new.started) }
         ensures live_room { OnOk result (vec_len self.new.live < vec_capacity self.new.live) }
         ensures tried_room { OnOk result (vec_len self.new.tried < vec_capacity self.new.tried) }
-        ensures call { IfOk result (λ attempt. shown_call attempt.call ≡ (name.now, map string_bytes command.now)) }
-        ensures begun { IfOk result (λ attempt. shown_call attempt.begun.call ≡ (name.now, map string_bytes command.now)) }
+        ensures call { IfOk result (λ attempt. IsCall name.now command.now attempt.call) }
+        ensures begun { IfOk result (λ attempt. IsCall name.now command.now attempt.begun.call) }
         ensures sent { IfOk result (λ attempt. attempt.begun.sent.items ≡ []) }
         ensures taken { IfOk result (λ attempt. attempt.begun.taken ≡ 0) }
         ensures joined { IfOk result (λ attempt. IsJoined self.old.scripts.items attempt.begun) }
@@ -85,7 +85,7 @@ impl ScriptChildren {
 
     // Whether a start of this name is to fail.
     fn refuses(&self, name: &str) -> bool
-        ensures { result ≡ (nat_le (2 ^ 32 - 1) (length self.now.started.items) || is_none (script_of self.now.scripts.items name.now)) }
+        ensures { result ≡ refuses_start self.now.scripts.items self.now.started.items (name.now, []) }
     {
         self.started.len() >= u32::MAX as usize || find_script(&self.scripts, name).is_none()
     }
@@ -147,7 +147,7 @@ fn make_room(
 
 impl Children for ScriptChildren {
     ghost use Rattle.std.specs.Prelude.{true, Some, slice_get};
-    ghost use Rattle.apt_outside.specs.Scripted.{refuses_start, state_of, sound_known};
+    ghost use Rattle.apt_outside.specs.Scripted.{state_of, sound_known};
 
     ghost tells = { true };
 

@@ -1,6 +1,6 @@
 // Reads scripts.
-ghost use Rattle.std.specs.Prelude.{◌≡◌, [], ◌∷◌, ◌++◌, ◌≤◌, ◌<◌, length, take, drop, IfOk, OnOk, OnErr, map, flat_map, string_bytes, option_copied, ◌+◌, vec_len, vec_capacity};
-ghost use Rattle.apt_outside.specs.Scripted.{script_of, answer_of, said_of, shown_call, frames_of, HasGiven, IsJoined};
+ghost use Rattle.std.specs.Prelude.{◌≡◌, [], ◌∷◌, ◌++◌, ◌≤◌, ◌<◌, length, take, drop, IfOk, OnOk, OnErr, flat_map, option_copied, ◌+◌};
+ghost use Rattle.apt_outside.specs.Scripted.{script_of, answer_of, IsCall, shown_frames, frames_of, HasRoom, HasGiven, IsJoined};
 
 use crate::script::{Attempt, Call, Script, Started};
 use std::alloc::{AllocError, Global};
@@ -9,7 +9,7 @@ use std::alloc::{AllocError, Global};
 ///
 /// Want of memory is the only error.
 fn copy_call(alloc: Global, name: &str, command: &[String]) -> Result<Call, AllocError>
-    ensures { IfOk result (λ call. shown_call call ≡ (name.now, map string_bytes command.now)) }
+    ensures { IfOk result (IsCall name.now command.now) }
 {
     let mut words = Vec::new(alloc);
     for word in command {
@@ -62,7 +62,7 @@ fn begin(
     name: &str,
     command: &[String],
 ) -> Result<Started, AllocError>
-    ensures call { IfOk result (λ started. shown_call started.call ≡ (name.now, map string_bytes command.now)) }
+    ensures call { IfOk result (λ started. IsCall name.now command.now started.call) }
     ensures sent { IfOk result (λ started. started.sent.items ≡ []) }
     ensures taken { IfOk result (λ started. started.taken ≡ 0) }
     ensures joined { IfOk result (IsJoined scripts.now.items) }
@@ -86,8 +86,8 @@ pub fn attempt(
     name: &str,
     command: &[String],
 ) -> Result<Attempt, AllocError>
-    ensures call { IfOk result (λ attempt. shown_call attempt.call ≡ (name.now, map string_bytes command.now)) }
-    ensures begun { IfOk result (λ attempt. shown_call attempt.begun.call ≡ (name.now, map string_bytes command.now)) }
+    ensures call { IfOk result (λ attempt. IsCall name.now command.now attempt.call) }
+    ensures begun { IfOk result (λ attempt. IsCall name.now command.now attempt.begun.call) }
     ensures sent { IfOk result (λ attempt. attempt.begun.sent.items ≡ []) }
     ensures taken { IfOk result (λ attempt. attempt.begun.taken ≡ 0) }
     ensures joined { IfOk result (λ attempt. IsJoined scripts.now.items attempt.begun) }
@@ -105,8 +105,8 @@ fn make_room(started: &mut Started, frame: &[u8], answer: &[u8]) -> Result<(), A
     ensures taken { started.new.taken ≡ started.old.taken }
     ensures joined { started.new.joined.items ≡ started.old.joined.items }
     ensures said { started.new.said.items ≡ started.old.said.items }
-    ensures frame { OnOk result (vec_len started.new.joined + length frame.now ≤ vec_capacity started.new.joined) }
-    ensures answer { OnOk result (vec_len started.new.said + length answer.now ≤ vec_capacity started.new.said) }
+    ensures frame { OnOk result (HasRoom started.new.joined frame.now) }
+    ensures answer { OnOk result (HasRoom started.new.said answer.now) }
 {
     started.joined.reserve(frame.len())?;
     started.said.reserve(answer.len())
@@ -114,7 +114,7 @@ fn make_room(started: &mut Started, frame: &[u8], answer: &[u8]) -> Result<(), A
 
 // Puts a copy of a frame behind others.
 fn push_frame(alloc: Global, frames: &mut Vec<Vec<u8>>, frame: &[u8]) -> Result<(), AllocError>
-    ensures ok { OnOk result (map (λ f. f.items) frames.new.items ≡ map (λ f. f.items) frames.old.items ++ frame.now ∷ []) }
+    ensures ok { OnOk result (shown_frames frames.new.items ≡ shown_frames frames.old.items ++ frame.now ∷ []) }
     ensures err { OnErr result (frames.new.items ≡ frames.old.items) }
 {
     frames.push(frame.to_vec(alloc)?)?;
