@@ -17,9 +17,9 @@ use Rattle.child_session.specs.declared.round.Turn.{Turn}
 use Rattle.child_session.specs.declared.round.Turn.TheVariants.{Ends, Differs, Asks, Leaves}
 use Rattle.child_session.specs.declared.round.Showing.{Showing}
 use Rattle.child_session.specs.declared.round.Answer.{Answer}
-use Rattle.child_session.specs.Faults.{fault_of, IsFreeFault}
+use Rattle.child_session.specs.Faults.{fault_of, IsFreeFault, HasReason}
 use Rattle.child_session.specs.Talk.{Stream, answer_to, HasAnswered, Exchanged, Exchanges}
-use Rattle.child_session.specs.Round.{keeps, done_with, has_no_origins, turn_by_origins, turn_by_element, turn_at, after_turn, reply_frame, filed_after, printed_after, Act, Overasked, round_from, act_within, act_of, filings_of, IsFiled, Comes, OnAnswered, Shown, Shows, Underway, GoesOn}
+use Rattle.child_session.specs.Round.{keeps, done_with, has_no_origins, turn_by_origins, turn_by_element, turn_at, after_turn, reply_frame, filed_after, printed_after, end_of, Act, Overasked, round_from, act_within, act_of, filings_of, IsFiled, Comes, IsDue, OnAnswered, Shown, Shows, Underway, GoesOn}
 use Rattle.child_session.specs.Served.{Served}
 use Rattle.child_session.proofs.Taking.{some_of}
 
@@ -141,6 +141,19 @@ differs_breaks declared (Some (frame.Create creation)) said e = absurd (origins_
 differs_breaks declared (Some (frame.Message message)) said e = absurd (element_differs message.element message said e)
 differs_breaks declared (Some (frame.Ask question)) said e = absurd cc
 
+-- how a round ends is due, and no fault of the children
+pub end_is_due : (showing : Showing) (answer : Option Frame) (turn : Turn) (printed : List Message) → turn_at showing.claim answer ≡ turn → IsDue showing (end_of showing.claim showing.limit turn printed)
+end_is_due showing answer (Ends claimed) printed is = end_keeps showing.claim answer claimed is
+end_is_due showing answer (Differs said) printed is = (refl, differs_breaks showing.claim answer said is)
+end_is_due showing answer (Asks request) printed is = refl
+end_is_due showing answer Leaves printed is = tt
+
+pub end_has_reason : (before now : ℕ) (declared : Claim) (limit : ℕ) (turn : Turn) (printed : List Message) → before ≤ now → HasReason before now (end_of declared limit turn printed)
+end_has_reason before now declared limit (Ends claimed) printed later = record { later = later; failed = λ e. absurd (cc) }
+end_has_reason before now declared limit (Differs said) printed later = record { later = later; failed = λ e. absurd (cc) }
+end_has_reason before now declared limit (Asks request) printed later = record { later = later; failed = λ e. absurd (cc) }
+end_has_reason before now declared limit Leaves printed later = record { later = later; failed = λ e. absurd (cc) }
+
 pub fault_is_free : (fault : Fault) → IsFreeFault (fault_of fault)
 fault_is_free outside.Failed = tt
 fault_is_free outside.Memory = tt
@@ -253,6 +266,13 @@ module _ (child : ℕ) (showing : Showing) (made : Filings) where
         ∙ ap (λ o. after_turn (turn_at showing.claim o) b.sent made1 printed (λ s f m. Overasked b.sent made1)) (sym x.answer_is)
         ∙ ap (λ t. after_turn t b.sent made1 printed (λ s f m. Overasked b.sent made1)) turn in
         ((over, refl), tt))
+
+    -- whatever ends it, where a question does so only if the child may ask no more
+    pub way_closes : (turn : Turn) → turn_at showing.claim answer ≡ turn → ((request : Request) → turn ≡ Asks request → left ≡ 0) → Shows child showing k0 k1 made made1 (end_of showing.claim showing.limit turn printed)
+    way_closes (Ends claimed) is full = way_ends claimed is
+    way_closes (Differs said) is full = way_differs said is
+    way_closes (Asks request) is full = way_is_full request (full request refl) is
+    way_closes Leaves is full = way_leaves is
 
   -- a fault of the children or want of memory may come at any point
   free_comes : (fault : SessionFault) → IsFreeFault fault → (act : Act) (sent : Frames) (filings : Filings) → Comes act showing (Err fault) sent filings

@@ -146,6 +146,13 @@ Comes act showing (Err (ClaimBroken declared said)) sent filings = (act ≡ Diff
 Comes act showing (Err Failed) sent filings = Unit {0}
 Comes act showing (Err Memory) sent filings = Unit {0}
 
+-- what a turn comes to that ends the round; a question is one too many there
+abbrev pub end_of : Claim → ℕ → Turn → List Message → Result Answer SessionFault
+end_of declared limit (Ends claimed) printed = Ok (record { messages = printed; claimed = claimed })
+end_of declared limit (Differs said) printed = Err (ClaimBroken declared said)
+end_of declared limit (Asks request) printed = Err (TooManyQuestions limit)
+end_of declared limit Leaves printed = Err Unbuilt
+
 -- whatever the child tells, its claim is held against what was declared, and it is refused by its limit and its claim alone
 abbrev pub IsDue : Showing → Result Answer SessionFault → Type 0
 IsDue showing (Ok answer) = keeps showing.claim answer.claimed ≡ true

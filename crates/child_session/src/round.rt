@@ -5,7 +5,7 @@ ghost use Rattle.wire_frames.specs.Frames.{spelling};
 ghost use Rattle.wire_frames.specs.declared.frame.Frame.TheVariants as frames;
 ghost use Rattle.child_session.specs.Faults.{HasReason, IsFree};
 ghost use Rattle.apt_outside.specs.Child.{Attends};
-ghost use Rattle.child_session.specs.Round.{IsDue, keeps, done_with, has_no_origins, turn_by_origins, turn_by_element, turn_at, reply_to, filed_after, printed_after, Replies};
+ghost use Rattle.child_session.specs.Round.{IsDue, keeps, done_with, has_no_origins, turn_by_origins, turn_by_element, turn_at, end_of, reply_to, filed_after, printed_after, Replies};
 ghost use Rattle.child_session.specs.Served.{Served, AllServed};
 ghost use Rattle.child_session.specs.Moments.{Gives, Shows};
 
@@ -190,6 +190,23 @@ fn take_turn<C: Children>(
     Ok(exchange(alloc, children, child, frame.as_slice())?)
 }
 
+// What a turn comes to that ends the round: a question is one too many there.
+fn end_of(
+    declared: Claim,
+    limit: u32,
+    turn: Turn,
+    messages: List<Message>,
+) -> Result<Answer, SessionFault>
+    ensures { result ≡ end_of declared limit turn messages }
+{
+    match turn {
+        Turn::Ends { claimed } => Ok(Answer { messages, claimed }),
+        Turn::Differs { said } => Err(SessionFault::ClaimBroken { declared, said }),
+        Turn::Asks(_) => Err(SessionFault::TooManyQuestions { limit }),
+        Turn::Leaves => Err(SessionFault::Unbuilt),
+    }
+}
+
 /// Shows a round to a child, and gives what it prints and whether its processor claims. What it creates is added to
 /// the files that were made before.
 ///
@@ -219,18 +236,11 @@ pub fn show_round<C: Children>(
     let mut answer = exchange(alloc, children, child, showing.round.as_slice())?;
     for count in 0..limit {
         match turn_of(declared, answer) {
-            Turn::Ends { claimed } => return Ok(Answer { messages, claimed }),
-            Turn::Differs { said } => return Err(SessionFault::ClaimBroken { declared, said }),
             Turn::Asks(request) => {
                 answer = take_turn(alloc, children, child, request, filer, &mut messages)?;
             }
-            Turn::Leaves => return Err(SessionFault::Unbuilt),
+            turn => return end_of(declared, limit, turn, messages),
         }
     }
-    match turn_of(declared, answer) {
-        Turn::Ends { claimed } => return Ok(Answer { messages, claimed }),
-        Turn::Differs { said } => return Err(SessionFault::ClaimBroken { declared, said }),
-        Turn::Asks(_) => return Err(SessionFault::TooManyQuestions { limit }),
-        Turn::Leaves => return Err(SessionFault::Unbuilt),
-    }
+    end_of(declared, limit, turn_of(declared, answer), messages)
 }
