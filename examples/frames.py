@@ -3,6 +3,7 @@
 docs/PROTOCOL.md says who sends which and when. A frame is a length in four bytes and then a tag and its fields, which
 fill that length. Numbers have their big end first. A processor in Python takes a copy of this file beside its own.
 """
+import sys
 
 # The tags of what the host sends, and of what a processor sends.
 INIT, ROUND, CREATED, NOTED = 1, 2, 23, 24
@@ -133,3 +134,13 @@ def read_frame(stream):
         return None
     fields = Fields(stream.read(int.from_bytes(length, "big")))
     return fields.byte(), fields
+
+
+# How a processor talks.
+
+
+def ask(sent=b""):
+    """Sends a frame to the host, and reads what it says next; without a frame it only reads, as a processor begins."""
+    sys.stdout.buffer.write(sent)
+    sys.stdout.buffer.flush()
+    return read_frame(sys.stdin.buffer)

@@ -6,43 +6,32 @@ a line end. It talks with the host over its standard input and output, one frame
 it answers by Hello; for each Round it sends what it creates, waits for the reply to each creation, and ends by Done.
 frames.py, which spells and reads the frames, stands in examples and is copied beside it.
 """
-import sys
-
 import frames
 
 
-def read_frame():
-    return frames.read_frame(sys.stdin.buffer)
-
-
-def write_frame(frame):
-    sys.stdout.buffer.write(frame)
-    sys.stdout.buffer.flush()
-
-
 def create_resource(name, content):
-    write_frame(frames.create_resource(name, content))
-    tag, fields = read_frame()
+    tag, fields = frames.ask(frames.create_resource(name, content))
     if tag != frames.CREATED or fields.byte() != frames.ACCEPTED:
         raise ValueError(f"{name} was not accepted")
 
 
-def answer_round(fields):
+def work_in_round(fields):
     number = fields.number()
     _over, _error = fields.byte(), fields.byte()
     _offered, roots = fields.texts(), fields.texts()
     if number == 1:
         create_resource("roots", "".join(root + "\n" for root in roots).encode())
-    write_frame(frames.done())
 
 
 def main():
-    while (frame := read_frame()) is not None:
-        tag, fields = frame
+    said = frames.ask()
+    while said is not None:
+        tag, fields = said
         if tag == frames.INIT:
-            write_frame(frames.hello("q.A"))
+            said = frames.ask(frames.hello("q.A"))
         elif tag == frames.ROUND:
-            answer_round(fields)
+            work_in_round(fields)
+            said = frames.ask(frames.done())
         else:
             raise ValueError(f"frame {tag} is not expected here")
 

@@ -10,30 +10,13 @@ It talks with the host over its standard input and output, one frame at a time: 
 Hello; for each Round it sends creations and messages, waits for the reply to each, and ends by Done. frames.py, which
 spells and reads the frames, stands in examples and is copied beside it.
 """
-import sys
-
 import frames
 
 ANSWERS = ("accepted", "there already", "unsupported", "named badly", "too large")
 
 
-def read_frame():
-    return frames.read_frame(sys.stdin.buffer)
-
-
-def write_frame(frame):
-    sys.stdout.buffer.write(frame)
-    sys.stdout.buffer.flush()
-
-
-def reply_to(frame):
-    """Sends a frame, and waits for the frame that the host answers."""
-    write_frame(frame)
-    return read_frame()
-
-
 def create(name, frame):
-    reply = reply_to(frame)
+    reply = frames.ask(frame)
     if reply is None or reply[0] != frames.CREATED:
         raise ValueError(f"no answer to the creation of {name}")
     answer = reply[1].byte()
@@ -42,7 +25,7 @@ def create(name, frame):
 
 
 def say(kind, text):
-    reply = reply_to(frames.message(kind, text))
+    reply = frames.ask(frames.message(kind, text))
     if reply is None or reply[0] != frames.NOTED:
         raise ValueError("no answer to a message")
 
@@ -57,7 +40,7 @@ class Maker:
         create(root + "Info", frames.create_source(root + "Info", content.encode()))
         say(frames.NOTE, f"{root} has {root}Info")
 
-    def answer_round(self, fields):
+    def work_in_round(self, fields):
         _number, over, _error = fields.number(), fields.byte(), fields.byte()
         offered, roots = fields.texts(), fields.texts()
         self.shown += roots
@@ -70,17 +53,18 @@ class Maker:
         if over:
             names = "".join(name + "\n" for name in self.shown)
             create("classes", frames.create_resource("classes", names.encode()))
-        write_frame(frames.done())
 
 
 def main():
     maker = Maker()
-    while (frame := read_frame()) is not None:
-        tag, fields = frame
+    said = frames.ask()
+    while said is not None:
+        tag, fields = said
         if tag == frames.INIT:
-            write_frame(frames.hello("q.A"))
+            said = frames.ask(frames.hello("q.A"))
         elif tag == frames.ROUND:
-            maker.answer_round(fields)
+            maker.work_in_round(fields)
+            said = frames.ask(frames.done())
         else:
             raise ValueError(f"frame {tag} is not expected here")
 
