@@ -5,6 +5,7 @@
 //! Not promised: that memory is there. What takes memory says so by `NoMemory`, and what it was called on is then as it was, but for a set that takes the names of another one.
 #![tactic(auto)]
 
+mod around;
 mod boxed;
 mod element;
 mod fault;
@@ -20,6 +21,7 @@ mod names;
 mod reading;
 mod writing;
 
+pub use around::{Around, copy_around, is_same_around};
 pub use boxed::Boxed;
 pub use element::ElementRef;
 pub use fault::FormFault;

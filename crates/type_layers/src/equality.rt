@@ -12,26 +12,6 @@ fn is_same_kind(one: &PrimitiveKind, other: &PrimitiveKind) -> bool
     *one == *other
 }
 
-fn is_same_form(one: &Around, other: &Around) -> bool
-    ensures { IsTrue result ↔ one.now ≡ other.now }
-{
-    *one == *other
-}
-
-fn are_same_forms(ones: &[Around], others: &[Around]) -> bool
-    ensures { IsTrue result ↔ ones.now ≡ others.now }
-{
-    if ones.len() != others.len() {
-        return false;
-    }
-    for at in 0..ones.len() {
-        if !is_same_form(&ones[at], &others[at]) {
-            return false;
-        }
-    }
-    true
-}
-
 fn is_same_name(one: &Name, other: &Name) -> bool
     ensures { IsTrue result ↔ one.now ≡ other.now }
 {
@@ -62,7 +42,7 @@ fn are_same_elements(ones: &[ElementRef], others: &[ElementRef]) -> bool
 fn equals(one: &Mirror, other: &Mirror) -> bool
     ensures { IsTrue result ↔ one.now ≡ other.now }
 {
-    are_same_forms(one.around.as_slice(), other.around.as_slice())
+    is_same_around(one.around.as_slice(), other.around.as_slice())
         && is_equal_base(&one.base, &other.base)
 }
 

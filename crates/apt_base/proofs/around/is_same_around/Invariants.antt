@@ -1,5 +1,5 @@
 use Rattle.std.proofs.Common.{◌≡◌, length, take}
-use Rattle.unit_equality.proofs.types.are_same_forms.Given as goal
+use Rattle.apt_base.proofs.around.is_same_around.Given as goal
 
 -- as many, and the same so far
 abbrev pub invariant-loop-at : goal.invariant-loop-at
