@@ -3,7 +3,7 @@ ghost use Rattle.std.specs.Prelude.{◌≡◌, ◌↔◌, IsTrue};
 ghost use Rattle.type_layers.specs.Layers.{layer};
 ghost use Rattle.type_layers.specs.Same.{equal, is_wildcard, same};
 
-use apt_base::{Boxed, ElementRef, Name};
+use apt_base::{Boxed, ElementRef, Name, is_same_around};
 use type_mirror::{Around, BaseMirror, DeclaredMirror, ExecutableMirror, Mirror, PrimitiveKind};
 
 fn is_same_kind(one: &PrimitiveKind, other: &PrimitiveKind) -> bool

@@ -2,7 +2,8 @@
 ghost use Rattle.std.specs.Prelude.{◌≡◌, ◌↔◌, IsTrue};
 
 use crate::texts::is_same_name;
-use decl_tree::{Around, BaseType, NamedPart, PrimitiveKind, TypeText};
+use apt_base::is_same_around;
+use decl_tree::{BaseType, NamedPart, PrimitiveKind, TypeText};
 
 fn is_same_kind(one: &PrimitiveKind, other: &PrimitiveKind) -> bool
     ensures { IsTrue result ↔ one.now ≡ other.now }
