@@ -4,7 +4,7 @@ ghost use Rattle.type_mirror.specs.Nesting.{deepest, capped, nesting, base_nesti
 
 use crate::mirror::{BaseMirror, DeclaredMirror, ExecutableMirror, Mirror};
 use crate::value::{Annotation, NamedValue, Value};
-use apt_base::List;
+use apt_base::{Around, List};
 
 fn depth_around(around: &List<Around>) -> u32
     ensures { result ≡ capped (length around.now) }
