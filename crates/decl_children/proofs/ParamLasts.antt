@@ -1,7 +1,7 @@
 -- The last step of a parameter, with the parameters behind it: taken from the rest of a parameter, and put together again.
 use Rattle.std.proofs.Common.{◌≡◌, ℕ, Bool, true, false, List, [], ◌∷◌, ◌++◌, Option, Some, None, ◌⊎◌, inl, inr, refl, sym, ap, subst, ◌∙◌, append_assoc, ⊎_elim}
 use Rattle.std.proofs.lemmas.List.{append-nil}
-use Rattle.decl_tree.specs.declared.type_text.Around.{Around}
+use Rattle.apt_base.specs.declared.around.Around.{Around}
 use Rattle.decl_grammar.specs.declared.symbol.Symbol.{Symbol}
 use Rattle.decl_grammar.specs.declared.written.NameAt.{NameAt}
 use Rattle.decl_grammar.specs.declared.written.ParamAt.{ParamAt}

@@ -1,7 +1,7 @@
 -- The rest of a parameter is its steps up to its end, and the parameters behind it; and from these it is put together.
 use Rattle.std.proofs.Common.{◌≡◌, ℕ, zero, suc, ◌*◌, ◌<◌, ◌≤◌, Bool, true, false, List, [], ◌∷◌, ◌++◌, Option, Some, None, length, inl, refl, sym, ap, subst, ◌∙◌, append_assoc, length-append, arith, ⊎_elim}
 use Rattle.std.proofs.lemmas.List.{append-nil}
-use Rattle.decl_tree.specs.declared.type_text.Around.{Around}
+use Rattle.apt_base.specs.declared.around.Around.{Around}
 use Rattle.decl_grammar.specs.declared.symbol.Symbol.{Symbol}
 use Rattle.decl_grammar.specs.declared.written.ParamAt.{ParamAt}
 use Rattle.decl_grammar.specs.declared.written.ParamEnd.{ParamEnd}

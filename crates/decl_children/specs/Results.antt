@@ -1,7 +1,7 @@
 -- What stands behind the result of a method, which a constructor has not, and when a method or a constructor has too many children.
 use Rattle.std.specs.Prelude.{◌≡◌, ℕ, true, false, List, [], ◌∷◌, drop, ◌⊎◌, Option, Some, None, Bool, ◌&&◌}
 use Rattle.std.specs.Borrow.{Bor}
-use Rattle.decl_tree.specs.declared.type_text.Around.{Around}
+use Rattle.apt_base.specs.declared.around.Around.{Around}
 use Rattle.decl_tree.specs.declared.type_text.BaseType.{BaseType}
 use Rattle.decl_grammar.specs.declared.symbol.Symbol.{Symbol}
 use Rattle.decl_grammar.specs.Reading.{starts, done}

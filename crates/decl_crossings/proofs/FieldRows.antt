@@ -1,6 +1,6 @@
 -- How the number of fields that begin goes from one field to the next: where an initialiser begins, where one ends, and behind the name and the brackets of the next field.
 use Rattle.std.proofs.Common.{◌≡◌, ℕ, zero, suc, ◌*◌, ◌<◌, ◌≤◌, true, false, List, [], ◌∷◌, ◌++◌, length, Option, None, inl, inr, refl, sym, ap, subst, ◌∙◌, append_assoc, arith}
-use Rattle.decl_tree.specs.declared.type_text.Around.{Around}
+use Rattle.apt_base.specs.declared.around.Around.{Around}
 use Rattle.decl_tree.specs.declared.annotation.ValueText.{ValueText}
 use Rattle.decl_turns.specs.declared.states.Leave.TheVariants as leave
 use Rattle.decl_turns.specs.declared.states.Place.TheVariants as place

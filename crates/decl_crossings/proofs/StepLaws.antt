@@ -1,7 +1,7 @@
 -- What each step of a walk over the fields of a declaration says.
 use Rattle.std.proofs.Common.{◌≡◌, ℕ, suc, ◌-◌, ◌*◌, ◌<◌, ◌≤◌, true, false, List, [], ◌∷◌, ◌++◌, ◌⊎◌, length, take, inl, inr, refl, sym, ap, subst, ◌∙◌, length-append, arith}
 use Rattle.std.proofs.Math.Seq.{take-append_seam}
-use Rattle.decl_tree.specs.declared.type_text.Around.{Around}
+use Rattle.apt_base.specs.declared.around.Around.{Around}
 use Rattle.decl_turns.specs.declared.states.Leave.TheVariants as leave
 use Rattle.decl_turns.specs.declared.states.Place.TheVariants as place
 use Rattle.decl_turns.specs.declared.states.Before.{Before}

@@ -4,7 +4,7 @@ use Rattle.std.proofs.lemmas.Bool.{eqb-true}
 use Rattle.std.proofs.lemmas.List.{append-nil}
 use Rattle.decl_tree.specs.declared.annotation.AnnotationText.{AnnotationText}
 use Rattle.decl_tree.specs.declared.annotation.ElementValuePair.{ElementValuePair}
-use Rattle.decl_tree.specs.declared.type_text.Around.{Around}
+use Rattle.apt_base.specs.declared.around.Around.{Around}
 use Rattle.decl_grammar.specs.declared.symbol.Symbol.{Symbol}
 use Rattle.decl_grammar.specs.Reading.{has, done, fault, ◌>>=◌, one_at, pass, skip}
 use Rattle.decl_grammar.specs.Form.{names, ats, primitive_sorts, pair, turn, maybe, many, either, terminal, over, Each, Is, Begins}

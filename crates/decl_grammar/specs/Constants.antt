@@ -5,8 +5,8 @@ use Rattle.std.specs.Option.{option_or, option_map_or}
 use Rattle.std.specs.Borrow.{Bor}
 use Rattle.decl_tree.specs.declared.type_text.PrimitiveKind.{PrimitiveKind}
 use Rattle.decl_tree.specs.declared.type_text.PrimitiveKind.TheVariants as primitive
-use Rattle.decl_tree.specs.declared.type_text.Around.{Around}
-use Rattle.decl_tree.specs.declared.type_text.Around.TheVariants as around
+use Rattle.apt_base.specs.declared.around.Around.{Around}
+use Rattle.apt_base.specs.declared.around.Around.TheVariants as around
 use Rattle.decl_tree.specs.declared.type_text.BaseType.{BaseType}
 use Rattle.decl_tree.specs.declared.type_text.BaseType.TheVariants as base
 use Rattle.decl_tree.specs.declared.type_text.TypeText.{TypeText, roll-TypeText}

@@ -4,7 +4,7 @@ use Rattle.decl_tree.specs.declared.type_text.TypeText.{TypeText}
 use Rattle.decl_tree.specs.declared.annotation.ValueText.{ValueText, out-ValueText}
 use Rattle.decl_tree.specs.declared.annotation.ElementValuePair.{ElementValuePair}
 use Rattle.decl_tree.specs.declared.annotation.AnnotationText.{AnnotationText}
-use Rattle.decl_tree.specs.declared.type_text.Around.{Around}
+use Rattle.apt_base.specs.declared.around.Around.{Around}
 use Rattle.decl_grammar.specs.declared.written.Declarator.{Declarator}
 use Rattle.decl_grammar.specs.declared.written.NameAt.{NameAt}
 use Rattle.decl_grammar.specs.declared.symbol.Symbol.{Symbol}

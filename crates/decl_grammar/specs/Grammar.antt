@@ -3,7 +3,7 @@ use Rattle.std.specs.Prelude.{ℕ, Bool, true, false, List, [], ◌∷◌, ◌++
 use Rattle.decl_tree.specs.declared.type_text.TypeText.{TypeText, out-TypeText}
 use Rattle.decl_tree.specs.declared.annotation.ValueText.{ValueText}
 use Rattle.decl_tree.specs.declared.annotation.AnnotationText.{AnnotationText}
-use Rattle.decl_tree.specs.declared.type_text.Around.{Around}
+use Rattle.apt_base.specs.declared.around.Around.{Around}
 use Rattle.decl_tree.specs.declared.type_text.BaseType.{BaseType}
 use Rattle.decl_tree.specs.declared.compilation.Import.{Import}
 use Rattle.decl_grammar.specs.declared.written.Modifiers.{Modifiers}
@@ -40,7 +40,7 @@ use Rattle.decl_grammar.specs.declared.written.Unmodified.TheVariants as unmodif
 use Rattle.decl_tree.specs.declared.compilation.ImportKind.TheVariants as import_kind
 use Rattle.decl_tree.specs.declared.declaration.Member.TheVariants as member
 use Rattle.decl_tree.specs.declared.declaration.TypeKind.TheVariants as kind
-use Rattle.decl_tree.specs.declared.type_text.Around.TheVariants as around
+use Rattle.apt_base.specs.declared.around.Around.TheVariants as around
 use Rattle.decl_tree.specs.declared.type_text.BaseType.TheVariants as base
 use Rattle.decl_tree.specs.declared.type_text.PrimitiveKind.TheVariants as primitive
 use Rattle.decl_grammar.specs.Form.{ParamRest, ImportRest, Form, defaulted, type_arguments, nested_type, plain_modifiers, static_word, import_rest, enum_rest, param_rest, first_rest, value_and_rest, terminal, pair, turn, maybe, many, either, seen, nest, over}

@@ -13,8 +13,8 @@ use Rattle.decl_tree.specs.declared.annotation.ElementValuePair.{ElementValuePai
 use Rattle.decl_tree.specs.declared.annotation.ValueText.{ValueText, roll-ValueText, out-ValueText, out-roll-ValueText}
 use Rattle.decl_tree.specs.declared.annotation.ValueText.TheOpen.{ValueText-F}
 use Rattle.decl_tree.specs.declared.annotation.ValueText.TheVariants as value
-use Rattle.decl_tree.specs.declared.type_text.Around.{Around}
-use Rattle.decl_tree.specs.declared.type_text.Around.TheVariants as around
+use Rattle.apt_base.specs.declared.around.Around.{Around}
+use Rattle.apt_base.specs.declared.around.Around.TheVariants as around
 use Rattle.decl_tree.specs.declared.type_text.BaseType.{BaseType}
 use Rattle.decl_tree.specs.declared.type_text.BaseType.TheVariants as base
 use Rattle.decl_tree.specs.declared.type_text.NamedPart.{NamedPart}

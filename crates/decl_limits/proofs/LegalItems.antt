@@ -13,7 +13,7 @@ use Rattle.decl_tree.specs.declared.member.ConstructorDecl.{ConstructorDecl}
 use Rattle.decl_tree.specs.declared.member.FieldDecl.{FieldDecl}
 use Rattle.decl_tree.specs.declared.member.MethodDecl.{MethodDecl}
 use Rattle.decl_tree.specs.declared.annotation.AnnotationText.{AnnotationText}
-use Rattle.decl_tree.specs.declared.type_text.Around.{Around}
+use Rattle.apt_base.specs.declared.around.Around.{Around}
 use Rattle.decl_tree.specs.declared.type_text.TypeText.{TypeText, out-TypeText}
 use Rattle.decl_grammar.specs.declared.symbol.Symbol.{Symbol}
 use Rattle.decl_grammar.specs.declared.written.Declarator.{Declarator}

@@ -4,7 +4,7 @@ use Rattle.std.specs.List.{list_all}
 use Rattle.apt_base.specs.Forms.{is_name, all_fit, fits_if_some}
 use Rattle.decl_tree.specs.Legal.{part_fits, inside_type, is_legal_type, is_legal_value}
 use Rattle.decl_tree.specs.declared.annotation.ValueText.{ValueText}
-use Rattle.decl_tree.specs.declared.type_text.Around.{Around}
+use Rattle.apt_base.specs.declared.around.Around.{Around}
 use Rattle.decl_tree.specs.declared.type_text.BaseType.TheVariants as base
 use Rattle.decl_tree.specs.declared.type_text.NamedPart.{NamedPart}
 use Rattle.decl_tree.specs.declared.type_text.PrimitiveKind.TheVariants as primitive

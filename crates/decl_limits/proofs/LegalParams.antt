@@ -8,8 +8,8 @@ use Rattle.std.proofs.lemmas.Nat.{or_lt}
 use Rattle.apt_base.specs.Forms.{is_name, all_fit}
 use Rattle.decl_tree.specs.Legal.{is_legal_type, is_legal_annotation, is_modifiers, is_legal_type_param, is_legal_param}
 use Rattle.decl_tree.specs.declared.annotation.AnnotationText.{AnnotationText}
-use Rattle.decl_tree.specs.declared.type_text.Around.{Around}
-use Rattle.decl_tree.specs.declared.type_text.Around.TheVariants as around
+use Rattle.apt_base.specs.declared.around.Around.{Around}
+use Rattle.apt_base.specs.declared.around.Around.TheVariants as around
 use Rattle.decl_tree.specs.declared.type_text.BaseType.{BaseType}
 use Rattle.decl_tree.specs.declared.type_text.TypeText.{TypeText}
 use Rattle.decl_grammar.specs.declared.symbol.Symbol.{Symbol}

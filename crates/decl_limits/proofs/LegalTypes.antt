@@ -2,8 +2,8 @@
 use Rattle.std.proofs.Common.{◌≡◌, ◌&&◌, ℕ, zero, suc, Bool, true, false, List, [], ◌∷◌, Option, refl, sym, ap, ◌∙◌}
 use Rattle.apt_base.specs.Forms.{is_name, all_fit, fits_if_some}
 use Rattle.decl_tree.specs.Legal.{part_fits, base_fits, inside_type, is_legal_type}
-use Rattle.decl_tree.specs.declared.type_text.Around.{Around}
-use Rattle.decl_tree.specs.declared.type_text.Around.TheVariants as around
+use Rattle.apt_base.specs.declared.around.Around.{Around}
+use Rattle.apt_base.specs.declared.around.Around.TheVariants as around
 use Rattle.decl_tree.specs.declared.type_text.BaseType.{BaseType, out-BaseType, out-roll-BaseType}
 use Rattle.decl_tree.specs.declared.type_text.BaseType.TheOpen.{BaseType-F}
 use Rattle.decl_tree.specs.declared.type_text.BaseType.TheVariants as base

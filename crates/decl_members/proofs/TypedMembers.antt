@@ -1,7 +1,7 @@
 -- What is read of a member of a class type behind the first name of the type.
 use Rattle.std.proofs.Common.{◌≡◌, ℕ, List, [], ◌∷◌, ◌++◌, Option, Result, Ok, Err, refl, sym, ap, ◌∙◌}
 use Rattle.decl_tree.specs.declared.type_text.TypeText.{TypeText}
-use Rattle.decl_tree.specs.declared.type_text.Around.{Around}
+use Rattle.apt_base.specs.declared.around.Around.{Around}
 use Rattle.decl_tree.specs.declared.type_text.NamedPart.{NamedPart}
 use Rattle.decl_tree.specs.declared.type_text.BaseType.TheVariants as base
 use Rattle.decl_grammar.specs.declared.symbol.Symbol.{Symbol}

@@ -4,7 +4,7 @@ use Rattle.std.specs.Prelude.{nat_le}
 use Rattle.apt_base.specs.Forms.{is_name, all_fit}
 use Rattle.decl_tree.specs.Legal.{part_fits, base_fits, inside_type, is_legal_type, is_plain, plain_fits, value_fits, is_legal_value, is_legal_annotation, is_legal_field, is_legal_method, is_legal_constructor, is_legal_constant, member_fits}
 use Rattle.decl_tree.specs.declared.type_text.PrimitiveKind.{PrimitiveKind}
-use Rattle.decl_tree.specs.declared.type_text.Around.{Around}
+use Rattle.apt_base.specs.declared.around.Around.{Around}
 use Rattle.decl_tree.specs.declared.type_text.BaseType.{BaseType, out-BaseType}
 use Rattle.decl_tree.specs.declared.type_text.BaseType.TheVariants as base
 use Rattle.decl_tree.specs.declared.type_text.TypeText.{TypeText, roll-TypeText, out-roll-TypeText}

@@ -9,8 +9,8 @@ use Rattle.apt_base.specs.Readings.{Gives}
 use Rattle.apt_base.specs.declared.fault.FormFault.{FormFault}
 use Rattle.apt_base.specs.declared.fault.FormFault.TheVariants.{Bad, Memory}
 use Rattle.apt_base.proofs.FieldsLemmas.{bind_some, some_is, u8_next-spelled, bool_next-spelled}
-use Rattle.decl_tree.specs.declared.type_text.Around.{Around}
-use Rattle.decl_tree.specs.declared.type_text.Around.TheVariants as around
+use Rattle.apt_base.specs.declared.around.Around.{Around}
+use Rattle.apt_base.specs.declared.around.Around.TheVariants as around
 use Rattle.decl_syntax.specs.declared.type_reading.BaseKind.{BaseKind}
 use Rattle.decl_syntax.specs.declared.type_reading.BaseKind.TheVariants as of
 use Rattle.decl_syntax.specs.declared.type_reading.Step.{Step}

@@ -7,7 +7,7 @@ use Rattle.apt_base.proofs.FieldsLemmas.{IsBytes, IsBytes-rest, bind_some, some_
 use Rattle.apt_base.proofs.Readers.{Reads, Reads-none, Reads-text, Reads-numbered, Spells-variant, and_reads, opt_reads, list_reads, map_reads, same_reads}
 use Rattle.decl_tree.specs.Legal.{part_fits, base_fits, inside_type, is_legal_type}
 use Rattle.decl_tree.specs.declared.type_text.PrimitiveKind.{PrimitiveKind}
-use Rattle.decl_tree.specs.declared.type_text.Around.{Around}
+use Rattle.apt_base.specs.declared.around.Around.{Around}
 use Rattle.decl_tree.specs.declared.type_text.BaseType.{BaseType, out-BaseType, roll-BaseType, roll-out-BaseType}
 use Rattle.decl_tree.specs.declared.type_text.BaseType.TheVariants as base
 use Rattle.decl_tree.specs.declared.type_text.BaseType.TheOpen.{BaseType-F}

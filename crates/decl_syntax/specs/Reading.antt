@@ -4,8 +4,8 @@ use Rattle.apt_base.specs.Fields.{◌>>=◌, u8_next, u16_next, bool_next, text_
 use Rattle.apt_base.specs.Forms.{Reader, none_next, then_by, ◌>>◌, mapped, checked, numbered, tagged, opt_next, list_next}
 use Rattle.decl_syntax.specs.Numbers.{primitive_of, kind_of, import_of}
 use Rattle.decl_tree.specs.Legal.{is_modifiers, are_few, children, default_constructors, enum_methods, package_start, depth}
-use Rattle.decl_tree.specs.declared.type_text.Around.{Around}
-use Rattle.decl_tree.specs.declared.type_text.Around.TheVariants as around
+use Rattle.apt_base.specs.declared.around.Around.{Around}
+use Rattle.apt_base.specs.declared.around.Around.TheVariants as around
 use Rattle.decl_tree.specs.declared.type_text.BaseType.{BaseType}
 use Rattle.decl_tree.specs.declared.type_text.BaseType.TheVariants as base
 use Rattle.decl_tree.specs.declared.type_text.NamedPart.{NamedPart, roll-NamedPart}

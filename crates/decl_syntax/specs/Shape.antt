@@ -4,8 +4,8 @@ use Rattle.std.specs.List.{flat_map}
 use Rattle.apt_base.specs.Fields.{bool_form}
 use Rattle.apt_base.specs.Forms.{name_form, u16_form, list_form, opt_form}
 use Rattle.decl_syntax.specs.Numbers.{primitive_number, kind_number, import_number}
-use Rattle.decl_tree.specs.declared.type_text.Around.{Around}
-use Rattle.decl_tree.specs.declared.type_text.Around.TheVariants as around
+use Rattle.apt_base.specs.declared.around.Around.{Around}
+use Rattle.apt_base.specs.declared.around.Around.TheVariants as around
 use Rattle.decl_tree.specs.declared.type_text.BaseType.{BaseType}
 use Rattle.decl_tree.specs.declared.type_text.NamedPart.{NamedPart}
 use Rattle.decl_tree.specs.declared.type_text.TypeText.{TypeText}

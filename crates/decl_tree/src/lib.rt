@@ -12,7 +12,8 @@ mod member;
 mod type_text;
 
 pub use annotation::{AnnotationText, ElementValuePair, ValueText};
+pub use apt_base::Around;
 pub use compilation::{Body, Import, ImportKind, Unit, UnitText};
 pub use declaration::{Member, TypeDecl, TypeKind};
 pub use member::{ConstantDecl, ConstructorDecl, FieldDecl, MethodDecl, Param, TypeParam};
-pub use type_text::{Around, BaseType, NamedPart, PrimitiveKind, TypeText};
+pub use type_text::{BaseType, NamedPart, PrimitiveKind, TypeText};

@@ -1,7 +1,7 @@
 // Types as they are written.
 ghost use Rattle.std.specs.Prelude.{◌≡◌, IfOk};
 
-use apt_base::{List, Name, NoMemory};
+use apt_base::{Around, List, Name, NoMemory, copy_around};
 use std::alloc::Global;
 
 /// A primitive type (JLS 4.2), or `void` as the result of a method (JLS 8.4.5) or in a class literal (JLS 15.8.2).
@@ -16,17 +16,6 @@ pub enum PrimitiveKind {
     Float,
     Double,
     Void,
-}
-
-/// What stands around a type: it is the item of an array, or the bound of a wildcard.
-#[derive(Clone, Copy, PartialEq, Eq)]
-pub enum Around {
-    /// `[]` (JLS 10.1). Brackets behind a declarator's or a method's name are here too.
-    Array,
-    /// `? extends` (JLS 4.5.1).
-    Extends,
-    /// `? super` (JLS 4.5.1).
-    Super,
 }
 
 /// One name of a class type and the type arguments behind it. `None` where no `<` stands there.
@@ -56,12 +45,6 @@ pub enum BaseType {
 pub struct TypeText {
     pub around: List<Around>,
     pub base: BaseType,
-}
-
-fn copy_around(alloc: Global, items: &List<Around>) -> Result<List<Around>, NoMemory>
-    ensures { IfOk result (λ list. list ≡ items.now) }
-{
-    Ok(List::from_vec(Vec::from_slice(alloc, items.as_slice())?))
 }
 
 /// Equal types.

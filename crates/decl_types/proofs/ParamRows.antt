@@ -1,7 +1,7 @@
 -- How parameters are gathered.
 use Rattle.std.proofs.Common.{◌≡◌, ℕ, ◌+◌, ◌≤◌, Bool, true, false, cond, List, [], ◌∷◌, ◌++◌, length, Option, Some, None, Result, Ok, Err, refl, sym, ap, ◌∙◌, arith, append_assoc}
 use Rattle.std.proofs.lemmas.List.{append-nil}
-use Rattle.decl_tree.specs.declared.type_text.Around.{Around}
+use Rattle.apt_base.specs.declared.around.Around.{Around}
 use Rattle.decl_tree.specs.declared.type_text.BaseType.{BaseType}
 use Rattle.decl_tree.specs.declared.annotation.AnnotationText.{AnnotationText}
 use Rattle.decl_grammar.specs.declared.written.ParamAt.{ParamAt}

@@ -1,7 +1,7 @@
 -- How parameters are read one by one: steps of what stands behind a type, and what a function that reads a parameter returns.
 use Rattle.std.specs.Prelude.{◌≡◌, ℕ, ◌<◌, Bool, true, false, List, [], ◌∷◌, ◌++◌, length, Option, None, Some, Result, Ok, Err}
-use Rattle.decl_tree.specs.declared.type_text.Around.{Around}
-use Rattle.decl_tree.specs.declared.type_text.Around.TheVariants as around
+use Rattle.apt_base.specs.declared.around.Around.{Around}
+use Rattle.apt_base.specs.declared.around.Around.TheVariants as around
 use Rattle.decl_tree.specs.declared.type_text.BaseType.{BaseType}
 use Rattle.decl_tree.specs.declared.annotation.AnnotationText.{AnnotationText}
 use Rattle.decl_grammar.specs.declared.written.ParamAt.{ParamAt}

@@ -4,7 +4,7 @@ use Rattle.std.proofs.Common.{◌≡◌, ℕ, arith, ◌<◌, Bool, true, false,
 use Rattle.std.proofs.lemmas.Bool.{eqb-true}
 use Rattle.decl_turns.specs.declared.states.Place.TheVariants as place
 use Rattle.decl_values.specs.declared.reached.End.{End}
-use Rattle.decl_tree.specs.declared.type_text.Around.{Around}
+use Rattle.apt_base.specs.declared.around.Around.{Around}
 use Rattle.decl_tree.specs.declared.annotation.ValueText.{ValueText}
 use Rattle.decl_grammar.specs.declared.symbol.Symbol.{Symbol}
 use Rattle.decl_grammar.specs.declared.fault.ReadFault.{ReadFault}

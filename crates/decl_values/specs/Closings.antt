@@ -1,6 +1,6 @@
 -- What is read where one symbol ends a value, and within the bound of a wildcard.
 use Rattle.std.specs.Prelude.{ℕ, List, [], ◌∷◌}
-use Rattle.decl_tree.specs.declared.type_text.Around.{Around}
+use Rattle.apt_base.specs.declared.around.Around.{Around}
 use Rattle.decl_tree.specs.declared.type_text.TypeText.{TypeText}
 use Rattle.decl_grammar.specs.declared.symbol.Symbol.{Symbol}
 use Rattle.decl_grammar.specs.Reading.{Outcome, one_at}

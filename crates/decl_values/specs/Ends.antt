@@ -5,7 +5,7 @@ use Rattle.decl_turns.specs.declared.states.Place.TheVariants as place
 use Rattle.decl_turns.specs.declared.states.Piece.{Piece}
 use Rattle.decl_values.specs.declared.reached.Row.{Row}
 use Rattle.decl_values.specs.declared.reached.End.{End}
-use Rattle.decl_tree.specs.declared.type_text.Around.{Around}
+use Rattle.apt_base.specs.declared.around.Around.{Around}
 use Rattle.decl_tree.specs.declared.type_text.TypeText.{TypeText}
 use Rattle.decl_tree.specs.declared.annotation.ValueText.{ValueText}
 use Rattle.decl_tree.specs.declared.annotation.ElementValuePair.{ElementValuePair}

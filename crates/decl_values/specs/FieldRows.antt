@@ -1,6 +1,6 @@
 -- The fields of one declaration, from what stands behind a name on.
 use Rattle.std.specs.Prelude.{ℕ, List, ◌∷◌}
-use Rattle.decl_tree.specs.declared.type_text.Around.{Around}
+use Rattle.apt_base.specs.declared.around.Around.{Around}
 use Rattle.decl_grammar.specs.declared.symbol.Symbol.{Symbol}
 use Rattle.decl_grammar.specs.declared.written.Declarator.{Declarator}
 use Rattle.decl_grammar.specs.declared.written.NameAt.{NameAt}

@@ -4,7 +4,7 @@ use Rattle.apt_base.specs.Fields.{◌>>=◌}
 use Rattle.apt_base.specs.Forms.{Reader, mapped}
 use Rattle.apt_base.specs.Readings.{Gives}
 use Rattle.apt_base.specs.declared.fault.FormFault.{FormFault}
-use Rattle.type_mirror.specs.declared.mirror.Around.{Around}
+use Rattle.apt_base.specs.declared.around.Around.{Around}
 use Rattle.type_mirror.specs.declared.mirror.BaseMirror.{BaseMirror}
 use Rattle.type_mirror.specs.declared.mirror.BaseMirror.TheOpen.{Mirror-F}
 use Rattle.type_mirror.specs.declared.mirror.Mirror.{Mirror, roll-Mirror, out-Mirror, out-roll-Mirror, roll-out-Mirror}

@@ -2,7 +2,7 @@
 use Rattle.std.specs.Prelude.{List, ℕ, zero, suc, [], ◌∷◌, Option, Some, None}
 use Rattle.apt_base.specs.Fields.{◌>>=◌, u8_next, u32_next, i64_next, bool_next, text_next}
 use Rattle.apt_base.specs.Forms.{Reader, none_next, ◌>>◌, mapped, numbered, opt_next, list_next}
-use Rattle.type_mirror.specs.declared.mirror.Around.{Around}
+use Rattle.apt_base.specs.declared.around.Around.{Around}
 use Rattle.type_mirror.specs.declared.mirror.Mirror.{Mirror}
 use Rattle.type_mirror.specs.declared.value.Value.{Value}
 use Rattle.type_mirror.specs.declared.value.Annotation.{Annotation}

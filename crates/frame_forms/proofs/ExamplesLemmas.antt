@@ -8,7 +8,7 @@ use Rattle.unicode_ident.specs.Ident.{is_xid_start, is_xid_continue}
 use Rattle.ucd_table.specs.Rows.{in_ranges}
 use Rattle.ucd_derived.specs.XidStartRanges.{xid_start_ranges}
 use Rattle.ucd_derived.specs.XidContinueRanges.{xid_continue_ranges}
-use Rattle.type_mirror.specs.declared.mirror.Around.TheVariants.{Array, Extends}
+use Rattle.apt_base.specs.declared.around.Around.TheVariants.{Array, Extends}
 use Rattle.type_mirror.specs.declared.mirror.PrimitiveKind.TheVariants.{Int}
 use Rattle.type_mirror.specs.declared.mirror.BaseMirror.TheVariants as base
 use Rattle.type_mirror.specs.Parts.{plain, wrapped}

@@ -4,8 +4,8 @@ use Rattle.std.specs.List.{slice_get}
 use Rattle.std.proofs.lemmas.Bool.{eqb-true}
 use Rattle.apt_base.specs.declared.kinds.Claim.TheVariants.{Always, Never, Varies}
 use Rattle.type_mirror.specs.declared.mirror.PrimitiveKind.TheVariants.{Boolean, Byte, Short, Int, Long, Char, Float, Double}
-use Rattle.type_mirror.specs.declared.mirror.Around.{Around}
-use Rattle.type_mirror.specs.declared.mirror.Around.TheVariants as around
+use Rattle.apt_base.specs.declared.around.Around.{Around}
+use Rattle.apt_base.specs.declared.around.Around.TheVariants as around
 use Rattle.type_mirror.specs.declared.mirror.BaseMirror.{BaseMirror, roll-BaseMirror, out-BaseMirror, roll-out-BaseMirror}
 use Rattle.type_mirror.specs.declared.mirror.BaseMirror.TheVariants as base
 use Rattle.type_mirror.specs.declared.mirror.BaseMirror.TheOpen.{BaseMirror-F, DeclaredMirror-F, ExecutableMirror-F}

@@ -2,7 +2,7 @@
 use Prim.Native.String.{String}
 use Rattle.std.specs.Prelude.{◌≡◌, ℕ, ◌+◌, ◌-◌, ◌*◌, nat_lt, if◌then◌else◌, true, false, List, [], ◌∷◌, ◌++◌, replicate, Option, Some, None, codes, pos}
 use Rattle.apt_base.specs.declared.kinds.Claim.TheVariants.{Always, Never}
-use Rattle.type_mirror.specs.declared.mirror.Around.TheVariants.{Array, Extends}
+use Rattle.apt_base.specs.declared.around.Around.TheVariants.{Array, Extends}
 use Rattle.type_mirror.specs.declared.mirror.PrimitiveKind.TheVariants.{Int}
 use Rattle.type_mirror.specs.declared.mirror.BaseMirror.TheVariants as base
 use Rattle.type_mirror.specs.declared.mirror.DeclaredMirror.{roll-DeclaredMirror}

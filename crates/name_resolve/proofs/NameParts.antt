@@ -4,7 +4,7 @@ use Rattle.std.proofs.lemmas.Bool.{eqb-true}
 use Rattle.apt_base.specs.Identifiers.{parts, HasNoDot}
 use Rattle.apt_base.proofs.Dotted.{parts-without, parts-split}
 use Rattle.decl_tree.specs.declared.type_text.PrimitiveKind.{PrimitiveKind}
-use Rattle.decl_tree.specs.declared.type_text.Around.{Around}
+use Rattle.apt_base.specs.declared.around.Around.{Around}
 use Rattle.decl_tree.specs.declared.type_text.BaseType.{BaseType, out-BaseType, out-roll-BaseType}
 use Rattle.decl_tree.specs.declared.type_text.BaseType.TheVariants as base
 use Rattle.decl_tree.specs.declared.type_text.BaseType.TheOpen.{BaseType-F}

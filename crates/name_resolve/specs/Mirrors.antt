@@ -6,8 +6,8 @@ use Rattle.std.specs.Str.{bytes_eq}
 use Rattle.apt_base.specs.declared.element.ElementRef.{ElementRef}
 use Rattle.decl_tree.specs.declared.type_text.PrimitiveKind.{PrimitiveKind}
 use Rattle.decl_tree.specs.declared.type_text.PrimitiveKind.TheVariants as primitive
-use Rattle.decl_tree.specs.declared.type_text.Around.{Around}
-use Rattle.decl_tree.specs.declared.type_text.Around.TheVariants as around
+use Rattle.apt_base.specs.declared.around.Around.{Around}
+use Rattle.apt_base.specs.declared.around.Around.TheVariants as around
 use Rattle.decl_tree.specs.declared.type_text.TypeText.{TypeText}
 use Rattle.decl_tree.specs.declared.type_text.BaseType.{BaseType}
 use Rattle.decl_tree.specs.declared.type_text.NamedPart.{NamedPart}
@@ -17,8 +17,6 @@ use Rattle.decl_tree.specs.declared.declaration.TypeDecl.{TypeDecl}
 use Rattle.element_table.specs.UnitNames.{unit_name}
 use Rattle.element_table.specs.TypeTable.{TypeTable}
 use Rattle.type_mirror.specs.declared.mirror.PrimitiveKind.TheVariants as kind
-use Rattle.type_mirror.specs.declared.mirror.Around.{Around as Wrapper}
-use Rattle.type_mirror.specs.declared.mirror.Around.TheVariants as wrapper
 use Rattle.type_mirror.specs.declared.mirror.Mirror.{Mirror}
 use Rattle.type_mirror.specs.declared.mirror.BaseMirror.{BaseMirror}
 use Rattle.type_mirror.specs.declared.mirror.BaseMirror.TheVariants as base
@@ -121,11 +119,6 @@ primitive_base primitive.Float = base.Primitive kind.Float
 primitive_base primitive.Double = base.Primitive kind.Double
 primitive_base primitive.Void = base.Void
 
-abbrev pub wrapper_of : Around → Wrapper
-wrapper_of around.Array = wrapper.Array
-wrapper_of around.Extends = wrapper.Extends
-wrapper_of around.Super = wrapper.Super
-
 abbrev pub base_step : Look → BaseType-F Meant MeantPart Meant → Meant
 base_step look (BaseType-F.Primitive kind) = record { mirror = plain (primitive_base kind); text = primitive_text kind }
 base_step look (BaseType-F.Named parts) = record { mirror = parts_mirror look parts; text = join_with_byte 46 (map (λ p. p.text) parts) }
@@ -139,7 +132,7 @@ part_step part = record {
 }
 
 abbrev pub type_step : TypeText-F Meant MeantPart Meant → Meant
-type_step text = record { mirror = wrapped (map wrapper_of text.around) text.base.mirror; text = text_around text.around text.base.text }
+type_step text = record { mirror = wrapped text.around text.base.mirror; text = text_around text.around text.base.text }
 
 unfoldable pub meant : Look → TypeText → Meant
 meant look = fold-TypeText Meant MeantPart Meant (base_step look) part_step type_step

@@ -1,7 +1,7 @@
 -- The direct supertypes that a declaration names or implies (JLS 8.1.4, 8.1.5, 8.9, 9.1.3, 9.6).
 use Rattle.std.specs.Prelude.{ℕ, Bool, ◌&&◌, List, [], ◌∷◌, ◌++◌, map, Option, None, Some, codes, if◌then◌else◌}
 use Rattle.std.specs.Str.{bytes_eq}
-use Rattle.decl_tree.specs.declared.type_text.Around.{Around}
+use Rattle.apt_base.specs.declared.around.Around.{Around}
 use Rattle.decl_tree.specs.declared.type_text.TypeText.{TypeText, out-TypeText}
 use Rattle.decl_tree.specs.declared.type_text.NamedPart.{NamedPart, out-NamedPart}
 use Rattle.decl_tree.specs.declared.type_text.BaseType.{BaseType, out-BaseType}

@@ -4,7 +4,7 @@ use Rattle.std.specs.List.{AllByRecursion, flat_map}
 use Rattle.std.specs.Option.{option_and_then}
 use Rattle.decl_tree.specs.declared.member.TypeParam.{TypeParam}
 use Rattle.decl_tree.specs.declared.member.Param.{Param}
-use Rattle.decl_tree.specs.declared.type_text.Around.{Around}
+use Rattle.apt_base.specs.declared.around.Around.{Around}
 use Rattle.decl_tree.specs.declared.type_text.TypeText.{TypeText, out-TypeText}
 use Rattle.decl_tree.specs.declared.type_text.BaseType.{BaseType, out-BaseType, roll-BaseType, roll-out-BaseType}
 use Rattle.decl_tree.specs.declared.type_text.BaseType.TheOpen.{BaseType-F}

@@ -3,33 +3,13 @@ ghost use Rattle.std.specs.Prelude.{◌≡◌, ◌↔◌, IsTrue};
 ghost use Rattle.type_layers.specs.Layers.{layer};
 ghost use Rattle.type_layers.specs.Same.{equal, is_wildcard, same};
 
-use apt_base::{Boxed, ElementRef, Name};
+use apt_base::{Boxed, ElementRef, Name, is_same_around};
 use type_mirror::{Around, BaseMirror, DeclaredMirror, ExecutableMirror, Mirror, PrimitiveKind};
 
 fn is_same_kind(one: &PrimitiveKind, other: &PrimitiveKind) -> bool
     ensures { IsTrue result ↔ one.now ≡ other.now }
 {
     *one == *other
-}
-
-fn is_same_form(one: &Around, other: &Around) -> bool
-    ensures { IsTrue result ↔ one.now ≡ other.now }
-{
-    *one == *other
-}
-
-fn are_same_forms(ones: &[Around], others: &[Around]) -> bool
-    ensures { IsTrue result ↔ ones.now ≡ others.now }
-{
-    if ones.len() != others.len() {
-        return false;
-    }
-    for at in 0..ones.len() {
-        if !is_same_form(&ones[at], &others[at]) {
-            return false;
-        }
-    }
-    true
 }
 
 fn is_same_name(one: &Name, other: &Name) -> bool
@@ -62,7 +42,7 @@ fn are_same_elements(ones: &[ElementRef], others: &[ElementRef]) -> bool
 fn equals(one: &Mirror, other: &Mirror) -> bool
     ensures { IsTrue result ↔ one.now ≡ other.now }
 {
-    are_same_forms(one.around.as_slice(), other.around.as_slice())
+    is_same_around(one.around.as_slice(), other.around.as_slice())
         && is_equal_base(&one.base, &other.base)
 }
 

@@ -1,7 +1,7 @@
 -- What mirrors are made of, and what they hold directly, from left to right.
 use Rattle.std.specs.Prelude.{List, [], ◌∷◌, ◌++◌}
 use Rattle.std.specs.Option.{option_to_list}
-use Rattle.type_mirror.specs.declared.mirror.Around.{Around}
+use Rattle.apt_base.specs.declared.around.Around.{Around}
 use Rattle.type_mirror.specs.declared.mirror.BaseMirror.{BaseMirror}
 use Rattle.type_mirror.specs.declared.mirror.BaseMirror.TheOpen.{BaseMirror-F, DeclaredMirror-F, ExecutableMirror-F}
 use Rattle.type_mirror.specs.declared.mirror.Mirror.{Mirror, roll-Mirror, out-Mirror}

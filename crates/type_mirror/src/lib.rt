@@ -10,7 +10,8 @@ mod nesting;
 mod substitution;
 mod value;
 
-pub use mirror::{Around, BaseMirror, DeclaredMirror, ExecutableMirror, Mirror, PrimitiveKind};
+pub use apt_base::Around;
+pub use mirror::{BaseMirror, DeclaredMirror, ExecutableMirror, Mirror, PrimitiveKind};
 pub use nesting::{annotation_depth, depth, value_depth};
 pub use substitution::{are_distinct, substitute};
 pub use value::{Annotation, NamedValue, Value, WholeKind};

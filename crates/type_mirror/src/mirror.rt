@@ -1,7 +1,7 @@
 // Types, and what else a type mirror stands for.
 ghost use Rattle.std.specs.Prelude.{◌≡◌, IfOk};
 
-use apt_base::{Boxed, ElementRef, List, Name, NoMemory};
+use apt_base::{Around, Boxed, ElementRef, List, Name, NoMemory, copy_around};
 use std::alloc::Global;
 
 /// A primitive type (JLS 4.2).
@@ -15,17 +15,6 @@ pub enum PrimitiveKind {
     Char,
     Float,
     Double,
-}
-
-/// What stands around a mirror: it is the item of an array, or the bound of a wildcard.
-#[derive(Clone, Copy, PartialEq, Eq)]
-pub enum Around {
-    /// An array of it (JLS 10.1), as `ArrayType` shows it.
-    Array,
-    /// `? extends` in front of it (JLS 4.5.1), as `WildcardType` shows it.
-    Extends,
-    /// `? super` in front of it (JLS 4.5.1), as `WildcardType` shows it.
-    Super,
 }
 
 /// What a `TypeMirror` of `javax.lang.model.type` stands for: a base, and what stands around it, from the outside in. So `? extends int[]` is `Extends`, `Array` around `int`.
@@ -88,12 +77,6 @@ pub struct ExecutableMirror {
     pub result: Boxed<Mirror>,
     /// The types that it throws (JLS 8.4.6).
     pub thrown: List<Mirror>,
-}
-
-fn copy_around(alloc: Global, around: &List<Around>) -> Result<List<Around>, NoMemory>
-    ensures { IfOk result (λ list. list ≡ around.now) }
-{
-    Ok(List::from_vec(Vec::from_slice(alloc, around.as_slice())?))
 }
 
 /// Equal elements.

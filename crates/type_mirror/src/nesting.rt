@@ -2,7 +2,7 @@
 ghost use Rattle.std.specs.Prelude.{◌≡◌, map, length};
 ghost use Rattle.type_mirror.specs.Nesting.{deepest, capped, nesting, base_nesting, declared_nestings, executable_nestings, value_nesting, named_nesting, annotation_nesting};
 
-use crate::mirror::{Around, BaseMirror, DeclaredMirror, ExecutableMirror, Mirror};
+use crate::mirror::{BaseMirror, DeclaredMirror, ExecutableMirror, Mirror};
 use crate::value::{Annotation, NamedValue, Value};
 use apt_base::List;
 

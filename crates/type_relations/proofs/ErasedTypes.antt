@@ -4,8 +4,8 @@ use Rattle.std.specs.Option.{option_map}
 use Rattle.apt_base.specs.declared.element.ElementRef.{ElementRef}
 use Rattle.element_table.specs.TypeTable.{TypeTable}
 use Rattle.type_mirror.specs.declared.mirror.PrimitiveKind.{PrimitiveKind}
-use Rattle.type_mirror.specs.declared.mirror.Around.{Around}
-use Rattle.type_mirror.specs.declared.mirror.Around.TheVariants as around
+use Rattle.apt_base.specs.declared.around.Around.{Around}
+use Rattle.apt_base.specs.declared.around.Around.TheVariants as around
 use Rattle.type_mirror.specs.declared.mirror.Mirror.{Mirror, out-Mirror}
 use Rattle.type_mirror.specs.declared.mirror.BaseMirror.TheVariants as base
 use Rattle.type_mirror.specs.declared.mirror.DeclaredMirror.{DeclaredMirror, out-DeclaredMirror}

@@ -13,7 +13,7 @@ use Rattle.element_table.specs.TypeTable.{TypeTable, part_of}
 use Rattle.element_table.specs.TableElements.{node_at}
 use Rattle.type_mirror.specs.declared.mirror.PrimitiveKind.{PrimitiveKind as Kind}
 use Rattle.type_mirror.specs.declared.mirror.PrimitiveKind.TheVariants as kind
-use Rattle.type_mirror.specs.declared.mirror.Around.{Around}
+use Rattle.apt_base.specs.declared.around.Around.{Around}
 use Rattle.type_mirror.specs.declared.mirror.Mirror.{Mirror, out-Mirror, out-roll-Mirror}
 use Rattle.type_mirror.specs.declared.mirror.BaseMirror.{BaseMirror, roll-BaseMirror, out-BaseMirror, out-roll-BaseMirror}
 use Rattle.type_mirror.specs.declared.mirror.BaseMirror.TheVariants as base
@@ -23,7 +23,7 @@ use Rattle.type_mirror.specs.Parts.{plain, wrapped}
 use Rattle.type_layers.proofs.LayerLaws.{MirrorLayer}
 use Rattle.name_resolve.specs.Finds.{Finds, One, Nothing, Several}
 use Rattle.name_resolve.specs.Meaning.{tops_of}
-use Rattle.name_resolve.specs.Mirrors.{Look, Meant, MeantPart, look_at, meant, base_meant, part_meant, primitive_base, wrapper_of, found_mirror, element_mirror, named_mirror, parts_mirror, or_none, type_meaning, ref_of}
+use Rattle.name_resolve.specs.Mirrors.{Look, Meant, MeantPart, look_at, meant, base_meant, part_meant, primitive_base, found_mirror, element_mirror, named_mirror, parts_mirror, or_none, type_meaning, ref_of}
 use Rattle.name_resolve.specs.Ways.{type_at}
 use Rattle.name_resolve.proofs.MirrorsLemmas.{base-rolls, text-rolls}
 use Rattle.type_resolve.specs.Scopes.{scope_in, or_stub}
@@ -104,7 +104,7 @@ module _ (look : Look) where
       let o = out-TypeText text in
       subst (λ (t : TypeText). IsSimple (meant look t).mirror) (roll-out-TypeText text)
       (subst IsSimple (sym (ap (λ (m : Meant). m.mirror) (text-rolls look o)))
-      (wrapped_simple (map wrapper_of o.around) (base_meant look o.base).mirror
+      (wrapped_simple o.around (base_meant look o.base).mirror
       (subst (λ (b : BaseType). IsSimple (base_meant look b).mirror) (roll-out-BaseType o.base) (base_simple (out-BaseType o.base)))))
 
 -- ---- bounds

@@ -3,7 +3,7 @@ use Rattle.std.specs.Prelude.{◌≡◌, ℕ, zero, suc, Bool, true, false, List
 use Rattle.std.specs.Option.{option_map}
 use Rattle.apt_base.specs.declared.element.ElementRef.{ElementRef}
 use Rattle.element_table.specs.TypeTable.{TypeTable}
-use Rattle.type_mirror.specs.declared.mirror.Around.{Around}
+use Rattle.apt_base.specs.declared.around.Around.{Around}
 use Rattle.type_mirror.specs.declared.mirror.Mirror.{Mirror, out-Mirror}
 use Rattle.type_mirror.specs.declared.mirror.BaseMirror.{BaseMirror, out-BaseMirror}
 use Rattle.type_mirror.specs.declared.mirror.BaseMirror.TheOpen.{BaseMirror-F}

@@ -17,7 +17,7 @@ use Rattle.type_mirror.specs.declared.mirror.BaseMirror.TheVariants as base
 use Rattle.type_mirror.specs.declared.mirror.Mirror.{Mirror}
 use Rattle.type_mirror.specs.Parts.{plain, wrapped}
 use Rattle.name_resolve.specs.Mirrors as means
-use Rattle.name_resolve.specs.Mirrors.{Meant, MeantPart, Look, meant, base_meant, part_meant, primitive_base, wrapper_of, parts_mirror, named_mirror, found_mirror, or_none}
+use Rattle.name_resolve.specs.Mirrors.{Meant, MeantPart, Look, meant, base_meant, part_meant, primitive_base, parts_mirror, named_mirror, found_mirror, or_none}
 use Rattle.name_resolve.specs.Supertypes.{part_name}
 use Rattle.name_resolve.proofs.MirrorsLemmas.{base-rolls, part-rolls, text-rolls}
 use Rattle.type_resolve.specs.MirrorParts.{whole_mirror, next_enclosing, fronts_text, class_from}
@@ -32,7 +32,7 @@ gives_as (Err e) value whole same h = tt
 module _ (look : Look) where
   -- ---- equations
 
-  pub type_mirror-is : (text : TypeText) → (meant look text).mirror ≡ wrapped (map wrapper_of (out-TypeText text).around) (base_meant look (out-TypeText text).base).mirror
+  pub type_mirror-is : (text : TypeText) → (meant look text).mirror ≡ wrapped (out-TypeText text).around (base_meant look (out-TypeText text).base).mirror
   type_mirror-is text =
       ap (λ (t : TypeText). (meant look t).mirror) (sym (roll-out-TypeText text)) ∙ ap (λ (m : Meant). m.mirror) (text-rolls look (out-TypeText text))
 

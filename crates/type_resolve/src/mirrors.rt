@@ -4,7 +4,7 @@ ghost use Rattle.type_mirror.specs.Parts.{plain};
 ghost use Rattle.type_mirror.specs.declared.mirror.BaseMirror.TheVariants.{Error};
 ghost use Rattle.name_resolve.specs.Finds.{One};
 ghost use Rattle.name_resolve.specs.Meaning.{meaning, qualifier_meaning};
-ghost use Rattle.name_resolve.specs.Mirrors.{found_mirror, class_mirror, primitive_base, wrapper_of, ref_of, or_none};
+ghost use Rattle.name_resolve.specs.Mirrors.{found_mirror, class_mirror, primitive_base, ref_of, or_none};
 ghost use Rattle.name_resolve.specs.Parts.{lent};
 ghost use Rattle.name_resolve.specs.Shown.{find_of, finds_of, Gives};
 ghost use Rattle.type_resolve.specs.MirrorParts.{IsScope, look_in, type_mirror_in, base_mirror_in, class_mirror_in, arguments_in, found_by, whole_in, enclosing_in};
@@ -13,10 +13,10 @@ use crate::annotations::reference;
 use crate::scopes::Scope;
 use crate::spelling::spelled;
 use apt_base::{Boxed, ElementRef, List, Name, NoMemory};
-use decl_tree::{Around, BaseType, NamedPart, PrimitiveKind, TypeText};
+use decl_tree::{BaseType, NamedPart, PrimitiveKind, TypeText};
 use name_resolve::{Finds, Found, Looks, type_at};
 use std::alloc::Global;
-use type_mirror::{Around as Wrapper, BaseMirror, DeclaredMirror, Mirror, PrimitiveKind as Kind};
+use type_mirror::{BaseMirror, DeclaredMirror, Mirror, PrimitiveKind as Kind};
 
 fn primitive_base(kind: PrimitiveKind) -> BaseMirror
     ensures { result ≡ primitive_base kind }
@@ -32,26 +32,6 @@ fn primitive_base(kind: PrimitiveKind) -> BaseMirror
         PrimitiveKind::Double => BaseMirror::Primitive(Kind::Double),
         PrimitiveKind::Void => BaseMirror::Void,
     }
-}
-
-fn wrapper(of: Around) -> Wrapper
-    ensures { result ≡ wrapper_of of }
-{
-    match of {
-        Around::Array => Wrapper::Array,
-        Around::Extends => Wrapper::Extends,
-        Around::Super => Wrapper::Super,
-    }
-}
-
-fn wrappers(alloc: Global, around: &[Around]) -> Result<List<Wrapper>, NoMemory>
-    ensures { IfOk result (λ list. list ≡ map wrapper_of around.now) }
-{
-    let mut list = List::new(alloc);
-    for each in around {
-        list.push(wrapper(*each))?;
-    }
-    Ok(list)
 }
 
 /// A class type of this element.
@@ -200,8 +180,7 @@ pub(crate) fn mirror(alloc: Global, scope: &Scope<'_>, text: &TypeText) -> Resul
     ensures { IfOk result (λ m. m ≡ type_mirror_in scope.now text.now) }
 {
     let base = base_type(alloc, scope, &text.base)?;
-    let around = wrappers(alloc, text.around.as_slice())?;
-    base.wrapped(alloc, &around)
+    base.wrapped(alloc, &text.around)
 }
 
 #[cycle(mirror)]

@@ -2,7 +2,8 @@
 ghost use Rattle.std.specs.Prelude.{◌≡◌, ◌↔◌, IsTrue};
 
 use crate::texts::is_same_name;
-use decl_tree::{Around, BaseType, NamedPart, PrimitiveKind, TypeText};
+use apt_base::is_same_around;
+use decl_tree::{BaseType, NamedPart, PrimitiveKind, TypeText};
 
 fn is_same_kind(one: &PrimitiveKind, other: &PrimitiveKind) -> bool
     ensures { IsTrue result ↔ one.now ≡ other.now }
@@ -10,32 +11,12 @@ fn is_same_kind(one: &PrimitiveKind, other: &PrimitiveKind) -> bool
     *one == *other
 }
 
-fn is_same_form(one: &Around, other: &Around) -> bool
-    ensures { IsTrue result ↔ one.now ≡ other.now }
-{
-    *one == *other
-}
-
-fn are_same_forms(ones: &[Around], others: &[Around]) -> bool
-    ensures { IsTrue result ↔ ones.now ≡ others.now }
-{
-    if ones.len() != others.len() {
-        return false;
-    }
-    for at in 0..ones.len() {
-        if !is_same_form(&ones[at], &others[at]) {
-            return false;
-        }
-    }
-    true
-}
-
 /// The same type, letter by letter: nothing is resolved.
 #[cycle(types)]
 pub(crate) fn is_same_type(one: &TypeText, other: &TypeText) -> bool
     ensures { IsTrue result ↔ one.now ≡ other.now }
 {
-    are_same_forms(one.around.as_slice(), other.around.as_slice())
+    is_same_around(one.around.as_slice(), other.around.as_slice())
         && is_same_base(&one.base, &other.base)
 }
 

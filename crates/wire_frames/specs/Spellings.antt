@@ -4,8 +4,8 @@ use Rattle.std.specs.List.{flat_map}
 use Rattle.std.specs.Int.{w16, w32, to_be_bytes}
 use Rattle.apt_base.specs.Fields.{bytes_form}
 use Rattle.apt_base.specs.declared.element.ElementRef.{ElementRef}
-use Rattle.type_mirror.specs.declared.mirror.Around.{Around}
-use Rattle.type_mirror.specs.declared.mirror.Around.TheVariants as around
+use Rattle.apt_base.specs.declared.around.Around.{Around}
+use Rattle.apt_base.specs.declared.around.Around.TheVariants as around
 use Rattle.type_mirror.specs.declared.mirror.BaseMirror.{BaseMirror}
 use Rattle.type_mirror.specs.declared.mirror.Mirror.{Mirror}
 use Rattle.type_mirror.specs.declared.mirror.DeclaredMirror.{DeclaredMirror, out-DeclaredMirror}

@@ -2,7 +2,7 @@ use Rattle.std.proofs.Common.{arith}
 use Rattle.std.proofs.lemmas.Result.{err_from_is_err_and}
 use Rattle.apt_base.specs.Forms.{items_next}
 use Rattle.apt_base.proofs.Counted.{goes_on, list_ends, list_is_done}
-use Rattle.type_mirror.specs.declared.mirror.Around.TheVariants.{Array}
+use Rattle.apt_base.specs.declared.around.Around.TheVariants.{Array}
 use Rattle.frame_decoder.specs.PartReadings.{mirror_next}
 use Rattle.frame_decoder.proofs.Wrapping.{around_none, gives_room, gives_none, gives_more, gives_bound}
 use Rattle.frame_decoder.proofs.mirror_reading.+read_mirror.Goals as goal

@@ -1,7 +1,7 @@
 use Rattle.std.proofs.Common.{◌≡◌, ℕ, ◌-◌, min, List, ◌++◌, length, take, sym, ap, ◌∙◌, arith}
 use Rattle.std.specs.List.{flat_map}
 use Rattle.std.specs.Int.{w32, to_be_bytes}
-use Rattle.type_mirror.specs.declared.mirror.Around.{Around}
+use Rattle.apt_base.specs.declared.around.Around.{Around}
 use Rattle.type_mirror.specs.declared.mirror.Mirror.{out-Mirror}
 use Rattle.wire_frames.specs.Outputs.{added}
 use Rattle.wire_frames.specs.Spellings.{around_spelled, mirror_spelled, base_spelled}
