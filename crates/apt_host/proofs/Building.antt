@@ -8,6 +8,7 @@ use Rattle.apt_outside.specs.Count.{Told}
 use Rattle.apt_outside.specs.Files.{Files, file_at}
 use Rattle.apt_outside.specs.Child.{Says, Try, State}
 use Rattle.tree_store.specs.declared.fault.StoreFault.{StoreFault}
+use Rattle.tree_store.specs.declared.record.StoredFile.{StoredFile}
 use Rattle.tree_store.specs.declared.fault.StoreFault.TheVariants as store
 use Rattle.apt_base.specs.Fields.{is_text}
 use Rattle.tree_store.specs.RecordFormat.{record_form, IsEntry}
@@ -31,12 +32,12 @@ use Rattle.apt_host.specs.Project.{Read, read_of}
 use Rattle.apt_host.specs.CleanBuild.{Summary, summary, Outcome, outcome_of, outcome_of_run, clean}
 use Rattle.apt_host.specs.CleanBuild as outcome
 use Rattle.apt_host.specs.Report.{report_of, errors_report, report_text}
-use Rattle.apt_host.specs.Verdicts.{Verdict, Done, Errors, Refused, Failed, Memory, is_free, is_finished, is_tree, is_children, fails, OrFree, verdict, verdict_of}
+use Rattle.apt_host.specs.Verdicts.{Verdict, Done, Errors, Refused, Failed, Memory, is_free, is_finished, is_children, OrFree, verdict, verdict_of}
 use Rattle.apt_host.specs.Listed.{listed, entry_of, numbered_of, file_of, Gains, GainsFirst, Places, FitsEntry}
 use Rattle.apt_host.specs.Endings.{of_store, EndsEarly}
 use Rattle.apt_host.specs.Entering.{RefusesAs}
 use Rattle.apt_host.specs.Making.{finished_summary, concluded, concluding_report, outcome_with, Makes}
-use Rattle.apt_host.specs.Promises.{TalkedOf, ToldOf, Answers, Stores, Publishes, PublishesOutcome, PublishesClean, Leaves, LeavesUndone, StoresOutcome, StoresFirst, IsFront, CountsStarts, Reports, Adds, ShowsBy, ShowsOver}
+use Rattle.apt_host.specs.Promises.{TalkedOf, ToldOf, Answers, Stores, Publishes, PublishesOutcome, PublishesClean, Leaves, LeavesUndone, StoresBuilt, StoresOutcome, StoresFirst, IsFront, CountsStarts, Reports, Adds, ShowsBy, ShowsOver}
 use Rattle.apt_host.proofs.MakingLemmas.{talked_then}
 use Rattle.apt_host.proofs.Writing.{talked, front_more}
 use Rattle.apt_host.proofs.Leaving.{stands_by}
@@ -62,6 +63,14 @@ either_way (Errors count) A done other = other (λ e. cc)
 either_way (Refused refusal) A done other = other (λ e. cc)
 either_way (Failed object) A done other = other (λ e. cc)
 either_way Memory A done other = other (λ e. cc)
+
+-- the store files of a build
+stores_built : (files : Files) (v : Verdict) (old new : Files) → (v ≡ Done → Publishes files old new) → (v ≢ Done → (entries : List StoredFile) × Stores files entries old new) → StoresBuilt files v old new
+stores_built files Done old new done other = done refl
+stores_built files (Errors count) old new done other = other (λ e. cc)
+stores_built files (Refused refusal) old new done other = other (λ e. cc)
+stores_built files (Failed object) old new done other = other (λ e. cc)
+stores_built files Memory old new done other = other (λ e. cc)
 
 -- what is known of a file that was made is what an entry needs
 entries_fit : (made : List Made) → All (λ (file : Made). is_text file.path ≡ true) made → All FitsEntry made → All IsEntry (map entry_of made)
@@ -153,6 +162,13 @@ module _ (taken : List ℕ) (finished : Finished) (numbered : AreNumbered taken 
 -- the report of a build in which no error was printed
 pub report_is : (processors : List (List ℕ)) (finished : Finished) → finished.errors ≡ 0 → report_of (finished_summary processors finished) (map listed (map entry_of finished.files)) ≡ concluding_report processors finished
 report_is processors finished none = sym (ap (λ n. cond (n == 0) (report_of (finished_summary processors finished) (map listed (map entry_of finished.files))) (errors_report (finished_summary processors finished))) none)
+
+-- a number of errors, by the test for none
+is_zero : (n : ℕ) → (n == 0) ≡ true → n ≡ 0
+is_zero n is = grind arith
+
+not_zero : (n : ℕ) → (n == 0) ≡ false → n ≢ 0
+not_zero n is = grind arith
 
 -- one that ended with a report was neither at fault nor out of memory
 ended_unfree : (v : Verdict) → is_finished v ≡ true → is_free v ≡ false
@@ -339,25 +355,36 @@ module _ (tells talks : Bool) (options : Options) (project : Files) (read : Read
           (made_of talks processors MadeHere makes said).fronts
 
       module _ (old new : Files) (are : Told tells (AreTaken old taken)) (same : Told tells (old ≡ project)) where
-        published_here : tells ≡ true → (v ≡ Done → Places (map numbered_of finished.files) (record_form (map entry_of finished.files)) old new) → v ≡ Done → PublishesOutcome outcome_here old new
+        abbrev PlacesHere : Type 0
+        PlacesHere = Places (map numbered_of finished.files) (record_form (map entry_of finished.files)) old new
+
+        published_here : tells ≡ true → (v ≡ Done → PlacesHere) → v ≡ Done → PublishesOutcome outcome_here old new
         published_here told placed done = either
             (λ none. subst (λ o. PublishesOutcome o old new) (sym (no_errors none)) (publishes taken finished numbered numbered.published numbered.entries old (are told) new (placed done)).0)
             (λ some. absurd (let e : Done ≡ Errors finished.errors = sym done ∙ answer (ap is_free done) ∙ ap (λ b. cond b Done (Errors finished.errors)) some in cc))
 
         -- what a finished build published is the clean build's
-        pub publishes_finished : Told tells (v ≡ Done → Places (map numbered_of finished.files) (record_form (map entry_of finished.files)) old new) → PublishesClean tells talks (Build options) before.says project new v
+        pub publishes_finished : Told tells (v ≡ Done → PlacesHere) → PublishesClean tells talks (Build options) before.says project new v
         publishes_finished placed = λ told. talked_over talks whole read MadeHere _ (is told) makes
             (λ m done. subst (λ o. PublishesOutcome o project new) (outcome_is_here told m) (subst (λ t. PublishesOutcome outcome_here t new) (same told) (published_here told (placed told) done)))
 
-        stores_here : (text : List ℕ) → tells ≡ true → (fails is_tree v ≡ true → finished.errors ≡ 0) → GainsFirst v text (map numbered_of finished.files) old new → StoresFirst outcome_here v text project new
-        stores_here text told none gains is some = subst (λ o. StoresOutcome o project new) (sym (no_errors (ap (λ n. n == 0) (none (ap (fails is_tree) is)))))
-            (map entry_of finished.files, subst (λ t. Stores numbered.published (map entry_of finished.files) t new) (same told) (stores taken finished numbered numbered.published numbered.entries old (are told) new (gains is some)))
+        -- the files of a run without errors
+        stores_files : tells ≡ true → (v ≡ Done → PlacesHere) → (v ≢ Done → Gains (map numbered_of finished.files) old new) → StoresBuilt numbered.published v old new
+        stores_files told placed gains = stores_built numbered.published v old new
+            (λ done. (publishes taken finished numbered numbered.published numbered.entries old (are told) new (placed done)).0)
+            (λ ne. (map entry_of finished.files, stores taken finished numbered numbered.published numbered.entries old (are told) new (gains ne)))
+
+        stores_here : (text : List ℕ) → tells ≡ true → (v ≡ Done → PlacesHere) → (finished.errors ≢ 0 → new ≡ old) → (finished.errors ≡ 0 → GainsFirst v text (map numbered_of finished.files) old new)
+            → StoresFirst outcome_here v text project new
+        stores_here text told placed unstored gains some = subst (λ t. StoresOutcome outcome_here v t new) (same told) (either
+            (λ none. subst (λ o. StoresOutcome o v old new) (sym (no_errors none)) (stores_files told placed (λ ne. gains (is_zero finished.errors none) ne some)))
+            (λ errors. subst (λ o. StoresOutcome o v old new) (sym (some_errors errors)) (unstored (not_zero finished.errors errors))))
 
         -- what was written is the report of the outcome
-        pub reports_finished : (rose : Type 0) (written written' : List ℕ) → after.starts ≡ before.starts + finished.started → (fails is_tree v ≡ true → finished.errors ≡ 0)
-            → Adds (λ text. IsFront ⊥ (concluding_report names_here finished) v text × Told tells (GainsFirst v text (map numbered_of finished.files) old new)) written written'
+        pub reports_finished : (rose : Type 0) (written written' : List ℕ) → after.starts ≡ before.starts + finished.started → Told tells (v ≡ Done → PlacesHere) → Told tells (finished.errors ≢ 0 → new ≡ old)
+            → Adds (λ text. IsFront ⊥ (concluding_report names_here finished) v text × Told tells (finished.errors ≡ 0 → GainsFirst v text (map numbered_of finished.files) old new)) written written'
             → Adds (Reports tells talks (Build options) project new before after v rose) written written'
-        reports_finished rose written written' starts none (text, (front, gains), added) = (
+        reports_finished rose written written' starts placed unstored (text, (front, gains), added) = (
           text,
           record {
             outcome = outcome_here;
@@ -365,7 +392,7 @@ module _ (tells talks : Bool) (options : Options) (project : Files) (read : Read
             is_front = subst (λ r. IsFront rose r v text) (sym report_here) (front_more ⊥ rose _ v text (λ never. absurd never) front);
             ended = λ done. answer (ended_unfree v done) ∙ verdict_here;
             counted = λ some. counts_here starts;
-            stores = λ told. stores_here text told none (gains told);
+            stores = λ told. stores_here text told (placed told) (unstored told) (gains told);
           },
           added,
         )

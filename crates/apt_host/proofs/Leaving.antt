@@ -9,7 +9,7 @@ use Rattle.apt_host.specs.Words.{Request, Build, Bad}
 use Rattle.apt_host.specs.Verdicts.{Verdict, Done, Errors, Refused, Failed, Memory, OrMemory}
 use Rattle.apt_host.specs.Project.{Read, read_of}
 use Rattle.apt_host.specs.Promises.{Leaves, KeepsOutput, Finishes, ShowsOver, ShowsRun}
-use Rattle.apt_host.proofs.Writing.{memory_or_not}
+use Rattle.apt_host.proofs.Writing.{memory_or_not, not_done}
 
 -- ---- the tree
 
@@ -41,10 +41,6 @@ leaves_keep v old new leaves = λ undone stand. (leaves_memory v old new undone 
 -- and each store file that the record names
 pub stands_by : (v : Verdict) (old new : Files) → v ≢ Done → Leaves v old new → StoresStand old → StoresStand new
 stands_by v old new ne leaves stand = (leaves_memory v old new ne leaves).stand stand
-
--- a build that is done stays so
-pub not_done : (before after : Verdict) → Finishes before after → after ≡ Memory → before ≢ Done
-not_done before after finishes memory done = let e : Memory ≡ Done = sym memory ∙ (finishes.done (ap Rattle.apt_host.specs.Verdicts.is_finished done) ∙ done) in cc
 
 -- a refusal leaves the same
 pub leaves_finish : (v w : Verdict) (old new : Files) → Finishes v w → Leaves v old new → Leaves w old new

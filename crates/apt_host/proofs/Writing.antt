@@ -14,7 +14,7 @@ use Rattle.apt_host.specs.Project.{Read, read_of}
 use Rattle.apt_host.specs.CleanBuild.{Summary, Outcome, clean}
 use Rattle.apt_host.specs.CleanBuild as outcome
 use Rattle.apt_host.specs.Verdicts.{Verdict, Done, Errors, Refused, Failed, Memory, is_finished, is_sink, fails, verdict_of}
-use Rattle.apt_host.specs.Promises.{TalkedOf, IsFront, IsLine, IsOutcome, Reports, Adds, Writes, Finishes}
+use Rattle.apt_host.specs.Promises.{TalkedOf, IsFront, IsLine, IsOutcome, StoresBuilt, StoresOutcome, Reports, Adds, Writes, Finishes}
 
 -- a status is want of memory, or it is not
 pub memory_or_not : (v : Verdict) (A : Type 0) → (v ≡ Memory → A) → (v ≢ Memory → A) → A
@@ -50,11 +50,6 @@ pub some_written : (report old new : List ℕ) (fault : Fault) → report ≢ []
 some_written report old new outside.Failed some appends = (take appends.some.0 report, (some, (appends.some.0, refl)), appends.some.1)
 some_written report old new outside.Memory some appends = ([], inl refl, appends.memory refl ∙ sym (append-nil old))
 
--- the tree is not at fault then
-pub sink_alone : (fault : Fault) → sink_verdict fault ≢ Failed Tree
-sink_alone outside.Failed e = cc
-sink_alone outside.Memory e = cc
-
 front_memory : (rose : Type 0) (report : List ℕ) (v : Verdict) (text : List ℕ) → (fails is_sink v ≡ true → rose) → IsFront rose report v text → IsFront rose report Memory text
 front_memory rose report Done text why f = inr (inl f)
 front_memory rose report (Errors count) text why f = inr (inl f)
@@ -85,12 +80,31 @@ line_more v r s line more (inl all) = inl all
 line_more v r s line more (inr (inl memory)) = inr (inl memory)
 line_more v r s line more (inr (inr cut)) = inr (inr (more cut.0, cut.1))
 
+-- what a build that is not done has in the store stands there also where the line wants memory
+built_memory : (files : Files) (v : Verdict) (old new : Files) → v ≢ Done → StoresBuilt files v old new → StoresBuilt files Memory old new
+built_memory files Done old new ne stores = absurd (ne refl)
+built_memory files (Errors count) old new ne stores = stores
+built_memory files (Refused refusal) old new ne stores = stores
+built_memory files (Failed object) old new ne stores = stores
+built_memory files Memory old new ne stores = stores
+
+stores_memory : (o : Outcome) (v : Verdict) (old new : Files) → v ≢ Done → StoresOutcome o v old new → StoresOutcome o Memory old new
+stores_memory (outcome.Built files summary) v old new ne stores = built_memory files v old new ne stores
+stores_memory (outcome.Errors summary) v old new ne stores = stores
+stores_memory (outcome.Refused refusal) v old new ne stores = stores
+
+-- a build that is done stays so
+pub not_done : (before after : Verdict) → Finishes before after → after ≡ Memory → before ≢ Done
+not_done before after finishes memory done = let e : Memory ≡ Done = sym memory ∙ (finishes.done (ap is_finished done) ∙ done) in cc
+
+stores_finish : (o : Outcome) (v w : Verdict) (old new : Files) → Finishes v w → StoresOutcome o v old new → StoresOutcome o w old new
+stores_finish o v w old new finishes stores = memory_or_not w (StoresOutcome o w old new)
+    (λ memory. subst (λ u. StoresOutcome o u old new) (sym memory) (stores_memory o v old new (not_done v w finishes memory) stores))
+    (λ ne. subst (λ u. StoresOutcome o u old new) (sym (finishes.same ne)) stores)
+
 module _ (tells talks : Bool) (request : Request) (project project' : Files) (before after : State) where
   abbrev Written : Verdict → Type 0 → List ℕ → Type 0
   Written v rose text = Reports tells talks request project project' before after v rose text
-
-  still_tree : (v w : Verdict) → (w ≢ Memory → w ≡ v) → w ≡ Failed Tree → v ≡ Failed Tree
-  still_tree v w same is = sym (same (λ memory. let e : Memory ≡ Failed Tree = sym memory ∙ is in cc)) ∙ is
 
   -- its answer is that of its outcome
   ended_after : (v w : Verdict) (o : Outcome) → (w ≢ Memory → w ≡ v) → (is_finished v ≡ true → v ≡ verdict_of o) → is_finished w ≡ true → w ≡ verdict_of o
@@ -105,7 +119,7 @@ module _ (tells talks : Bool) (request : Request) (project project' : Files) (be
     is_front = front_after s _ v w text why fin.same (front_more r s _ v text more reports.is_front);
     ended = ended_after v w reports.outcome fin.same reports.ended;
     counted = reports.counted;
-    stores = λ told is some. reports.stores told (still_tree v w fin.same is) some;
+    stores = λ told some. stores_finish reports.outcome v w project project' fin (reports.stores told some);
   }
 
   pub written_all : (v w : Verdict) (r1 r2 s : Type 0) (old mid new : List ℕ) → Finishes v w → (r1 → s) → (r2 → s) → (fails is_sink v ≡ true → s)
@@ -137,7 +151,7 @@ module _ (tells talks : Bool) (request : Request) (project project' : Files) (be
       is_front = nothing_yet rose _ v unfinished other;
       ended = λ done. absurd (false≢true (sym unfinished ∙ done));
       counted = λ some. absurd (some refl);
-      stores = λ told is some. absurd (some refl);
+      stores = λ told some. absurd (some refl);
     },
     sym (append-nil old),
   )

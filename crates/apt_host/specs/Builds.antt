@@ -105,7 +105,7 @@ AddsFirst t w written tree tree' old new result =
 -- what stands of the report of a finished run
 abbrev pub Tells : {T W : Type 0} → tree.Ghosts T → sink.Ghosts W → List (List ℕ) → Finished → T → T → W → W → Result Ending Status → Type 0
 Tells t w names finished tree tree' old new result =
-    Told w.tells (promise.Adds (promise.StandsFirst t.tells (concluding_report names finished) (map numbered_of finished.files) (closed result) (t.files tree) (t.files tree')) (w.written old) (w.written new))
+    Told w.tells (promise.Adds (promise.StandsMade t.tells finished.errors (concluding_report names finished) (map numbered_of finished.files) (closed result) (t.files tree) (t.files tree')) (w.written old) (w.written new))
 
 -- what stands of the report of a build
 abbrev pub IsReport : {T C W : Type 0} → tree.Ghosts T → children.Ghosts C → sink.Ghosts W → Options → T → T → C → C → W → W → Result Ending Status → List ℕ → Type 0

@@ -8,8 +8,7 @@ use Rattle.tree_store.specs.Output.{record_path}
 use Rattle.tree_store.specs.Storing.{Numbered, AreWritten, ChangesAmong, paths_of}
 use Rattle.apt_host.specs.declared.report.Summary as code
 use Rattle.apt_host.specs.CleanBuild.{Summary}
-use Rattle.project_units.specs.Refusals.{Tree}
-use Rattle.apt_host.specs.Verdicts.{Verdict, Failed}
+use Rattle.apt_host.specs.Verdicts.{Verdict, Done}
 use Rattle.apt_host.specs.Report.{report_of}
 use Rattle.round_engine.specs.declared.numbering.Made.{Made}
 
@@ -72,6 +71,6 @@ pub record Places (stored : Numbered) (bytes : List ℕ) (old new : Files) : Typ
   pub gains : Gains stored old mid
   pub committed : new ≡ fin.insert mid record_path bytes
 
--- where the tree failed after a text was written, the store had gained the files
+-- wherever anything of a text stands, the store had gained the files, whatever the verdict; where it is done, the record was put in place too, as `Places` says
 abbrev pub GainsFirst : Verdict → List ℕ → Numbered → Files → Files → Type 0
-GainsFirst v text stored old new = v ≡ Failed Tree → text ≢ [] → Gains stored old new
+GainsFirst v text stored old new = v ≢ Done → text ≢ [] → Gains stored old new

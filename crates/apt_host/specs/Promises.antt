@@ -125,9 +125,13 @@ IsFront rose report (Refused refusal) text = text ≡ []
 IsFront rose report (Failed object) text = IsFrontAt object report text
 IsFront rose report Memory text = (text ≡ []) ⊎ (text ≡ report) ⊎ (rose × ((n : ℕ) × (text ≡ take n report)))
 
--- what stands of a report; where the tree failed behind it, the store had gained the files
+-- what stands of a report; before anything of it, the store had gained the files
 abbrev pub StandsFirst : Bool → List ℕ → Numbered → Verdict → Files → Files → List ℕ → Type 0
 StandsFirst tells report stored v old new text = IsFront ⊥ report v text × Told tells (GainsFirst v text stored old new)
+
+-- the same of the report of a run in which this many errors were printed: it is published where there are none
+abbrev pub StandsMade : Bool → ℕ → List ℕ → Numbered → Verdict → Files → Files → List ℕ → Type 0
+StandsMade tells errors report stored v old new text = IsFront ⊥ report v text × Told tells (errors ≡ 0 → GainsFirst v text stored old new)
 
 -- the line of a refusal; a part of it only where the sink's count rose, and none where memory was wanted for it
 abbrev pub IsLine : Verdict → Type 0 → List ℕ → Type 0
@@ -138,15 +142,20 @@ abbrev pub IsOutcome : Bool → Bool → Request → Says → Files → Outcome 
 IsOutcome tells talks (Build options) says project o = ToldOf tells talks options project (o ≡ clean says options project)
 IsOutcome tells talks (Bad at) says project o = o ≡ outcome.Refused (BadWords at)
 
--- the store files of an outcome stand
-abbrev pub StoresOutcome : Outcome → Files → Files → Type 0
-StoresOutcome (outcome.Built files summary) old new = (entries : List StoredFile) × Stores files entries old new
-StoresOutcome (outcome.Errors summary) old new = ⊥
-StoresOutcome (outcome.Refused refusal) old new = ⊥
+-- the store files of a build stand and nothing else changed, or it is done and the record that names them was put in place behind them
+abbrev pub StoresBuilt : Files → Verdict → Files → Files → Type 0
+StoresBuilt files Done old new = Publishes files old new
+StoresBuilt files other old new = (entries : List StoredFile) × Stores files entries old new
 
--- where the tree failed after the report was written, the store files of the build stand
+-- the store files of an outcome stand; beside errors there are none, and a refusal has no report
+abbrev pub StoresOutcome : Outcome → Verdict → Files → Files → Type 0
+StoresOutcome (outcome.Built files summary) v old new = StoresBuilt files v old new
+StoresOutcome (outcome.Errors summary) v old new = new ≡ old
+StoresOutcome (outcome.Refused refusal) v old new = ⊥
+
+-- wherever anything of the report of an outcome stands, its store files stand, whatever the answer
 abbrev pub StoresFirst : Outcome → Verdict → List ℕ → Files → Files → Type 0
-StoresFirst o v text old new = v ≡ Failed Tree → text ≢ [] → StoresOutcome o old new
+StoresFirst o v text old new = text ≢ [] → StoresOutcome o v old new
 
 -- the number in the mode line of an outcome's report is that by which the starts rose
 abbrev pub CountsStarts : Outcome → State → State → Type 0
@@ -163,6 +172,7 @@ pub record Reports (tells talks : Bool) (request : Request) (project project' : 
   pub ended : is_finished v ≡ true → v ≡ verdict_of outcome
   -- wherever anything of the report stands, its mode line is of the children that were started
   pub counted : text ≢ [] → CountsStarts outcome old new
+  -- wherever anything of it stands, the store files stand before it, whatever the answer
   pub stores : Told tells (StoresFirst outcome v text project project')
 
 -- the text was added

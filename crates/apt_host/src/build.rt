@@ -1,5 +1,5 @@
 // One build.
-ghost use Rattle.std.specs.Prelude.{◌≡◌, ◌<◌, ◌≤◌, ◌^◌, All, IfOk, IfErr, length, map, true};
+ghost use Rattle.std.specs.Prelude.{◌≡◌, ◌≢◌, ◌<◌, ◌≤◌, ◌^◌, All, IfOk, IfErr, length, map, true};
 ghost use Rattle.std.specs.List.Sorted.{IsStrictlyIncreasing};
 ghost use Rattle.apt_outside.specs.Count.{Told};
 ghost use Rattle.project_units.specs.Plans.{names_in};
@@ -7,7 +7,7 @@ ghost use Rattle.round_engine.specs.Clean.{AreNumbered};
 ghost use Rattle.tree_store.specs.Output.{StoresStand, SameOutside};
 ghost use Rattle.apt_base.specs.Fields.{is_text};
 ghost use Rattle.tree_store.specs.Storing.{AreDistinct, AreAbsent};
-ghost use Rattle.apt_host.specs.Verdicts.{verdict, OrFree, is_tree, is_sink, is_children, fails, HasCause};
+ghost use Rattle.apt_host.specs.Verdicts.{verdict, OrFree, is_tree, is_sink, is_children, HasCause};
 ghost use Rattle.apt_host.specs.Endings.{ended, closed, EndsEarly, IsConcluded};
 ghost use Rattle.apt_host.specs.Making.{concluded, RefusesRun};
 ghost use Rattle.apt_host.specs.Listed.{numbered_of, FitsEntry};
@@ -91,7 +91,7 @@ fn conclude<T: Tree, W: Sink>(
     ensures sink_cause { HasCause is_sink (closed result) (W.faults output.old) (W.faults output.new) }
     ensures concluded { IsConcluded (closed result) }
     ensures answer { OrFree (concluded finished) (closed result) }
-    ensures tree_fails { fails is_tree (closed result) ≡ true → finished.errors ≡ 0 }
+    ensures unstored { Told T.tells (finished.errors ≢ 0 → T.files tree.new ≡ T.files tree.old) }
     ensures placed { PlacesMade T.Tree finished tree.old tree.new result }
     ensures leaves { Told T.tells (LeavesUndone (closed result) (T.files tree.old) (T.files tree.new)) }
     ensures outside { Told T.tells (SameOutside (T.files tree.old) (T.files tree.new)) }

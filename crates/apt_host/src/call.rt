@@ -138,6 +138,7 @@ pub fn run<T: Tree, C: Children, R: Source, W: Sink>(
     ensures shown { Shows T.Tree C.Children words.now tree.old children.old children.new result }
 
     // What is written is the clean build's report, or ends in the refusal's line. A report begins with the number of starts.
+    // Wherever anything of it stands, the store files of the build stand, whatever the answer.
     ensures written { Writes T.Tree C.Children W.Sink words.now
         tree.old tree.new children.old children.new output.old output.new result }
 {

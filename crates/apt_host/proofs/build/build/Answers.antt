@@ -89,7 +89,7 @@ returns-clause-written g c = λ told.
     let C = g.C.Children in
     let W = g.W.Sink in
     let adds = subst (λ names. Adds (λ text. IsFront ⊥ (concluding_report names c.in_ok-finished.finished) (closed c.conclude.result) text
-    × Told T.tells (GainsFirst (closed c.conclude.result) text (map numbered_of c.in_ok-finished.finished.files) (T.files c.taken_numbers.new.tree) (T.files c.conclude.new.tree))) (W.written c.args.output.now) (W.written c.conclude.new.output))
+    × Told T.tells (c.in_ok-finished.finished.errors ≡ 0 → GainsFirst (closed c.conclude.result) text (map numbered_of c.in_ok-finished.finished.files) (T.files c.taken_numbers.new.tree) (T.files c.conclude.new.tree))) (W.written c.args.output.now) (W.written c.conclude.new.output))
     (c.in_ok-names.ensures ∙ names_are c.in_ok-project.project.key.processors) (c.conclude.ensures.written told) in
     let before = C.state c.args.children.now in
     let starts = c.in_ok-finished.ensures.uses.finished refl ∙ ap (λ n. before.starts + n) (count_tries c.in_ok-project.project.key ∙ sym c.in_ok-finished.ensures.started) in
@@ -98,7 +98,7 @@ returns-clause-written g c = λ told.
     (T.files c.taken_numbers.new.tree) (T.files c.conclude.new.tree)
     (λ t. subst (λ tree. AreTaken tree c.in_ok-taken.taken) (sym (c.in_ok-taken.ensures.same t)) (c.in_ok-taken.ensures.taken t))
     (λ t. c.in_ok-taken.ensures.same t ∙ c.in_ok-project.ensures.same t)
-    (Rose (W.faults c.args.output.now) (W.faults c.conclude.new.output)) (W.written c.args.output.now) (W.written c.conclude.new.output) starts c.conclude.ensures.tree_fails adds
+    (Rose (W.faults c.args.output.now) (W.faults c.conclude.new.output)) (W.written c.args.output.now) (W.written c.conclude.new.output) starts c.conclude.ensures.placed c.conclude.ensures.unstored adds
 
 -- ---- what is done with children
 

@@ -34,7 +34,7 @@ returns-in_err-publish-clause-written g c = λ told.
       front.0,
       (
         subst (λ r. IsFront ⊥ r (closed c.from_residual-in_err-publish.result) front.0) text_is (subst (λ v. IsFront ⊥ c.in_ok-written.written.report.items v front.0) (sym same) front.1.0),
-        λ tree_told. subst (λ stored. GainsFirst (closed c.from_residual-in_err-publish.result) front.0 stored (T.files c.args.tree.now) (T.files c.publish.new.tree)) c.in_ok-written.ensures.stored_is
+        λ tree_told without. subst (λ stored. GainsFirst (closed c.from_residual-in_err-publish.result) front.0 stored (T.files c.args.tree.now) (T.files c.publish.new.tree)) c.in_ok-written.ensures.stored_is
             (subst (λ v. GainsFirst v front.0 c.in_ok-written.written.stored (T.files c.args.tree.now) (T.files c.publish.new.tree)) (sym same) (front.1.1 tree_told)),
       ),
       front.2,

@@ -5,7 +5,7 @@ use Rattle.apt_host.specs.Verdicts.{verdict, is_finished, is_tree, is_sink, fail
 use Rattle.apt_host.specs.Endings.{ended, of_store}
 use Rattle.apt_host.specs.Promises.{IsFront}
 use Rattle.apt_host.proofs.Early.{unfinished_early, no_sink_early, store_early}
-use Rattle.apt_host.proofs.Writing.{nothing_yet, some_written, sink_alone}
+use Rattle.apt_host.proofs.Writing.{nothing_yet, some_written}
 use Rattle.apt_host.proofs.publish.publish.Goals as goal
 
 pub returns-in_err-put_files-clause-written : goal.returns-in_err-put_files-clause-written
@@ -15,7 +15,7 @@ returns-in_err-put_files-clause-written g c = λ told.
       [],
       (
         nothing_yet ⊥ c.args.written.now.report.items (ended c.from_residual.result) (ap is_finished same ∙ unfinished_early is_tree _ (store_early c.in_err-put_files.field-0.0)) (ap (fails is_sink) same ∙ no_sink_early is_tree _ refl (store_early c.in_err-put_files.field-0.0)),
-        λ tree_told is some. absurd (some refl),
+        λ tree_told ne some. absurd (some refl),
       ),
       sym (append-nil _),
     )
@@ -26,7 +26,7 @@ returns-in-Err-clause-written g c = λ told.
     let bytes_is : c.deref.result.now ≡ c.args.written.now.report.items = search rules in
     let front = some_written c.args.written.now.report.items _ _ c.in-Err.fault c.requires.some (subst (λ bytes. Appends (W.written c.args.output.now) (W.written c.write_all.new.self) bytes (Err c.in-Err.fault)) bytes_is (c.in-Err.ensures.bytes told)) in (
       front.0,
-      (subst (λ v. IsFront ⊥ c.args.written.now.report.items v front.0) (sym c.of_sink.ensures) front.1, λ tree_told is some. absurd (sink_alone c.in-Err.fault (sym c.of_sink.ensures ∙ is))),
+      (subst (λ v. IsFront ⊥ c.args.written.now.report.items v front.0) (sym c.of_sink.ensures) front.1, λ tree_told ne some. record { written = c.in_ok-put_files.ensures.written tree_told; only = c.put_files.ensures.only tree_told }),
       front.2,
     )
 
