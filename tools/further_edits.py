@@ -312,8 +312,9 @@ class Trial:
         self.bench = bench
         self.kept = kept
         self.words = bench.words_of(crate)
+        self.checks = 0
 
-    def check(self, edits, name):
+    def check(self, edits):
         """Checks the functions that the edits change, and gives what the prover says."""
         changed = {folder: at for edit in edits for folder, at in edit.changed.items()}
         room = self.kept / "trial"
@@ -326,7 +327,8 @@ class Trial:
         for at in changed.values():
             call += ["--only", "::".join(self.source.place_of(*at))]
         done = subprocess.run(call, cwd=room, stdin=subprocess.DEVNULL, stdout=subprocess.PIPE, stderr=subprocess.STDOUT, text=True)
-        log = self.bench.logs / self.source.name / f"{name}.log"
+        self.checks += 1
+        log = self.bench.logs / self.source.name / f"{self.checks}.log"
         log.parent.mkdir(parents=True, exist_ok=True)
         log.write_text(done.stdout, encoding="utf-8")
         return Said(self.source.name, done.stdout, texts, log)
@@ -346,20 +348,29 @@ class Trial:
         return UNDECIDED, str(said.log)
 
     def tries(self, files):
-        """Each edit with its verdict: first in groups, and then alone where a group did not settle it."""
+        """Each edit with its verdict."""
         edits, verdicts = [], {}
         for file in files:
             try:
                 edits.append(read_edit(file, self.source))
             except BadEdit as why:
                 verdicts[file.stem] = BAD, str(why)
-        for number, group in enumerate(groups_of(edits, self.source), 1):
-            said = self.check(group, f"group-{number}")
-            for edit in group:
-                word, why = self.verdict(edit, said, len(group) == 1)
-                if word != REFUSED and len(group) > 1:
-                    word, why = self.verdict(edit, self.check([edit], edit.name), True)
-                verdicts[edit.name] = word, why
+        for group in groups_of(edits, self.source):
+            verdicts |= self.settled(group)
+        return verdicts
+
+    def settled(self, group):
+        """The verdicts on the edits of a group: what one check does not settle is seen in halves or alone."""
+        said = self.check(group)
+        if len(group) == 1:
+            return {group[0].name: self.verdict(group[0], said, is_alone=True)}
+        if not said.is_of_functions():
+            half = len(group) // 2
+            return self.settled(group[:half]) | self.settled(group[half:])
+        verdicts = {edit.name: self.verdict(edit, said, is_alone=False) for edit in group}
+        for edit in group:
+            if verdicts[edit.name][0] != REFUSED:
+                verdicts |= self.settled([edit])
         return verdicts
 
 
@@ -375,6 +386,10 @@ class Said:
         self.lines = text.split("\n")
         self.texts = texts
         self.log = log
+
+    def is_of_functions(self):
+        """Whether the source was read, so that there is a line for each function."""
+        return any(line.startswith("fn ") for line in self.lines)
 
     def of_function(self, place):
         """The line on a function, or None."""
