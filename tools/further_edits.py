@@ -19,7 +19,9 @@ import argparse
 import importlib.machinery
 import importlib.util
 import os
+import queue
 import re
+import resource
 import shutil
 import subprocess
 import sys
@@ -433,13 +435,16 @@ class Said:
 
 
 class Bench:
-    """What all trials share: the crates with nothing but their contracts, the kit, and the folder of the logs."""
+    """What all trials share: the kit, the crates with nothing but their contracts, and the folders of the logs and of what each lane of trials keeps."""
 
-    def __init__(self, work, logs):
+    def __init__(self, work, jobs):
         self.rtlib, self.folder = kit()
         self.top = work / "stands_in"
-        self.logs = logs
+        self.logs = work / "logs"
         self.lock = threading.Lock()
+        self.lanes = queue.Queue()
+        for number in range(jobs):
+            self.lanes.put(work / f"lane-{number}")
         for crate in sorted(path.name for path in CRATES.iterdir() if (path / "src").is_dir()):
             write(self.top / "crates" / crate, Source(CRATES / crate).stands_in())
         for name in ("crates.txt", "HANDLES"):
@@ -498,7 +503,7 @@ def edits_of(crate, of_gate):
 def wanted(asked):
     """The crates that are asked for and have edits, lowest first, and of each its folders of edits."""
     kinds = [True] if asked.gate else [True, False] if asked.both else [False]
-    unknown = set(asked.crates) - set(graph())
+    unknown = {*asked.crates, *(path.name for path in FURTHER.iterdir())} - set(graph())
     if unknown:
         raise SystemExit(f"crates.txt names no {', '.join(sorted(unknown))}")
     changed = changed_since(asked.since) if asked.since else None
@@ -512,7 +517,26 @@ def wanted(asked):
     return found
 
 
-def main():
+def tried(crate, folders, bench):
+    """Tries the edits of a crate, prints each verdict, and gives the words and how many checks they took."""
+    lane = bench.lanes.get()
+    trial = Trial(crate, bench, lane)
+    verdicts = trial.tries(sorted(file for folder in folders for file in folder.glob("*.edit")))
+    bench.lanes.put(lane)
+    lines = [f"{crate}/{name}: {word}: {why}" for name, (word, why) in sorted(verdicts.items())]
+    print("\n".join(lines), flush=True)
+    return [word for word, _ in verdicts.values()], trial.checks
+
+
+def summary(found, checks):
+    """How many edits came to each word, and what it took."""
+    counts = ", ".join(f"{found.count(word)} {word.lower()}" for word in (REFUSED, LET_THROUGH, BAD, UNDECIDED) if word in found)
+    used = resource.getrusage(resource.RUSAGE_CHILDREN)
+    return f"{len(found)} edits: {counts or 'none to be tried'}; {checks} checks, {(used.ru_utime + used.ru_stime) / 60:.1f} processor minutes"
+
+
+def read_words():
+    """The words that the command is called with."""
     words = argparse.ArgumentParser(description=__doc__, formatter_class=argparse.RawDescriptionHelpFormatter)
     words.add_argument("crates", nargs="*", metavar="CRATE", help="the crates whose edits are tried; with none, all that have some")
     words.add_argument("--since", metavar="REVISION", help="only crates that changed since this revision, or that name definitions of one that did")
@@ -520,30 +544,22 @@ def main():
     words.add_argument("--both", action="store_true", help="those of must-fail/ and the further ones together")
     words.add_argument("--jobs", type=int, default=1, metavar="N", help="how many crates are tried at a time (1)")
     words.add_argument("--kept", type=Path, metavar="FOLDER", help="where what is read is kept for the next run; a new folder if it is left out")
-    asked = words.parse_args()
+    return words.parse_args()
+
+
+def main():
+    asked = read_words()
     crates = wanted(asked)
     work = (asked.kept or Path(tempfile.mkdtemp(prefix="further-edits-"))).resolve()
-    bench = Bench(work, work / "logs")
-    lanes = [work / f"lane-{number}" for number in range(asked.jobs)]
-    printing = threading.Lock()
-
-    def tried(crate):
-        """Tries the edits of a crate, prints each verdict, and gives whether all were refused."""
-        with printing:
-            lane = lanes.pop()
-        files = sorted(file for folder in crates[crate] for file in folder.glob("*.edit"))
-        verdicts = Trial(crate, bench, lane).tries(files)
-        with printing:
-            lanes.append(lane)
-            for name, (word, why) in sorted(verdicts.items()):
-                print(f"{crate}/{name}: {word}: {why}", flush=True)
-        return all(word == REFUSED for word, _ in verdicts.values())
-
+    bench = Bench(work, asked.jobs)
     with ThreadPoolExecutor(asked.jobs) as pool:
-        refused = list(pool.map(tried, crates))
-    if not asked.kept and all(refused):
+        done = list(pool.map(lambda crate: tried(crate, crates[crate], bench), crates))
+    found = [word for of_crate, _ in done for word in of_crate]
+    print(summary(found, sum(checks for _, checks in done)))
+    all_refused = set(found) <= {REFUSED}
+    if not asked.kept and all_refused:
         shutil.rmtree(work)
-    return 0 if all(refused) else 1
+    return 0 if all_refused else 1
 
 
 if __name__ == "__main__":
