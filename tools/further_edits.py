@@ -1,19 +1,21 @@
 #!/usr/bin/env python3
-"""Tries wrong bodies, each of which the contract of its function must refuse, many in one check and with nothing proved before.
+"""Tries wrong bodies, which the contracts of their functions must refuse: many in one check, and with nothing proved before.
 
-An edit is a file `tools/further_edits/CRATE/NAME.edit` in the form of those of `must-fail/`, which the gate tries: a line `file: `, and then pairs
-of lines `old: ` and `new: `. The gate does not try those that stand here.
+An edit is a file `tools/further_edits/CRATE/NAME.edit` in the form of those of `must-fail/`, which the gate tries: a line
+`file: `, and then pairs of lines `old: ` and `new: `. The gate does not try those that stand here.
 
-A caller cites contracts alone, so an edited function decides by itself whether its edit is refused. The crates below, and all other functions of the
-crate, are given to the prover with bodies `unreachable!()` and with holes for proofs. Edits of different functions are applied together and seen in one
-check. One that cannot be read, or whose function is not refused by itself, is tried once more alone.
+A caller cites contracts alone, so an edited function decides by itself whether its edit is refused. The crates below, and
+all other functions of the crate, are given to the prover with bodies `unreachable!()` and with holes for proofs. Edits of
+different functions are applied together and seen in one check. What that does not settle is seen in halves, and then alone.
 
 For each edit a line is printed, CRATE/NAME with one of these words:
   REFUSED      as it must be, with the first goal that is not proved
   LET THROUGH  the function still meets its contract: the contract is too weak, or the edit changes nothing that counts
   BAD EDIT     it does not fit the text as it stands, or the prover cannot read it
   UNDECIDED    the prover gave no verdict: its output is in the file that is named
-The exit status is 0 where each was refused. What is said here is quick and not the gate's: `rt must-fail` over an edit in `must-fail/` decides.
+The exit status is 0 where each was refused. With `--unedited` the same functions are checked as they stand, once for each
+crate: where they are LET THROUGH, as they must be then, a refusal comes from the edit and not from what stands in for the
+others. A verdict here is quick and not the gate's: `rt must-fail` over an edit in `must-fail/` decides.
 """
 import argparse
 import importlib.machinery
@@ -292,6 +294,12 @@ def groups_of(edits, source):
     return [edits for edits, _ in groups]
 
 
+def unedited(edits):
+    """The functions that edits change, as they stand."""
+    changed = {folder: at for edit in edits for folder, at in edit.changed.items()}
+    return Edit("as it stands", [], changed)
+
+
 # A check
 
 
@@ -357,7 +365,8 @@ class Trial:
                 edits.append(read_edit(file, self.source))
             except BadEdit as why:
                 verdicts[file.stem] = BAD, str(why)
-        for group in groups_of(edits, self.source):
+        groups = [[unedited(edits)]] if edits and self.bench.is_unedited else groups_of(edits, self.source)
+        for group in groups:
             verdicts |= self.settled(group)
         return verdicts
 
@@ -435,9 +444,10 @@ class Said:
 
 
 class Bench:
-    """What all trials share: the kit, the crates with nothing but their contracts, and the folders of the logs and of what each lane of trials keeps."""
+    """What all trials share: the kit, the crates with nothing but their contracts, the folder of the logs, and those that lanes of trials keep."""
 
-    def __init__(self, work, jobs):
+    def __init__(self, work, jobs, is_unedited):
+        self.is_unedited = is_unedited
         self.rtlib, self.folder = kit()
         self.top = work / "stands_in"
         self.logs = work / "logs"
@@ -542,6 +552,7 @@ def read_words():
     words.add_argument("--since", metavar="REVISION", help="only crates that changed since this revision, or that name definitions of one that did")
     words.add_argument("--gate", action="store_true", help="a quick look at the edits of must-fail/, in place of the further ones")
     words.add_argument("--both", action="store_true", help="those of must-fail/ and the further ones together")
+    words.add_argument("--unedited", action="store_true", help="check the functions that the edits change as they stand: all must be let through")
     words.add_argument("--jobs", type=int, default=1, metavar="N", help="how many crates are tried at a time (1)")
     words.add_argument("--kept", type=Path, metavar="FOLDER", help="where what is read is kept for the next run; a new folder if it is left out")
     return words.parse_args()
@@ -551,15 +562,15 @@ def main():
     asked = read_words()
     crates = wanted(asked)
     work = (asked.kept or Path(tempfile.mkdtemp(prefix="further-edits-"))).resolve()
-    bench = Bench(work, asked.jobs)
+    bench = Bench(work, asked.jobs, asked.unedited)
     with ThreadPoolExecutor(asked.jobs) as pool:
         done = list(pool.map(lambda crate: tried(crate, crates[crate], bench), crates))
     found = [word for of_crate, _ in done for word in of_crate]
     print(summary(found, sum(checks for _, checks in done)))
-    all_refused = set(found) <= {REFUSED}
-    if not asked.kept and all_refused:
+    is_well = set(found) <= {LET_THROUGH if asked.unedited else REFUSED}
+    if is_well and not asked.kept:
         shutil.rmtree(work)
-    return 0 if all_refused else 1
+    return 0 if is_well else 1
 
 
 if __name__ == "__main__":
