@@ -1,18 +1,22 @@
 #!/usr/bin/env python3
 """Runs the gate and says where its time goes, crate by crate.
 
-    tools/gate.py [WORD..]          runs `rt ci WORD..` at the top of the repository; with no words the whole gate, and a kit may take no others
+    tools/gate.py                   runs `rt ci` at the top of the repository, and where it passes the tables of cases (`tests/cases.py`) behind it
+    tools/gate.py WORD..            runs `rt ci WORD..` alone, as for crates by name; a kit may take no other words
     tools/gate.py --watch NUMBER    measures what the process with this number starts, until it is told to end, and then prints the table
     tools/gate.py --functions NAME  checks a copy of the crate NAME on one processor, and names its slowest functions; what a checkout on this
                                     machine has checked before is taken over, and does not show
 
 Each line that the gate prints is written to `gate.log` in the current folder with the seconds since the start before it. At the end a table is
-printed: for each crate its lines of src, specs and proofs, the processor minutes of its proof, of the proof of its tests and of its edits, and
-the minutes by the clock from the first of them to the last. Processor time is read once a second from /proc, so the last second of each process is not
-counted, and neither is what the linker and the programs themselves use. Some kits keep what an earlier run on the machine proved, which then takes no
-time: there a measurement of the whole wants a machine where nothing is kept, or the word `--anew`.
+printed: for each crate its lines of src, specs and proofs, the processor minutes of its proof, its edits in `must-fail/` and their processor minutes,
+and the minutes by the clock from the first of them to the last. Most crates have no edits there: those in `tools/further_edits` are no part of the
+gate. No crate has tests: cases are rows of tables, whose processor minutes stand in a line of their own. Processor time is read once a second from
+/proc, so the last second of each process is not counted, and neither is what the linker and the programs themselves use. Some kits keep what an
+earlier run on the machine proved, which then takes no time: there a measurement of the whole wants a machine where nothing is kept, or the word
+`--anew`.
 """
 import os
+import resource
 import shutil
 import signal
 import subprocess
@@ -24,7 +28,7 @@ from pathlib import Path
 
 TOP = Path(__file__).resolve().parent.parent
 TICKS = os.sysconf("SC_CLK_TCK")
-PROOF, TESTS, EDITS = "proof", "tests", "edits"
+PROOF, EDITS = "proof", "edits"
 
 
 def lines_of(crate):
@@ -32,6 +36,11 @@ def lines_of(crate):
     folders = [TOP / "crates" / crate / part for part in ("src", "specs", "proofs")]
     files = [path for folder in folders for path in folder.rglob("*") if path.suffix in (".rt", ".antt")]
     return sum(path.read_bytes().count(b"\n") for path in files)
+
+
+def edits_of(crate):
+    """How many edits of a crate the gate tries."""
+    return len(list((TOP / "crates" / crate / "must-fail").glob("*.edit")))
 
 
 def parent_of(number):
@@ -63,8 +72,7 @@ def work_of(process, gate):
         return None
     if not is_below(int(process.name), gate):
         return None
-    kind = EDITS if "rt-edit" in folder else TESTS if "--test" in words else PROOF
-    return words[words.index("--crate-name") + 1], kind, seconds
+    return words[words.index("--crate-name") + 1], EDITS if "rt-edit" in folder else PROOF, seconds
 
 
 class Sampler(threading.Thread):
@@ -96,17 +104,26 @@ def table(sampler, clock):
     """The table of the crates, the most expensive first, and a line for all."""
     rows = []
     for crate, (first, last) in sampler.seen.items():
-        spent = [sampler.minutes(crate, kind) for kind in (PROOF, TESTS, EDITS)]
-        rows.append((crate, lines_of(crate), *spent, sum(spent), (last - first) / 60))
+        proof, edits = sampler.minutes(crate, PROOF), sampler.minutes(crate, EDITS)
+        rows.append((crate, lines_of(crate), proof, edits_of(crate), edits, proof + edits, (last - first) / 60))
     rows.sort(key=lambda row: -row[5])
-    lines = sum(row[1] for row in rows)
-    sums = [sum(row[at] for row in rows) for at in range(2, 6)]
-    rows.append(("all", lines, *sums, clock / 60))
-    text = ["| Crate | Lines | Proof | Tests | Edits | Together | Clock |", "|---|---|---|---|---|---|---|"]
-    text += ["| {} | {} | {:.1f} | {:.1f} | {:.1f} | {:.1f} | {:.1f} |".format(*row) for row in rows]
-    if lines:
-        text.append(f"{sums[3] * 1000 / lines:.2f} processor minutes for each 1,000 lines")
+    sums = [sum(row[at] for row in rows) for at in range(1, 6)]
+    rows.append(("all", *sums, clock / 60))
+    text = ["| Crate | Lines | Proof | Edits | Minutes of the edits | Together | Clock |", "|---|---|---|---|---|---|---|"]
+    text += ["| {} | {} | {:.1f} | {} | {:.1f} | {:.1f} | {:.1f} |".format(*row) for row in rows]
+    if sums[0]:
+        text.append(f"{sums[4] * 1000 / sums[0]:.2f} processor minutes for each 1,000 lines")
     return "\n".join(text)
+
+
+def measure_cases():
+    """Runs the tables of cases, prints their processor minutes, and gives the exit status."""
+    before = resource.getrusage(resource.RUSAGE_CHILDREN)
+    status = subprocess.run([TOP / "tests" / "cases.py"], cwd=TOP).returncode
+    after = resource.getrusage(resource.RUSAGE_CHILDREN)
+    seconds = after.ru_utime + after.ru_stime - before.ru_utime - before.ru_stime
+    print(f"the tables of cases: {seconds / 60:.1f} processor minutes")
+    return status
 
 
 def measure_gate(words):
@@ -169,7 +186,7 @@ def main():
         return measure_functions(words[1])
     if words[:1] == ["--watch"] and len(words) == 2:
         return watch(int(words[1]))
-    return measure_gate(words)
+    return measure_gate(words) or (0 if words else measure_cases())
 
 
 if __name__ == "__main__":
