@@ -1,14 +1,14 @@
 -- What a filer finds by its sets, and the lists that it keeps.
 use Rattle.std.proofs.Common.{◌≡◌, ℕ, ◌+◌, ◌≤◌, Bool, true, false, not, ◌||◌, if◌then◌else◌, List, [], ◌∷◌, ◌++◌, length, filter_map, refl, sym, ap, ◌∙◌, None, ⊎_elim, arith}
-use Rattle.std.specs.Cmp.Lexicographic.{slice_cmp}
-use Rattle.std.specs.FinSet.{contains, insert, remove, empty, contains-empty}
-use Rattle.std.specs.Ordering.{nat_cmp}
+use Rattle.std.specs.FinMap.{contains_key, remove, empty}
 use Rattle.std.specs.List.{list_any}
 use Rattle.std.specs.Str.{bytes_eq}
 use Rattle.std.proofs.lemmas.Bool.{true≢false, false_from_ne_true, or_cases, or_parts, or_left, or_right, ltb-false}
 use Rattle.std.proofs.lemmas.List.Folds.{list_any-append}
 use Rattle.std.proofs.lemmas.List.Sums.{sum_by_push}
 use Rattle.std.proofs.lemmas.Slice.Eq.{bytes_eq-Decides}
+use Rattle.apt_base.specs.Names.{NameSet, with_name}
+use Rattle.apt_base.proofs.NameSets.{contains-empty, contains-with_name}
 use Rattle.apt_base.specs.declared.element.ElementRef.{ElementRef}
 use Rattle.wire_frames.specs.declared.frame.Creation.{Creation}
 use Rattle.wire_frames.specs.declared.frame.Creation.TheVariants.{Source, Resource, Class}
@@ -16,8 +16,8 @@ use Rattle.wire_frames.specs.declared.reply.Created.{Created}
 use Rattle.wire_frames.specs.declared.reply.Created.TheVariants.{Accepted, Exists, Unsupported, BadName, TooLarge}
 use Rattle.apt_filer.specs.Names.{is_well_named}
 use Rattle.apt_filer.specs.Filing.{path_of, content_of, size_of, total_of, type_name_of, is_class, has_path, has_type, is_there, is_too_large, answer_to, Filings, filed}
-use Rattle.apt_filer.specs.Index.{TextSet, HasExactly, IsIndex}
-use Rattle.apt_filer.proofs.TextSets.{contains-insert_text, remove-insert}
+use Rattle.apt_filer.specs.Index.{HasExactly, IsIndex}
+use Rattle.apt_filer.proofs.FilerSets.{remove-with_name}
 
 or_swapped : (a b c : Bool) → (a || (b || c)) ≡ (b || (a || c))
 or_swapped true true c = refl
@@ -79,24 +79,24 @@ has_path-push [] creation q = refl
 has_path-push (other ∷ made) creation q = ap (λ (b : Bool). bytes_eq q (path_of other) || b) (has_path-push made creation q) ∙ or_swapped (bytes_eq q (path_of other)) (bytes_eq q (path_of creation)) (has_path made q)
 
 -- nothing was created yet
-pub IsIndex-none : (initial copies : List (List ℕ)) (made : List Creation) (names paths : TextSet) → copies ≡ initial → made ≡ [] → HasExactly names initial → paths ≡ empty → IsIndex copies made names paths 0
+pub IsIndex-none : (initial copies : List (List ℕ)) (made : List Creation) (names paths : NameSet) → copies ≡ initial → made ≡ [] → HasExactly names initial → paths ≡ empty → IsIndex copies made names paths 0
 IsIndex-none initial copies made names paths same none exact new = record {
   named = λ text. exact text ∙ ap (list_any (bytes_eq text)) (sym same);
-  placed = λ q. ap (λ set. contains set q) new ∙ contains-empty (slice_cmp nat_cmp) q ∙ ap (λ list. has_path list q) (sym none);
+  placed = λ q. ap (λ set. contains_key set q) new ∙ contains-empty q ∙ ap (λ list. has_path list q) (sym none);
   summed = ap total_of (sym none);
   fits = omega arith;
 }
 
 -- a creation is added
-pub IsIndex-push : (initial : List (List ℕ)) (made made' : List Creation) (names paths paths' : TextSet) (total size : ℕ) (creation : Creation) (path : List ℕ) → IsIndex initial made names paths total → path ≡ path_of creation → size ≡ length (content_of creation) + length path → total_of made + size_of creation ≤ 67108864 → made' ≡ made ++ creation ∷ [] → paths' ≡ insert paths path → IsIndex initial made' names paths' (total + size)
+pub IsIndex-push : (initial : List (List ℕ)) (made made' : List Creation) (names paths paths' : NameSet) (total size : ℕ) (creation : Creation) (path : List ℕ) → IsIndex initial made names paths total → path ≡ path_of creation → size ≡ length (content_of creation) + length path → total_of made + size_of creation ≤ 67108864 → made' ≡ made ++ creation ∷ [] → paths' ≡ with_name paths path → IsIndex initial made' names paths' (total + size)
 IsIndex-push initial made made' names paths paths' total size creation path index is sized room grown inserted =
     let whole : size ≡ size_of creation = sized ∙ ap (λ p. length (content_of creation) + length p) is in
     record {
       named = index.named;
       placed = λ q.
-          ap (λ set. contains set q) inserted
-          ∙ contains-insert_text paths path q
-          ∙ ap (λ p. bytes_eq q p || contains paths q) is
+          ap (λ set. contains_key set q) inserted
+          ∙ contains-with_name paths path q
+          ∙ ap (λ p. bytes_eq q p || contains_key paths q) is
           ∙ ap (λ (b : Bool). bytes_eq q (path_of creation) || b) (index.placed q)
           ∙ sym (has_path-push made creation q)
           ∙ ap (λ list. has_path list q) (sym grown);
@@ -105,12 +105,12 @@ IsIndex-push initial made made' names paths paths' total size creation path inde
     }
 
 -- a creation was not added, and its path was taken away again
-pub IsIndex-undone : (initial : List (List ℕ)) (made made' : List Creation) (names paths paths' paths'' : TextSet) (total : ℕ) (path : List ℕ) → IsIndex initial made names paths total → has_path made path ≡ false → made' ≡ made → paths' ≡ insert paths path → paths'' ≡ remove paths' path → IsIndex initial made' names paths'' total
+pub IsIndex-undone : (initial : List (List ℕ)) (made made' : List Creation) (names paths paths' paths'' : NameSet) (total : ℕ) (path : List ℕ) → IsIndex initial made names paths total → has_path made path ≡ false → made' ≡ made → paths' ≡ with_name paths path → paths'' ≡ remove paths' path → IsIndex initial made' names paths'' total
 IsIndex-undone initial made made' names paths paths' paths'' total path index absent same inserted removed =
-    let back : paths'' ≡ paths = removed ∙ ap (λ set. remove set path) inserted ∙ remove-insert paths path (index.placed path ∙ absent) in
+    let back : paths'' ≡ paths = removed ∙ ap (λ set. remove set path) inserted ∙ remove-with_name paths path (index.placed path ∙ absent) in
     record {
       named = index.named;
-      placed = λ q. ap (λ set. contains set q) back ∙ index.placed q ∙ ap (λ list. has_path list q) (sym same);
+      placed = λ q. ap (λ set. contains_key set q) back ∙ index.placed q ∙ ap (λ list. has_path list q) (sym same);
       summed = index.summed ∙ ap total_of (sym same);
       fits = index.fits;
     }

@@ -1,4 +1,4 @@
 pub mod Folders
 pub mod NamesLemmas
-pub mod TextSets
+pub mod FilerSets
 pub mod FilingLemmas

@@ -6,8 +6,7 @@ ghost use Rattle.wire_frames.specs.declared.reply.Created.TheVariants.{Accepted}
 
 use crate::names::is_well_named;
 use crate::paths::path_of;
-use crate::texts::Texts;
-use apt_base::{List, Name, NoMemory, copy_names};
+use apt_base::{List, Name, Names, NoMemory, copy_names};
 use std::alloc::Global;
 use std::marker::Model;
 use wire_frames::{Created, Creation};
@@ -26,9 +25,9 @@ pub struct Filer {
     alloc: Global,
     initial: List<Name>,
     made: List<Creation>,
-    // The texts of `initial`, the paths of `made`, and how many bytes its contents and paths have.
-    names: Texts,
-    paths: Texts,
+    // The names of `initial`, the paths of `made`, and how many bytes its contents and paths have.
+    names: Names,
+    paths: Names,
     total: usize,
 }
 
@@ -43,14 +42,14 @@ impl Model for Filer {
     ghost invariant = { λ a. IsIndex a.initial a.made a.names a.paths a.total };
 }
 
-fn texts_of(alloc: Global, names: &List<Name>) -> Result<Texts, NoMemory>
-    ensures { IfOk result (λ texts. HasExactly texts names.now) }
+fn set_of(alloc: Global, names: &List<Name>) -> Result<Names, NoMemory>
+    ensures { IfOk result (λ set. HasExactly set names.now) }
 {
-    let mut texts = Texts::new(alloc);
+    let mut set = Names::new(alloc);
     for name in names.as_slice() {
-        texts.insert(name.as_str())?;
+        set.insert(name.as_str())?;
     }
-    Ok(texts)
+    Ok(set)
 }
 
 fn content_of(creation: &Creation) -> &List<u8>
@@ -82,8 +81,8 @@ impl Filer {
             alloc,
             initial: copy_names(alloc, initial.as_slice())?,
             made: List::new(alloc),
-            names: texts_of(alloc, initial)?,
-            paths: Texts::new(alloc),
+            names: set_of(alloc, initial)?,
+            paths: Names::new(alloc),
             total: 0,
         })
     }

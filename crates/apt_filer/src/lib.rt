@@ -12,7 +12,6 @@
 mod filer;
 mod names;
 mod paths;
-mod texts;
 
 pub use filer::{Filer, MAX_CONTENT, MAX_TOTAL};
 pub use names::{is_package_name, is_relative_name, is_type_name};

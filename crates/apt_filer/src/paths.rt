@@ -1,18 +1,10 @@
 // The paths of creations.
-ghost use Rattle.std.specs.Prelude.{◌≡◌, ◌++◌, string_bytes, IfOk, OnOk, MatchOption};
-ghost use Rattle.apt_base.specs.Identifiers.{HasNoDot, IsSplit};
+ghost use Rattle.std.specs.Prelude.{◌≡◌, ◌++◌, string_bytes, IfOk, OnOk};
 ghost use Rattle.apt_filer.specs.Filing.{folders_of, package_folders, location_folder, source_path, resource_path, path_of};
 
-use apt_base::{Name, NoMemory};
+use apt_base::{Name, NoMemory, split_dot};
 use std::alloc::Global;
 use wire_frames::Creation;
-
-// What stands before the first dot and behind it.
-fn split_dot(text: &str) -> Option<(&str, &str)>
-    ensures { MatchOption result (HasNoDot text.now) (λ parts. IsSplit text.now parts.0.now parts.1.now) }
-{
-    text.split_once('.')
-}
 
 fn push_folders(path: &mut String, name: &str) -> Result<(), NoMemory>
     ensures { OnOk result (string_bytes path.new ≡ string_bytes path.old ++ folders_of name.now) }
