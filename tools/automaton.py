@@ -1,22 +1,30 @@
 #!/usr/bin/env python3
-"""Prints the table by which tokens are read, from the forms of the lexical grammar.
+"""Prints the table by which tokens are read, from the forms of the lexical grammar, and the tokens' numbers by their names.
 
     tools/automaton.py          prints the tables of crates/java_tokens/src/automaton.rt
-    tools/automaton.py --check  compares them with those that stand there, and the list of states in the proofs; status 1 where they differ
-    tools/automaton.py --write  puts both in their place
+    tools/automaton.py --check  compares them with those that stand there, the list of states in the proofs, and the numbers by name in the
+                                definitions and in the code; status 1 where any differs
+    tools/automaton.py --write  puts all in their place
 
 The forms are read from specs/Literals.antt and the sorts of characters from specs/Sorts.antt. A state is a list of forms, one for each class of
 texts: what may follow there. It begins with the forms themselves, and a character of a sort leads to what is left of each (its derivative, as
 proofs/Derive.antt defines it). States are numbered in the order in which they are found, by the number of the state before and then by the sort.
 That the table is right is proved and does not rest on this program.
+
+A keyword or an operator has the number of its place in the table `keywords` or `operators` of the definitions. In crates/decl_grammar the definitions
+name these numbers (specs/TokenNames.antt), and the code names the sorts of symbols that specs/Symbols.antt makes of them (src/sorts.rt).
 """
 import re
 import sys
 from pathlib import Path
 
-CRATE = Path(__file__).resolve().parent.parent / "crates" / "java_tokens"
+CRATES = Path(__file__).resolve().parent.parent / "crates"
+CRATE = CRATES / "java_tokens"
 CODE = CRATE / "src" / "automaton.rt"
 STATES = CRATE / "proofs" / "TableLemmas.antt"
+GRAMMAR = CRATES / "decl_grammar"
+TOKEN_NAMES = GRAMMAR / "specs" / "TokenNames.antt"
+SORT_NAMES = GRAMMAR / "src" / "sorts.rt"
 CLASSES = ["separator", "word", "integer", "floating", "character", "text", "text_block"]
 SORTS = 26
 NO_CLASS = len(CLASSES)
@@ -24,6 +32,63 @@ WIDTH = 99
 NAMES = {10: "LF", 13: "CR", 32: "SP"}
 COMMENT = re.compile(r"--.*")
 WORD = re.compile(r"\s*([()]|∷|\[\]|[A-Za-z_]\w*|\d+)")
+
+# The names of the separators and operators. A keyword is its own name.
+NAME_OF = {
+    "_": "underscore",
+    "(": "open_parenthesis",
+    ")": "close_parenthesis",
+    "{": "open_brace",
+    "}": "close_brace",
+    "[": "open_bracket",
+    "]": "close_bracket",
+    ";": "semicolon",
+    ",": "comma",
+    ".": "dot",
+    "...": "ellipsis",
+    "@": "at",
+    "::": "double_colon",
+    "=": "equals",
+    ">": "greater_than",
+    "<": "less_than",
+    "!": "exclamation",
+    "~": "tilde",
+    "?": "question",
+    ":": "colon",
+    "->": "arrow",
+    "==": "double_equals",
+    ">=": "greater_or_equal",
+    "<=": "less_or_equal",
+    "!=": "not_equal",
+    "&&": "double_ampersand",
+    "||": "double_bar",
+    "++": "increment",
+    "--": "decrement",
+    "+": "plus",
+    "-": "minus",
+    "*": "star",
+    "/": "slash",
+    "&": "ampersand",
+    "|": "bar",
+    "^": "caret",
+    "%": "percent",
+    "<<": "shift_left",
+    ">>": "shift_right",
+    ">>>": "unsigned_shift_right",
+    "+=": "plus_equals",
+    "-=": "minus_equals",
+    "*=": "star_equals",
+    "/=": "slash_equals",
+    "&=": "ampersand_equals",
+    "|=": "bar_equals",
+    "^=": "caret_equals",
+    "%=": "percent_equals",
+    "<<=": "shift_left_equals",
+    ">>=": "shift_right_equals",
+    ">>>=": "unsigned_shift_right_equals",
+}
+# The names that the language of the definitions keeps for itself: they stand escaped there.
+ESCAPED = {"do", "package"}
 
 NOTHING, EMPTY = ("nothing",), ("empty",)
 
@@ -265,6 +330,58 @@ def tables():
     return "\n".join(lines), "pairs = " + " ∷ ".join(f"({before}, {sort})" for before, sort in pairs) + " ∷ []"
 
 
+# ---- the tokens' numbers by name
+
+
+def table_texts(path, name):
+    """The texts of a table of the definitions, in its order."""
+    text = path.read_text(encoding="utf-8")
+    body = text[text.index(f"\n{name} =") :]
+    return re.findall(r'codes "([^"]+)"', body[: body.index("[]")])
+
+
+def token_tables():
+    """The keywords and the operators, each with its name, in the order of their numbers."""
+    keywords = table_texts(CRATES / "apt_base" / "specs" / "Identifiers.antt", "keywords")
+    operators = table_texts(CRATE / "specs" / "Words.antt", "operators")
+    return [(text, NAME_OF.get(text, text)) for text in keywords], [(text, NAME_OF[text]) for text in operators]
+
+
+def token_names():
+    """The file of the numbers by name for the definitions."""
+    lines = [
+        "-- The keywords (JLS 3.9) and the separators and operators (JLS 3.11, 3.12) by name, each with its number in the table of java_tokens/specs/Words.",
+        "-- Written by tools/automaton.py from these tables. It refuses a number that is not the table's.",
+        "use Rattle.std.specs.Prelude.{ℕ}",
+    ]
+    for heading, table in zip(("keywords", "separators and operators"), token_tables()):
+        lines += ["", f"-- ---- {heading}"]
+        for number, (text, name) in enumerate(table):
+            name = f"«{name}»" if name in ESCAPED else name
+            lines += ["", *([] if name == text else [f"-- `{text}`"]), f"abbrev pub {name} : ℕ", f"{name} = {number}"]
+    return "\n".join(lines) + "\n"
+
+
+def sort_names():
+    """The file of the sorts of symbols by name for the code."""
+    symbols = (GRAMMAR / "specs" / "Symbols.antt").read_text(encoding="utf-8")
+    first_word, first_operator = (int(re.search(rf"^{kind} n = (\d+) \+ n$", symbols, re.MULTILINE)[1]) for kind in ("word", "operator"))
+    lines = [
+        "// The sorts of symbols by name, with the numbers of `specs/Symbols`.",
+        "// Written by tools/automaton.py from the tables of the definitions. It refuses a number that is not the table's.",
+    ]
+    for remark, name, number in re.findall(r"^-- (.+)\nabbrev pub (\w+) : ℕ\n\2 = (\d+)$", symbols, re.MULTILINE):
+        lines += ["", f"/// {remark[0].upper()}{remark[1:]}.", f"pub const {name.upper()}: u8 = {number};"]
+    keywords, operators = token_tables()
+    for kind, first, table in (("keyword", first_word, keywords), ("operator", first_operator, operators)):
+        for number, (text, name) in enumerate(table, first):
+            lines += ["", f"/// The {kind} `{text}`.", f"pub const {name.upper()}: u8 = {number};"]
+    return "\n".join(lines) + "\n"
+
+
+# ---- the files
+
+
 def parts(text, begin, end):
     """A text before, at and behind a part that begins and ends so."""
     at = text.index(begin)
@@ -283,7 +400,13 @@ def main():
         if sys.argv[1:] == ["--write"]:
             path.write_text(before + wanted + behind, encoding="utf-8")
         elif stands != wanted:
-            print(f"{path.relative_to(CRATE)} is not what the forms give")
+            print(f"{path.relative_to(CRATES)} is not what the forms give")
+            status = 1
+    for path, wanted in ((TOKEN_NAMES, token_names()), (SORT_NAMES, sort_names())):
+        if sys.argv[1:] == ["--write"]:
+            path.write_text(wanted, encoding="utf-8")
+        elif path.read_text(encoding="utf-8") != wanted:
+            print(f"{path.relative_to(CRATES)} is not what the tables give")
             status = 1
     return status
 

@@ -3,6 +3,7 @@ use Rattle.std.proofs.Common.{◌≡◌, ℕ, zero, suc, ◌≤◌, arith, Bool,
 use Rattle.decl_tree.specs.declared.type_text.TypeText.{TypeText}
 use Rattle.decl_grammar.specs.declared.symbol.Symbol.{Symbol}
 use Rattle.decl_grammar.specs.Symbols.{operator}
+use Rattle.decl_grammar.specs.TokenNames as token
 use Rattle.decl_grammar.specs.Form.{Stands, Freedom, is_value, opened, between, one_of, bracketed, arguments, annotated, created, type_reference, tested, tested_name, tested_dim, type_arguments, created_arguments, array_value, nested_annotation, first_name, constant_value, expression_part, nested_type, modifiers, plain_modifiers, static_word, import_rest, enum_rest, param_rest, first_rest, value_and_rest, expression_rest, initialiser, value_end, constant_items, constant_chain, pair, turn, many, nest, Begins}
 use Rattle.decl_grammar.specs.Types.{sign, before, first_and_rest, type_argument, next_argument, arguments_form, annotations, annotation, annotation_body, annotation_arguments, name, dot_name, name_chain, wildcard, wildcard_bound, annotated_reference, reference, class_array, class_type, named_part, next_part, dim, primitive_array, primitive_type, pairs_or_value, first_pair}
 use Rattle.decl_grammar.specs.Expressions.{part_symbols, step}
@@ -62,7 +63,7 @@ pub arguments-split : (us : List Symbol) (x : List TypeText) → Whole type_argu
 unfolding arguments_form type_argument next_argument annotations annotation annotation_body annotation_arguments name dot_name name_chain wildcard wildcard_bound annotated_reference reference class_array class_type named_part next_part dim primitive_array primitive_type pairs_or_value first_pair
 arguments-split us x (zero, is) = absurd is
 arguments-split us x (suc h, is) =
-    let g = before (turn first_and_rest (pair type_argument (many next_argument))) (sign 13) in
+    let g = before (turn first_and_rest (pair type_argument (many next_argument))) (sign token.greater_than) in
     (is.0.0, is.1.1, is.1.2 ∙ ap (λ (u : List Symbol). u ++ is.1.1) is.1.3.0, form-levels (WholeAt h) (levels-at h) in_arguments g is.1.1 is.0.1 is.1.4 [])
 
 -- a part that is one symbol
@@ -95,15 +96,15 @@ behind-one : (t z : Symbol) (u a c : List Symbol) → t ∷ u ≡ a ++ c → a �
 behind-one t z u a c e d = let p : t ∷ u ≡ z ∷ c = e ∙ ap (λ (b : List Symbol). b ++ c) d in cc
 
 -- Type arguments whose `<` is taken as an operator: behind them comes what may stand behind an operator `>`.
-pub arguments-crossed : (s : Stands) (w : Freedom) (us vs : List Symbol) (x : List TypeText) (n : ℕ) → Whole type_arguments us x → Begins Whole Started (step s (one_of (operator 14 ∷ [])) w between) (us ++ vs) n → Crossed (is_value s) vs n
+pub arguments-crossed : (s : Stands) (w : Freedom) (us vs : List Symbol) (x : List TypeText) (n : ℕ) → Whole type_arguments us x → Begins Whole Started (step s (one_of (operator token.less_than ∷ [])) w between) (us ++ vs) n → Crossed (is_value s) vs n
 unfolding step part_symbols
 arguments-crossed s w us vs x n whole b =
     let p = arguments-split us x whole in
-    go p.0 p.1 p.3 (subst (λ (u : List Symbol). Begins Whole Started (step s (one_of (operator 14 ∷ [])) w between) (u ++ vs) n) p.2 b)
+    go p.0 p.1 p.3 (subst (λ (u : List Symbol). Begins Whole Started (step s (one_of (operator token.less_than ∷ [])) w between) (u ++ vs) n) p.2 b)
   where
-    go : (t : Symbol) (u : List Symbol) → Leads u (74 ∷ []) [] → Begins Whole Started (step s (one_of (operator 14 ∷ [])) w between) (t ∷ u ++ vs) n → Crossed (is_value s) vs n
+    go : (t : Symbol) (u : List Symbol) → Leads u (74 ∷ []) [] → Begins Whole Started (step s (one_of (operator token.less_than ∷ [])) w between) (t ∷ u ++ vs) n → Crossed (is_value s) vs n
     go t u l (inl (inl b)) = absurd (too-short t u vs l (inl b.0))
-    go t u l (inl (inr q)) = absurd (too-short t u vs l (one-begun s (operator 14 ∷ []) (t ∷ u ++ vs) q.2 q.5))
+    go t u l (inl (inr q)) = absurd (too-short t u vs l (one-begun s (operator token.less_than ∷ []) (t ∷ u ++ vs) q.2 q.5))
     go t u l (inr q) =
-        let single = one-whole s (operator 14 ∷ []) q.0 q.4.0.1 q.4.1.0 in
+        let single = one-whole s (operator token.less_than ∷ []) q.0 q.4.0.1 q.4.1.0 in
         nest-crosses s w u vs n l (subst (λ (c : List Symbol). Begins Whole Started (nest (expression_rest s w between)) c n) (behind-one t single.0 (u ++ vs) q.0 q.1 q.3 single.1) q.5)

@@ -18,6 +18,7 @@ use Rattle.decl_grammar.proofs.EffectLemmas.{form-levels, form-opened}
 use Rattle.decl_grammar.proofs.Closed.{levels-at, opened-at}
 use Rattle.decl_grammar.proofs.Crossing.{rest-of, stopped}
 use Rattle.decl_grammar.proofs.TypeParts.{lists, never, no-reference, none-closed, same-first, some-symbol}
+use Rattle.decl_grammar.specs.TokenNames as token
 
 -- ---- declarators
 
@@ -53,12 +54,12 @@ pub nest-begun : (h : ℕ) (m : Nest) → ((k : ℕ) → opened m k ≡ k) → (
 nest-begun h m free us r rs n (inl b) = let z = (nil_parts us (r ∷ rs) (sym b.0)).1 in absurd cc
 nest-begun h m free us r rs n (inr q) = subst (λ (k : ℕ). BegunAt h m (us ++ r ∷ rs) k) (sym (q.4 ∙ free q.2)) q.5
 
-no-value : (h : ℕ) (d : ℕ) (us : List Symbol) (r : Symbol) (rs : List Symbol) (n : ℕ) → Leads us (lists (suc d)) [] → Begins (WholeAt h) (BegunAt h) (behind (sign 12) (nest initialiser)) (us ++ r ∷ rs) n → ⊥
+no-value : (h : ℕ) (d : ℕ) (us : List Symbol) (r : Symbol) (rs : List Symbol) (n : ℕ) → Leads us (lists (suc d)) [] → Begins (WholeAt h) (BegunAt h) (behind (sign token.equals) (nest initialiser)) (us ++ r ∷ rs) n → ⊥
 no-value h d us r rs n l b =
     let g = some-symbol (suc d) us l in
     let head : has (73 ∷ []) g.0.sort ≡ true =
-    Begins-head (WholeAt h) (BegunAt h) (full-at h) (heads-at h) (bheads-at h) (behind (sign 12) (nest initialiser)) g.0 (g.1 ++ r ∷ rs) n (g.0 ∷ g.1 ++ r ∷ rs) refl
-    (subst (λ (u : List Symbol). Begins (WholeAt h) (BegunAt h) (behind (sign 12) (nest initialiser)) (u ++ r ∷ rs) n) g.2 b) in
+    Begins-head (WholeAt h) (BegunAt h) (full-at h) (heads-at h) (bheads-at h) (behind (sign token.equals) (nest initialiser)) g.0 (g.1 ++ r ∷ rs) n (g.0 ∷ g.1 ++ r ∷ rs) refl
+    (subst (λ (u : List Symbol). Begins (WholeAt h) (BegunAt h) (behind (sign token.equals) (nest initialiser)) (u ++ r ∷ rs) n) g.2 b) in
     stopped g.0 g.1 (lists d) [] (within-has (73 ∷ []) stops g.0.sort refl head) (subst (λ (u : List Symbol). Leads u (lists (suc d)) []) g.2 l)
 
 dims-level : (h : ℕ) (us : List Symbol) (xs : List Around) → Is (WholeAt h) (many dim) us xs → Levels in_arguments level us
@@ -107,7 +108,7 @@ comma-first (suc d) us r rs b c s e p k l =
     (d, f.0, f.1, f.2)
   where
     comma-level : (s : Symbol) → has (68 ∷ []) s.sort ≡ true → Levels in_arguments level (s ∷ [])
-    comma-level s k = form-levels (WholeAt zero) (levels-at zero) in_arguments (sign 7) (s ∷ []) s (refl, k)
+    comma-level s k = form-levels (WholeAt zero) (levels-at zero) in_arguments (sign token.comma) (s ∷ []) s (refl, k)
 
 pub no-end : (h : ℕ) → NoEnd h
 unfolding assigned_end

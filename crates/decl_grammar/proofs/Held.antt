@@ -19,6 +19,7 @@ use Rattle.decl_grammar.proofs.Planted.{level-dims}
 use Rattle.decl_grammar.proofs.TypesHeld.{Held, extra, held-more, holds-dims, holds-flat, holds-list, holds-mark, holds-pair, holds-reference, none-held}
 use Rattle.decl_grammar.proofs.RowForms.{HeldNests, form-holds, held_part, holds, list-second, reached, stops-there}
 use Rattle.decl_grammar.proofs.RowHolds.{closes-row, rest-holds, value-holds}
+use Rattle.decl_grammar.specs.TokenNames as token
 
 -- ---- declarators
 
@@ -53,7 +54,7 @@ comma-second : (h : ℕ) → EndHeld h → (d : ℕ) (us : List Symbol) (n : ℕ
 comma-second h ih zero us n ms a c x s l p k b =
     absurd (no-reference x c [] ms (within-has (68 ∷ []) reference_stops x.sort refl k) (subst (λ (u : List Symbol). Leads (u ++ c) (lists zero) ms) p (subst (λ (u : List Symbol). Leads u (lists zero) ms) s l)))
 comma-second h ih (suc d) us n ms a c x s l p k b =
-    list-second 0 d us a c n ms level refl s l (subst (λ (u : List Symbol). Levels in_arguments level u) (sym p) (form-levels (WholeAt h) (levels-at h) in_arguments (sign 7) (x ∷ []) x (refl, k)))
+    list-second 0 d us a c n ms level refl s l (subst (λ (u : List Symbol). Levels in_arguments level u) (sym p) (form-levels (WholeAt h) (levels-at h) in_arguments (sign token.comma) (x ∷ []) x (refl, k)))
     (λ k m. declarator-held h ih k c n ms m b)
 
 end-form-held : (h : ℕ) → EndHeld h → (d : ℕ) (us : List Symbol) (n : ℕ) (ms : List ℕ) → Leads us (lists d) ms → Begins (WholeAt h) (BegunAt h) assigned_end us n → Held 0 d us n

@@ -17,6 +17,7 @@ use Rattle.decl_grammar.proofs.Effects.{in_brackets}
 use Rattle.decl_grammar.proofs.EffectLemmas.{form-levels}
 use Rattle.decl_grammar.proofs.Closed.{levels-any}
 use Rattle.decl_grammar.proofs.Walks.{Phase, ready, marked, named_there, inside, shut, dims, typed, within_brackets, next_phase, Walks, walks-append, walks-dims, leads-shut, leads-inside, fresh, going, at-fresh, chain-walks, chain-begun, Goes, goes-behind, goes-at}
+use Rattle.decl_grammar.specs.TokenNames as token
 
 -- behind an annotation
 abbrev pub ended : Phase → Bool
@@ -60,7 +61,7 @@ unfolding annotation_arguments pairs_or_value first_pair
 arguments-walk us x is =
     let q = is.1 in
     subst (λ (u : List Symbol). Walks u named_there shut) (sym (q.2 ∙ ap (λ (a : List Symbol). a ++ q.1) q.3.0))
-    (inside (62 ∷ []), open-step is.0.0 q.3.1, leads-shut 62 [] q.1 (form-levels Whole levels-any in_brackets (either (turn no_pairs (sign 1)) pairs_or_value) q.1 is.0.1 q.4 []))
+    (inside (62 ∷ []), open-step is.0.0 q.3.1, leads-shut 62 [] q.1 (form-levels Whole levels-any in_brackets (either (turn no_pairs (sign token.close_parenthesis)) pairs_or_value) q.1 is.0.1 q.4 []))
 
 over-walk : (us : List Symbol) → skip (61 ∷ []) us ≡ done tt [] → Walks us named_there shut
 unfolding one_at

@@ -4,6 +4,7 @@ use Rattle.decl_grammar.specs.declared.symbol.Symbol.{Symbol}
 use Rattle.decl_grammar.specs.declared.fault.ReadFault.{ReadFault}
 use Rattle.decl_grammar.specs.declared.fault.ReadFault.TheVariants as faults
 use Rattle.decl_grammar.specs.Symbols.{operator}
+use Rattle.decl_grammar.specs.TokenNames as token
 use Rattle.decl_grammar.specs.Reading.{starts, Outcome, done, fault, deep, left, ◌>>=◌, Fails, one_at}
 use Rattle.decl_grammar.specs.Form.{Nest, enum_rest, counts, Of, first_of, Form, maybe, nest, first, with_front, turned}
 use Rattle.decl_grammar.specs.Types.{comma_item, list_or_none, one_and_rest, annotations, annotation, name}
@@ -47,7 +48,7 @@ free-is m free room ts = nest-is room m ts ∙ ap (λ (c : Bool). enter_if m c r
 -- ---- rows of parts with commas between them, and maybe one behind the last
 
 abbrev pub comma : List ℕ
-comma = operator 7 ∷ []
+comma = operator token.comma ∷ []
 
 abbrev second_of : {A B : Type 0} → A × B → B
 second_of x = x.1

@@ -4,6 +4,7 @@ use Rattle.std.specs.Prelude.{◌||◌, ◌&&◌, nat_lt}
 use Rattle.std.proofs.Math.Bool.{or-false}
 use Rattle.std.proofs.lemmas.Bool.{eqb-true}
 use Rattle.decl_grammar.specs.Symbols.{operator}
+use Rattle.decl_grammar.specs.TokenNames as token
 use Rattle.decl_grammar.specs.declared.symbol.Symbol.{Symbol}
 use Rattle.decl_grammar.specs.Reading.{has, starts}
 use Rattle.decl_grammar.specs.Form.{Part, one_of, bracketed, arguments, annotated, created, type_reference, tested, tested_name, tested_dim, Nest, type_arguments, created_arguments, array_value, nested_annotation, first_name, constant_value, expression_part, nested_type, modifiers, plain_modifiers, static_word, import_rest, enum_rest, param_rest, first_rest, value_and_rest, expression_rest, initialiser, value_end, constant_items, constant_chain, first_of, names, ats, Form, terminal, pair, turn, maybe, many, either, seen, nest, over, attempt, nullable, first}
@@ -115,9 +116,9 @@ more_of_part (one_of ks) = []
 more_of_part (bracketed ks) = []
 more_of_part arguments = []
 more_of_part annotated = []
-more_of_part created = operator 8 ∷ operator 14 ∷ []
+more_of_part created = operator token.dot ∷ operator token.less_than ∷ []
 more_of_part type_reference = []
-more_of_part tested = operator 8 ∷ operator 0 ∷ ats
+more_of_part tested = operator token.dot ∷ operator token.open_parenthesis ∷ ats
 more_of_part tested_name = []
 more_of_part tested_dim = []
 
@@ -125,24 +126,24 @@ abbrev pub more_of : Nest → List ℕ
 more_of type_arguments = []
 more_of created_arguments = []
 more_of array_value = []
-more_of nested_annotation = operator 8 ∷ operator 0 ∷ []
-more_of constant_value = operator 8 ∷ operator 4 ∷ operator 28 ∷ operator 0 ∷ []
+more_of nested_annotation = operator token.dot ∷ operator token.open_parenthesis ∷ []
+more_of constant_value = operator token.dot ∷ operator token.open_bracket ∷ operator token.plus ∷ operator token.open_parenthesis ∷ []
 more_of (expression_part s p) = more_of_part p
 more_of first_name = []
 more_of nested_type = []
-more_of modifiers = operator 8 ∷ operator 0 ∷ first_of modifiers
-more_of plain_modifiers = operator 8 ∷ operator 0 ∷ first_of modifiers
+more_of modifiers = operator token.dot ∷ operator token.open_parenthesis ∷ first_of modifiers
+more_of plain_modifiers = operator token.dot ∷ operator token.open_parenthesis ∷ first_of modifiers
 more_of static_word = []
-more_of import_rest = operator 8 ∷ []
-more_of enum_rest = operator 7 ∷ operator 0 ∷ operator 2 ∷ operator 8 ∷ (ats ++ names)
-more_of param_rest = operator 4 ∷ operator 7 ∷ ats
-more_of first_rest = operator 4 ∷ operator 7 ∷ operator 8 ∷ ats
+more_of import_rest = operator token.dot ∷ []
+more_of enum_rest = operator token.comma ∷ operator token.open_parenthesis ∷ operator token.open_brace ∷ operator token.dot ∷ (ats ++ names)
+more_of param_rest = operator token.open_bracket ∷ operator token.comma ∷ ats
+more_of first_rest = operator token.open_bracket ∷ operator token.comma ∷ operator token.dot ∷ ats
 more_of (value_and_rest s) = []
 more_of (expression_rest s w a) = []
 more_of initialiser = []
 more_of (value_end s) = []
 more_of constant_items = []
-more_of constant_chain = operator 8 ∷ operator 4 ∷ operator 28 ∷ []
+more_of constant_chain = operator token.dot ∷ operator token.open_bracket ∷ operator token.plus ∷ []
 
 abbrev pub more : {A : Type 0} → Form A → List ℕ
 more (terminal k) = []

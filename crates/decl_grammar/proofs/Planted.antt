@@ -5,6 +5,7 @@ use Rattle.decl_grammar.specs.declared.symbol.Symbol.{Symbol}
 use Rattle.decl_grammar.specs.Reading.{has}
 use Rattle.decl_grammar.specs.Form.{names, ats, primitive_sorts, type_arguments, Form, terminal, pair, turn, maybe, many, either, nest, Begins}
 use Rattle.decl_grammar.specs.Symbols.{word}
+use Rattle.decl_grammar.specs.TokenNames as token
 use Rattle.decl_grammar.specs.Types.{sign, keyword, behind, before, no_pairs, first_and_rest, name, named_text, dot_name, name_chain, first_pair, pairs_or_value, annotation_arguments, annotation_body, annotation, annotations, primitive_type, named_part, next_part, class_type, dim, array_around, class_array, primitive_array, reference, annotated_reference, wildcard_bound, wildcard, type_in, type_argument, next_argument, arguments_form}
 use Rattle.decl_grammar.specs.Expressions.{reference_form}
 use Rattle.decl_grammar.specs.Rule.{WholeAt, BegunAt}
@@ -28,7 +29,7 @@ level-name in_reference e = refl
 level-name in_brackets e = absurd cc
 level-name in_constant e = absurd cc
 
-pub level-dot : (b : Mode) → angular b ≡ true → effect b (sign 8) ≡ level
+pub level-dot : (b : Mode) → angular b ≡ true → effect b (sign token.dot) ≡ level
 level-dot in_arguments e = refl
 level-dot in_reference e = refl
 level-dot in_brackets e = absurd cc
@@ -103,19 +104,19 @@ level-primitive in_reference e = refl
 level-primitive in_brackets e = absurd cc
 level-primitive in_constant e = absurd cc
 
-pub level-extends : (b : Mode) → angular b ≡ true → effect b (keyword 16) ≡ level
+pub level-extends : (b : Mode) → angular b ≡ true → effect b (keyword token.extends) ≡ level
 level-extends in_arguments e = refl
 level-extends in_reference e = refl
 level-extends in_brackets e = absurd cc
 level-extends in_constant e = absurd cc
 
-pub level-super : (b : Mode) → angular b ≡ true → effect b (keyword 39) ≡ level
+pub level-super : (b : Mode) → angular b ≡ true → effect b (keyword token.super) ≡ level
 level-super in_arguments e = refl
 level-super in_reference e = refl
 level-super in_brackets e = absurd cc
 level-super in_constant e = absurd cc
 
-pub level-question : (b : Mode) → angular b ≡ true → effect b (sign 17) ≡ level
+pub level-question : (b : Mode) → angular b ≡ true → effect b (sign token.question) ≡ level
 level-question in_arguments e = refl
 level-question in_reference e = refl
 level-question in_brackets e = absurd cc
@@ -144,7 +145,7 @@ plants-name h g b = plants-terminal h g b names refl
 
 plants-dot-name : (h g : ℕ) (b : Mode) → angular b ≡ true → Plants h g b dot_name
 unfolding dot_name
-plants-dot-name h g b a = plants-pair h g b (sign 8) name (level-dot b a) (plants-terminal h g b (69 ∷ []) refl) (plants-name h g b)
+plants-dot-name h g b a = plants-pair h g b (sign token.dot) name (level-dot b a) (plants-terminal h g b (69 ∷ []) refl) (plants-name h g b)
 
 plants-chain : (h g : ℕ) (b : Mode) → angular b ≡ true → Plants h g b name_chain
 unfolding name_chain
@@ -162,13 +163,13 @@ opens-square in_reference e = refl
 opens-square in_brackets e = absurd cc
 opens-square in_constant e = absurd cc
 
-closes-round : effect in_brackets (either (turn no_pairs (sign 1)) pairs_or_value) ≡ closing 62
+closes-round : effect in_brackets (either (turn no_pairs (sign token.close_parenthesis)) pairs_or_value) ≡ closing 62
 unfolding pairs_or_value first_pair named_text
 closes-round = refl
 
 plants-values : (h g : ℕ) (b : Mode) → angular b ≡ true → Plants h g b annotation_arguments
 unfolding annotation_arguments
-plants-values h g b a = plants-closed h g b 61 (either (turn no_pairs (sign 1)) pairs_or_value) (opens-round b a) refl refl closes-round
+plants-values h g b a = plants-closed h g b 61 (either (turn no_pairs (sign token.close_parenthesis)) pairs_or_value) (opens-round b a) refl refl closes-round
 
 plants-body : (h g : ℕ) (b : Mode) → angular b ≡ true → Plants h g b annotation_body
 unfolding annotation_body
@@ -216,7 +217,7 @@ plants-part h g list b a = plants-pair h g b name (maybe (nest type_arguments)) 
 
 plants-next-part : (h g : ℕ) → PlantsLists h g → (b : Mode) → angular b ≡ true → Plants h g b next_part
 unfolding next_part
-plants-next-part h g list b a = plants-pair h g b (sign 8) (behind annotations named_part) (level-dot b a) (plants-terminal h g b (69 ∷ []) refl) (plants-marked h g b a named_part (plants-part h g list b a))
+plants-next-part h g list b a = plants-pair h g b (sign token.dot) (behind annotations named_part) (level-dot b a) (plants-terminal h g b (69 ∷ []) refl) (plants-marked h g b a named_part (plants-part h g list b a))
 
 plants-parts : (h g : ℕ) → PlantsLists h g → (b : Mode) → angular b ≡ true → Plants h g b (many next_part)
 plants-parts h g list b a = plants-many h g b next_part (level-parts b a) (plants-next-part h g list b a)
@@ -225,12 +226,12 @@ plants-class : (h g : ℕ) → PlantsLists h g → (b : Mode) → angular b ≡ 
 unfolding class_type
 plants-class h g list b a = plants-pair h g b named_part (many next_part) (level-part b a) (plants-part h g list b a) (plants-parts h g list b a)
 
-plants-square : (h g : ℕ) (b : Mode) → angular b ≡ true → Plants h g b (behind (sign 4) (turn array_around (sign 5)))
-plants-square h g b a = plants-closed h g b 65 (turn array_around (sign 5)) (opens-square b a) refl refl refl
+plants-square : (h g : ℕ) (b : Mode) → angular b ≡ true → Plants h g b (behind (sign token.open_bracket) (turn array_around (sign token.close_bracket)))
+plants-square h g b a = plants-closed h g b 65 (turn array_around (sign token.close_bracket)) (opens-square b a) refl refl refl
 
 plants-dim : (h g : ℕ) (b : Mode) → angular b ≡ true → Plants h g b dim
 unfolding dim
-plants-dim h g b a = plants-marked h g b a (behind (sign 4) (turn array_around (sign 5))) (plants-square h g b a)
+plants-dim h g b a = plants-marked h g b a (behind (sign token.open_bracket) (turn array_around (sign token.close_bracket))) (plants-square h g b a)
 
 plants-dims : (h g : ℕ) (b : Mode) → angular b ≡ true → Plants h g b (many dim)
 plants-dims h g b a = plants-many h g b dim (level-dims b a) (plants-dim h g b a)
@@ -260,29 +261,29 @@ plants-annotated h g list b a = plants-marked h g b a reference (plants-referenc
 plants-bound : (h g : ℕ) → PlantsLists h g → (b : Mode) → angular b ≡ true → Plants h g b wildcard_bound
 unfolding wildcard_bound
 plants-bound h g list b a i us t m s (inl p) vs c fill =
-    let r = plants-pair h g b (keyword 16) annotated_reference (level-extends b a) (plants-terminal h g b (word 16 ∷ []) refl) (plants-annotated h g list b a) i us t m s p vs c fill in (r.0, r.1, inl r.2)
+    let r = plants-pair h g b (keyword token.extends) annotated_reference (level-extends b a) (plants-terminal h g b (word token.extends ∷ []) refl) (plants-annotated h g list b a) i us t m s p vs c fill in (r.0, r.1, inl r.2)
 plants-bound h g list b a i us t m s (inr p) vs c fill =
-    let r = plants-pair h g b (keyword 39) annotated_reference (level-super b a) (plants-terminal h g b (word 39 ∷ []) refl) (plants-annotated h g list b a) i us t m s p vs c fill in (r.0, r.1, inr r.2)
+    let r = plants-pair h g b (keyword token.super) annotated_reference (level-super b a) (plants-terminal h g b (word token.super ∷ []) refl) (plants-annotated h g list b a) i us t m s p vs c fill in (r.0, r.1, inr r.2)
 
 plants-wildcard : (h g : ℕ) → PlantsLists h g → (b : Mode) → angular b ≡ true → Plants h g b wildcard
 unfolding wildcard
-plants-wildcard h g list b a = plants-pair h g b (sign 17) (maybe wildcard_bound) (level-question b a) (plants-terminal h g b (78 ∷ []) refl) (plants-bound h g list b a)
+plants-wildcard h g list b a = plants-pair h g b (sign token.question) (maybe wildcard_bound) (level-question b a) (plants-terminal h g b (78 ∷ []) refl) (plants-bound h g list b a)
 
 plants-argument : (h g : ℕ) → PlantsLists h g → (b : Mode) → angular b ≡ true → Plants h g b type_argument
 unfolding type_argument
 plants-argument h g list b a =
     plants-marked h g b a (either wildcard (turn type_in reference)) (plants-either h g b wildcard (turn type_in reference) (plants-wildcard h g list b a) (plants-reference h g list b a))
 
-comma-level : effect in_arguments (sign 7) ≡ level
+comma-level : effect in_arguments (sign token.comma) ≡ level
 comma-level = refl
 
 plants-next-argument : (h g : ℕ) → PlantsLists h g → Plants h g in_arguments next_argument
 unfolding next_argument
-plants-next-argument h g list = plants-pair h g in_arguments (sign 7) type_argument comma-level (plants-terminal h g in_arguments (68 ∷ []) refl) (plants-argument h g list in_arguments refl)
+plants-next-argument h g list = plants-pair h g in_arguments (sign token.comma) type_argument comma-level (plants-terminal h g in_arguments (68 ∷ []) refl) (plants-argument h g list in_arguments refl)
 
-plants-inner : (h g : ℕ) → PlantsLists h g → Plants h g in_arguments (before (turn first_and_rest (pair type_argument (many next_argument))) (sign 13))
+plants-inner : (h g : ℕ) → PlantsLists h g → Plants h g in_arguments (before (turn first_and_rest (pair type_argument (many next_argument))) (sign token.greater_than))
 plants-inner h g list =
-    plants-pair h g in_arguments (turn first_and_rest (pair type_argument (many next_argument))) (sign 13) level-listed
+    plants-pair h g in_arguments (turn first_and_rest (pair type_argument (many next_argument))) (sign token.greater_than) level-listed
     (plants-pair h g in_arguments type_argument (many next_argument) (level-argument in_arguments refl) (plants-argument h g list in_arguments refl) (plants-many h g in_arguments next_argument level-comma-more (plants-next-argument h g list)))
     (plants-terminal h g in_arguments (74 ∷ []) refl)
 
@@ -306,7 +307,7 @@ in-form h g list b a i u us t m s (inr q) vs c fill =
     let split : u ∷ us ≡ q.0 ++ us = sym (ap (λ (y : List Symbol). y ++ us) q.4.0 ∙ ap (λ (y : Symbol). y ∷ us) (sym r.0)) in
     let y = leads-split q.0 us (k ∷ ks) (s.2 ∷ s.3) (subst (λ (x : List Symbol). Leads x (k ∷ ks) (s.2 ∷ s.3)) split s.5) in
     let inner : Leads us (74 ∷ k ∷ ks) (s.2 ∷ s.3) = subst (λ (x : List ℕ). Leads us x (s.2 ∷ s.3)) (leads-same q.0 (k ∷ ks) y.0 (74 ∷ k ∷ ks) y.1 (l k ks s.4)) y.2 in
-    let p = plants-inner h g list i us t m (74, k ∷ ks, s.2, s.3, refl, inner, s.6, s.7) (subst (λ (x : List Symbol). Begins (WholeAt h) (BegunAt h) (before (turn first_and_rest (pair type_argument (many next_argument))) (sign 13)) x m) r.1 q.5) vs c fill in
+    let p = plants-inner h g list i us t m (74, k ∷ ks, s.2, s.3, refl, inner, s.6, s.7) (subst (λ (x : List Symbol). Begins (WholeAt h) (BegunAt h) (before (turn first_and_rest (pair type_argument (many next_argument))) (sign token.greater_than)) x m) r.1 q.5) vs c fill in
     (p.0, p.1, inr (q.0, us ++ t ∷ vs, q.2, longer-by (u ∷ us) q.0 us vs t split, q.4, p.2))
 
 pub plants-list : (h g : ℕ) → PlantsLists h g
@@ -323,6 +324,6 @@ plants-list (suc h) g b a i (u ∷ us) t m s (inr q) vs c fill =
 pub plants-type : (h g : ℕ) → Plants h g in_reference reference_form
 unfolding reference_form
 plants-type h g =
-    plants-pair h g in_reference (nest type_arguments) (pair (many next_part) (pair (many dim) (sign 11))) refl (plants-list h g in_reference refl)
-    (plants-pair h g in_reference (many next_part) (pair (many dim) (sign 11)) (level-parts in_reference refl) (plants-parts h g (plants-list h g) in_reference refl)
-    (plants-pair h g in_reference (many dim) (sign 11) (level-dims in_reference refl) (plants-dims h g in_reference refl) (plants-terminal h g in_reference (72 ∷ []) refl)))
+    plants-pair h g in_reference (nest type_arguments) (pair (many next_part) (pair (many dim) (sign token.double_colon))) refl (plants-list h g in_reference refl)
+    (plants-pair h g in_reference (many next_part) (pair (many dim) (sign token.double_colon)) (level-parts in_reference refl) (plants-parts h g (plants-list h g) in_reference refl)
+    (plants-pair h g in_reference (many dim) (sign token.double_colon) (level-dims in_reference refl) (plants-dims h g in_reference refl) (plants-terminal h g in_reference (72 ∷ []) refl)))

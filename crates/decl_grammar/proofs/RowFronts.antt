@@ -3,6 +3,7 @@ use Rattle.std.proofs.Common.{◌≡◌, ℕ, zero, suc, Option, Some, None, sub
 use Rattle.decl_grammar.specs.declared.symbol.Symbol.{Symbol}
 use Rattle.decl_grammar.specs.Form.{Wholes, expression_part, conditional, freedom_in, Stands, primitive_sorts, ats, equals, less_sorts, one_of, bracketed, arguments, annotated, created, type_reference, tested, tested_name, tested_dim, Freedom, After, Part, Rest, names, plain_sorts, alone, paired, listed, defaulted, assigned, strict, anywhere, between, name_there, greater, dot, colons, colon_arguments, creation, test, test_name, test_arguments, test_end, expression_rest, value_end, Form, turn, either, nest, attempt, Is}
 use Rattle.decl_grammar.specs.Symbols.{word, operator, numbers}
+use Rattle.decl_grammar.specs.TokenNames as token
 use Rattle.decl_grammar.specs.Expressions.{in_condition, behind_condition, in_lambda, part_symbols, step, told_steps, new_step, two_readings, less_form, plain_dots, plain_squares, greater_dots, greater_squares, dot_form, square_form, other_steps, signs_form, no_symbols, rest_form, expression}
 use Rattle.decl_grammar.specs.Rule.{WholeAt}
 use Rattle.decl_grammar.proofs.Rivals.{WholeUp, Upto}
@@ -56,8 +57,8 @@ new-fronts v up s ih w between = fronts-step v up s ih created refl w creation
 new-fronts v up s ih w name_there = fronts-step v up s ih created refl w creation
 new-fronts v up s ih w greater = fronts-step v up s ih created refl w creation
 new-fronts v up s ih w dot = fronts-step v up s ih created refl w creation
-new-fronts v up s ih w colons = fronts-step v up s ih (one_of (word 30 ∷ [])) refl w between
-new-fronts v up s ih w colon_arguments = fronts-step v up s ih (one_of (word 30 ∷ [])) refl w between
+new-fronts v up s ih w colons = fronts-step v up s ih (one_of (word token.new ∷ [])) refl w between
+new-fronts v up s ih w colon_arguments = fronts-step v up s ih (one_of (word token.new ∷ [])) refl w between
 new-fronts v up s ih w creation = fronts-step v up s ih created refl w creation
 new-fronts v up s ih w test = fronts-step v up s ih created refl w creation
 new-fronts v up s ih w test_name = fronts-step v up s ih created refl w creation
@@ -66,12 +67,12 @@ new-fronts v up s ih w test_end = fronts-step v up s ih created refl w creation
 
 told-fronts : (v : Wholes) (up : WholeUp v Whole) (s : Stands) → RestFronts v s → (sorts : List ℕ) → part_effect in_brackets (one_of sorts) ≡ level → (w : Freedom) (a : After) → Fronts v s (told_steps s sorts w a)
 unfolding numbers told_steps
-told-fronts v up s ih sorts even w a = (fronts-either v s (step s (one_of sorts) w name_there) (either (step s (one_of plain_sorts) w between) (either (step s (bracketed (operator 0 ∷ [])) w between) (either (new_step s w a) (either (step s tested w test) (either (step s (one_of (operator 13 ∷ [])) w greater) (either (step s (one_of (operator 17 ∷ [])) (in_condition w) between) (either (step s (one_of (operator 18 ∷ [])) (behind_condition w) between) (step s (one_of (operator 19 ∷ [])) (in_lambda w) between)))))))) (fronts-step v up s ih (one_of sorts) even w name_there) (fronts-either v s (step s (one_of plain_sorts) w between) (either (step s (bracketed (operator 0 ∷ [])) w between) (either (new_step s w a) (either (step s tested w test) (either (step s (one_of (operator 13 ∷ [])) w greater) (either (step s (one_of (operator 17 ∷ [])) (in_condition w) between) (either (step s (one_of (operator 18 ∷ [])) (behind_condition w) between) (step s (one_of (operator 19 ∷ [])) (in_lambda w) between))))))) (fronts-step v up s ih (one_of plain_sorts) refl w between) (fronts-either v s (step s (bracketed (operator 0 ∷ [])) w between) (either (new_step s w a) (either (step s tested w test) (either (step s (one_of (operator 13 ∷ [])) w greater) (either (step s (one_of (operator 17 ∷ [])) (in_condition w) between) (either (step s (one_of (operator 18 ∷ [])) (behind_condition w) between) (step s (one_of (operator 19 ∷ [])) (in_lambda w) between)))))) (fronts-step v up s ih (bracketed (operator 0 ∷ [])) refl w between) (fronts-either v s (new_step s w a) (either (step s tested w test) (either (step s (one_of (operator 13 ∷ [])) w greater) (either (step s (one_of (operator 17 ∷ [])) (in_condition w) between) (either (step s (one_of (operator 18 ∷ [])) (behind_condition w) between) (step s (one_of (operator 19 ∷ [])) (in_lambda w) between))))) (new-fronts v up s ih w a) (fronts-either v s (step s tested w test) (either (step s (one_of (operator 13 ∷ [])) w greater) (either (step s (one_of (operator 17 ∷ [])) (in_condition w) between) (either (step s (one_of (operator 18 ∷ [])) (behind_condition w) between) (step s (one_of (operator 19 ∷ [])) (in_lambda w) between)))) (fronts-step v up s ih tested refl w test) (fronts-either v s (step s (one_of (operator 13 ∷ [])) w greater) (either (step s (one_of (operator 17 ∷ [])) (in_condition w) between) (either (step s (one_of (operator 18 ∷ [])) (behind_condition w) between) (step s (one_of (operator 19 ∷ [])) (in_lambda w) between))) (fronts-step v up s ih (one_of (operator 13 ∷ [])) refl w greater) (fronts-either v s (step s (one_of (operator 17 ∷ [])) (in_condition w) between) (either (step s (one_of (operator 18 ∷ [])) (behind_condition w) between) (step s (one_of (operator 19 ∷ [])) (in_lambda w) between)) (fronts-step v up s ih (one_of (operator 17 ∷ [])) refl (in_condition w) between) (fronts-either v s (step s (one_of (operator 18 ∷ [])) (behind_condition w) between) (step s (one_of (operator 19 ∷ [])) (in_lambda w) between) (fronts-step v up s ih (one_of (operator 18 ∷ [])) refl (behind_condition w) between) (fronts-step v up s ih (one_of (operator 19 ∷ [])) refl (in_lambda w) between)))))))))
+told-fronts v up s ih sorts even w a = (fronts-either v s (step s (one_of sorts) w name_there) (either (step s (one_of plain_sorts) w between) (either (step s (bracketed (operator token.open_parenthesis ∷ [])) w between) (either (new_step s w a) (either (step s tested w test) (either (step s (one_of (operator token.greater_than ∷ [])) w greater) (either (step s (one_of (operator token.question ∷ [])) (in_condition w) between) (either (step s (one_of (operator token.colon ∷ [])) (behind_condition w) between) (step s (one_of (operator token.arrow ∷ [])) (in_lambda w) between)))))))) (fronts-step v up s ih (one_of sorts) even w name_there) (fronts-either v s (step s (one_of plain_sorts) w between) (either (step s (bracketed (operator token.open_parenthesis ∷ [])) w between) (either (new_step s w a) (either (step s tested w test) (either (step s (one_of (operator token.greater_than ∷ [])) w greater) (either (step s (one_of (operator token.question ∷ [])) (in_condition w) between) (either (step s (one_of (operator token.colon ∷ [])) (behind_condition w) between) (step s (one_of (operator token.arrow ∷ [])) (in_lambda w) between))))))) (fronts-step v up s ih (one_of plain_sorts) refl w between) (fronts-either v s (step s (bracketed (operator token.open_parenthesis ∷ [])) w between) (either (new_step s w a) (either (step s tested w test) (either (step s (one_of (operator token.greater_than ∷ [])) w greater) (either (step s (one_of (operator token.question ∷ [])) (in_condition w) between) (either (step s (one_of (operator token.colon ∷ [])) (behind_condition w) between) (step s (one_of (operator token.arrow ∷ [])) (in_lambda w) between)))))) (fronts-step v up s ih (bracketed (operator token.open_parenthesis ∷ [])) refl w between) (fronts-either v s (new_step s w a) (either (step s tested w test) (either (step s (one_of (operator token.greater_than ∷ [])) w greater) (either (step s (one_of (operator token.question ∷ [])) (in_condition w) between) (either (step s (one_of (operator token.colon ∷ [])) (behind_condition w) between) (step s (one_of (operator token.arrow ∷ [])) (in_lambda w) between))))) (new-fronts v up s ih w a) (fronts-either v s (step s tested w test) (either (step s (one_of (operator token.greater_than ∷ [])) w greater) (either (step s (one_of (operator token.question ∷ [])) (in_condition w) between) (either (step s (one_of (operator token.colon ∷ [])) (behind_condition w) between) (step s (one_of (operator token.arrow ∷ [])) (in_lambda w) between)))) (fronts-step v up s ih tested refl w test) (fronts-either v s (step s (one_of (operator token.greater_than ∷ [])) w greater) (either (step s (one_of (operator token.question ∷ [])) (in_condition w) between) (either (step s (one_of (operator token.colon ∷ [])) (behind_condition w) between) (step s (one_of (operator token.arrow ∷ [])) (in_lambda w) between))) (fronts-step v up s ih (one_of (operator token.greater_than ∷ [])) refl w greater) (fronts-either v s (step s (one_of (operator token.question ∷ [])) (in_condition w) between) (either (step s (one_of (operator token.colon ∷ [])) (behind_condition w) between) (step s (one_of (operator token.arrow ∷ [])) (in_lambda w) between)) (fronts-step v up s ih (one_of (operator token.question ∷ [])) refl (in_condition w) between) (fronts-either v s (step s (one_of (operator token.colon ∷ [])) (behind_condition w) between) (step s (one_of (operator token.arrow ∷ [])) (in_lambda w) between) (fronts-step v up s ih (one_of (operator token.colon ∷ [])) refl (behind_condition w) between) (fronts-step v up s ih (one_of (operator token.arrow ∷ [])) refl (in_lambda w) between)))))))))
 
 less-fronts : (v : Wholes) (up : WholeUp v Whole) (s : Stands) → RestFronts v s → (w : Freedom) (a : After) → Fronts v s (less_form s w a)
 unfolding two_readings
 less-fronts v up s ih w between = fronts-step v up s ih (one_of (less_sorts between)) refl w between
-less-fronts v up s ih w name_there = fronts-attempt v s (step s type_reference w colons) (step s (one_of (operator 14 ∷ [])) w between) (fronts-step v up s ih type_reference refl w colons) (fronts-step v up s ih (one_of (operator 14 ∷ [])) refl w between)
+less-fronts v up s ih w name_there = fronts-attempt v s (step s type_reference w colons) (step s (one_of (operator token.less_than ∷ [])) w between) (fronts-step v up s ih type_reference refl w colons) (fronts-step v up s ih (one_of (operator token.less_than ∷ [])) refl w between)
 less-fronts v up s ih w greater = fronts-step v up s ih (one_of (less_sorts greater)) refl w between
 less-fronts v up s ih w dot = fronts-step v up s ih arguments refl w between
 less-fronts v up s ih w colons = fronts-step v up s ih arguments refl w colon_arguments
@@ -84,11 +85,11 @@ less-fronts v up s ih w test_end = fronts-step v up s ih (one_of (less_sorts tes
 
 plain-dots-fronts : (v : Wholes) (up : WholeUp v Whole) (s : Stands) → RestFronts v s → (w : Freedom) → Fronts v s (plain_dots s w)
 unfolding plain_dots
-plain-dots-fronts v up s ih w = (fronts-either v s (step s (one_of (operator 8 ∷ [])) w dot) (step s (one_of (operator 11 ∷ [])) w colons) (fronts-step v up s ih (one_of (operator 8 ∷ [])) refl w dot) (fronts-step v up s ih (one_of (operator 11 ∷ [])) refl w colons))
+plain-dots-fronts v up s ih w = (fronts-either v s (step s (one_of (operator token.dot ∷ [])) w dot) (step s (one_of (operator token.double_colon ∷ [])) w colons) (fronts-step v up s ih (one_of (operator token.dot ∷ [])) refl w dot) (fronts-step v up s ih (one_of (operator token.double_colon ∷ [])) refl w colons))
 
 plain-squares-fronts : (v : Wholes) (up : WholeUp v Whole) (s : Stands) → RestFronts v s → (w : Freedom) → Fronts v s (plain_squares s w)
 unfolding plain_squares
-plain-squares-fronts v up s ih w = (fronts-either v s (step s (bracketed (operator 4 ∷ [])) w between) (step s (one_of ats) w between) (fronts-step v up s ih (bracketed (operator 4 ∷ [])) refl w between) (fronts-step v up s ih (one_of ats) refl w between))
+plain-squares-fronts v up s ih w = (fronts-either v s (step s (bracketed (operator token.open_bracket ∷ [])) w between) (step s (one_of ats) w between) (fronts-step v up s ih (bracketed (operator token.open_bracket ∷ [])) refl w between) (fronts-step v up s ih (one_of ats) refl w between))
 
 greater-dots-fronts : (v : Wholes) (up : WholeUp v Whole) (s : Stands) → RestFronts v s → (w : Freedom) → Fronts v s (greater_dots s w)
 greater-dots-fronts v up alone ih w = fronts-step v up alone ih (one_of []) refl w between
@@ -113,8 +114,8 @@ dot-fronts v up s ih w colons = plain-dots-fronts v up s ih w
 dot-fronts v up s ih w colon_arguments = plain-dots-fronts v up s ih w
 dot-fronts v up s ih w creation = fronts-step v up s ih (one_of []) refl w between
 dot-fronts v up s ih w test = plain-dots-fronts v up s ih w
-dot-fronts v up s ih w test_name = (fronts-either v s (step s tested_name w test_name) (step s (one_of (operator 11 ∷ [])) w colons) (fronts-step v up s ih tested_name refl w test_name) (fronts-step v up s ih (one_of (operator 11 ∷ [])) refl w colons))
-dot-fronts v up s ih w test_arguments = (fronts-either v s (step s tested_name w test_name) (step s (one_of (operator 11 ∷ [])) w colons) (fronts-step v up s ih tested_name refl w test_name) (fronts-step v up s ih (one_of (operator 11 ∷ [])) refl w colons))
+dot-fronts v up s ih w test_name = (fronts-either v s (step s tested_name w test_name) (step s (one_of (operator token.double_colon ∷ [])) w colons) (fronts-step v up s ih tested_name refl w test_name) (fronts-step v up s ih (one_of (operator token.double_colon ∷ [])) refl w colons))
+dot-fronts v up s ih w test_arguments = (fronts-either v s (step s tested_name w test_name) (step s (one_of (operator token.double_colon ∷ [])) w colons) (fronts-step v up s ih tested_name refl w test_name) (fronts-step v up s ih (one_of (operator token.double_colon ∷ [])) refl w colons))
 dot-fronts v up s ih w test_end = plain-dots-fronts v up s ih w
 
 square-fronts : (v : Wholes) (up : WholeUp v Whole) (s : Stands) → RestFronts v s → (w : Freedom) (a : After) → Fronts v s (square_form s w a)
@@ -137,7 +138,7 @@ equals-even anywhere = refl
 
 other-fronts : (v : Wholes) (up : WholeUp v Whole) (s : Stands) → RestFronts v s → (w : Freedom) → Fronts v s (other_steps s w)
 unfolding other_steps
-other-fronts v up s ih w = (fronts-either v s (step s (bracketed (operator 2 ∷ [])) w between) (step s (one_of (equals w)) w between) (fronts-step v up s ih (bracketed (operator 2 ∷ [])) refl w between) (fronts-step v up s ih (one_of (equals w)) (equals-even w) w between))
+other-fronts v up s ih w = (fronts-either v s (step s (bracketed (operator token.open_brace ∷ [])) w between) (step s (one_of (equals w)) w between) (fronts-step v up s ih (bracketed (operator token.open_brace ∷ [])) refl w between) (fronts-step v up s ih (one_of (equals w)) (equals-even w) w between))
 
 signs-fronts : (v : Wholes) (up : WholeUp v Whole) (s : Stands) → RestFronts v s → (w : Freedom) (a : After) → Fronts v s (signs_form s w a)
 unfolding signs_form

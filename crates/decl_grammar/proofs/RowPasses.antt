@@ -4,6 +4,7 @@ use Rattle.decl_grammar.specs.declared.symbol.Symbol.{Symbol}
 use Rattle.decl_grammar.specs.declared.written.Declarator.{Declarator}
 use Rattle.decl_grammar.specs.Form.{conditional, primitive_sorts, ats, equals, less_sorts, one_of, bracketed, arguments, created, type_reference, tested, tested_name, tested_dim, Freedom, After, Part, Rest, names, plain_sorts, assigned, strict, anywhere, between, name_there, greater, dot, colons, colon_arguments, creation, test, test_name, test_arguments, test_end, expression_rest, value_end, Form, turn, either, nest, attempt, Is, Begins}
 use Rattle.decl_grammar.specs.Symbols.{word, operator, numbers}
+use Rattle.decl_grammar.specs.TokenNames as token
 use Rattle.decl_grammar.specs.Expressions.{in_condition, behind_condition, in_lambda, part_symbols, step, told_steps, new_step, two_readings, less_form, plain_dots, plain_squares, greater_dots, greater_squares, dot_form, square_form, other_steps, signs_form, no_symbols, rest_form}
 use Rattle.decl_grammar.specs.Rule.{WholeAt, BegunAt}
 use Rattle.decl_grammar.proofs.Heads.{nil_parts}
@@ -119,8 +120,8 @@ new-passes h ih w between = passes-step h ih created w creation refl
 new-passes h ih w name_there = passes-step h ih created w creation refl
 new-passes h ih w greater = passes-step h ih created w creation refl
 new-passes h ih w dot = passes-step h ih created w creation refl
-new-passes h ih w colons = passes-step h ih (one_of (word 30 ∷ [])) w between refl
-new-passes h ih w colon_arguments = passes-step h ih (one_of (word 30 ∷ [])) w between refl
+new-passes h ih w colons = passes-step h ih (one_of (word token.new ∷ [])) w between refl
+new-passes h ih w colon_arguments = passes-step h ih (one_of (word token.new ∷ [])) w between refl
 new-passes h ih w creation = passes-step h ih created w creation refl
 new-passes h ih w test = passes-step h ih created w creation refl
 new-passes h ih w test_name = passes-step h ih created w creation refl
@@ -129,12 +130,12 @@ new-passes h ih w test_end = passes-step h ih created w creation refl
 
 told-passes : (h : ℕ) → RestPasses h → (sorts : List ℕ) → passing (one_of sorts) name_there ≡ true → (w : Freedom) (a : After) → Passes h (told_steps assigned sorts w a)
 unfolding numbers told_steps
-told-passes h ih sorts even w a = (passes-either h (step assigned (one_of sorts) w name_there) (either (step assigned (one_of plain_sorts) w between) (either (step assigned (bracketed (operator 0 ∷ [])) w between) (either (new_step assigned w a) (either (step assigned tested w test) (either (step assigned (one_of (operator 13 ∷ [])) w greater) (either (step assigned (one_of (operator 17 ∷ [])) (in_condition w) between) (either (step assigned (one_of (operator 18 ∷ [])) (behind_condition w) between) (step assigned (one_of (operator 19 ∷ [])) (in_lambda w) between)))))))) (passes-step h ih (one_of sorts) w name_there even) (passes-either h (step assigned (one_of plain_sorts) w between) (either (step assigned (bracketed (operator 0 ∷ [])) w between) (either (new_step assigned w a) (either (step assigned tested w test) (either (step assigned (one_of (operator 13 ∷ [])) w greater) (either (step assigned (one_of (operator 17 ∷ [])) (in_condition w) between) (either (step assigned (one_of (operator 18 ∷ [])) (behind_condition w) between) (step assigned (one_of (operator 19 ∷ [])) (in_lambda w) between))))))) (passes-step h ih (one_of plain_sorts) w between refl) (passes-either h (step assigned (bracketed (operator 0 ∷ [])) w between) (either (new_step assigned w a) (either (step assigned tested w test) (either (step assigned (one_of (operator 13 ∷ [])) w greater) (either (step assigned (one_of (operator 17 ∷ [])) (in_condition w) between) (either (step assigned (one_of (operator 18 ∷ [])) (behind_condition w) between) (step assigned (one_of (operator 19 ∷ [])) (in_lambda w) between)))))) (passes-step h ih (bracketed (operator 0 ∷ [])) w between refl) (passes-either h (new_step assigned w a) (either (step assigned tested w test) (either (step assigned (one_of (operator 13 ∷ [])) w greater) (either (step assigned (one_of (operator 17 ∷ [])) (in_condition w) between) (either (step assigned (one_of (operator 18 ∷ [])) (behind_condition w) between) (step assigned (one_of (operator 19 ∷ [])) (in_lambda w) between))))) (new-passes h ih w a) (passes-either h (step assigned tested w test) (either (step assigned (one_of (operator 13 ∷ [])) w greater) (either (step assigned (one_of (operator 17 ∷ [])) (in_condition w) between) (either (step assigned (one_of (operator 18 ∷ [])) (behind_condition w) between) (step assigned (one_of (operator 19 ∷ [])) (in_lambda w) between)))) (passes-step h ih tested w test refl) (passes-either h (step assigned (one_of (operator 13 ∷ [])) w greater) (either (step assigned (one_of (operator 17 ∷ [])) (in_condition w) between) (either (step assigned (one_of (operator 18 ∷ [])) (behind_condition w) between) (step assigned (one_of (operator 19 ∷ [])) (in_lambda w) between))) (passes-step h ih (one_of (operator 13 ∷ [])) w greater refl) (passes-either h (step assigned (one_of (operator 17 ∷ [])) (in_condition w) between) (either (step assigned (one_of (operator 18 ∷ [])) (behind_condition w) between) (step assigned (one_of (operator 19 ∷ [])) (in_lambda w) between)) (passes-step h ih (one_of (operator 17 ∷ [])) (in_condition w) between refl) (passes-either h (step assigned (one_of (operator 18 ∷ [])) (behind_condition w) between) (step assigned (one_of (operator 19 ∷ [])) (in_lambda w) between) (passes-step h ih (one_of (operator 18 ∷ [])) (behind_condition w) between refl) (passes-step h ih (one_of (operator 19 ∷ [])) (in_lambda w) between refl)))))))))
+told-passes h ih sorts even w a = (passes-either h (step assigned (one_of sorts) w name_there) (either (step assigned (one_of plain_sorts) w between) (either (step assigned (bracketed (operator token.open_parenthesis ∷ [])) w between) (either (new_step assigned w a) (either (step assigned tested w test) (either (step assigned (one_of (operator token.greater_than ∷ [])) w greater) (either (step assigned (one_of (operator token.question ∷ [])) (in_condition w) between) (either (step assigned (one_of (operator token.colon ∷ [])) (behind_condition w) between) (step assigned (one_of (operator token.arrow ∷ [])) (in_lambda w) between)))))))) (passes-step h ih (one_of sorts) w name_there even) (passes-either h (step assigned (one_of plain_sorts) w between) (either (step assigned (bracketed (operator token.open_parenthesis ∷ [])) w between) (either (new_step assigned w a) (either (step assigned tested w test) (either (step assigned (one_of (operator token.greater_than ∷ [])) w greater) (either (step assigned (one_of (operator token.question ∷ [])) (in_condition w) between) (either (step assigned (one_of (operator token.colon ∷ [])) (behind_condition w) between) (step assigned (one_of (operator token.arrow ∷ [])) (in_lambda w) between))))))) (passes-step h ih (one_of plain_sorts) w between refl) (passes-either h (step assigned (bracketed (operator token.open_parenthesis ∷ [])) w between) (either (new_step assigned w a) (either (step assigned tested w test) (either (step assigned (one_of (operator token.greater_than ∷ [])) w greater) (either (step assigned (one_of (operator token.question ∷ [])) (in_condition w) between) (either (step assigned (one_of (operator token.colon ∷ [])) (behind_condition w) between) (step assigned (one_of (operator token.arrow ∷ [])) (in_lambda w) between)))))) (passes-step h ih (bracketed (operator token.open_parenthesis ∷ [])) w between refl) (passes-either h (new_step assigned w a) (either (step assigned tested w test) (either (step assigned (one_of (operator token.greater_than ∷ [])) w greater) (either (step assigned (one_of (operator token.question ∷ [])) (in_condition w) between) (either (step assigned (one_of (operator token.colon ∷ [])) (behind_condition w) between) (step assigned (one_of (operator token.arrow ∷ [])) (in_lambda w) between))))) (new-passes h ih w a) (passes-either h (step assigned tested w test) (either (step assigned (one_of (operator token.greater_than ∷ [])) w greater) (either (step assigned (one_of (operator token.question ∷ [])) (in_condition w) between) (either (step assigned (one_of (operator token.colon ∷ [])) (behind_condition w) between) (step assigned (one_of (operator token.arrow ∷ [])) (in_lambda w) between)))) (passes-step h ih tested w test refl) (passes-either h (step assigned (one_of (operator token.greater_than ∷ [])) w greater) (either (step assigned (one_of (operator token.question ∷ [])) (in_condition w) between) (either (step assigned (one_of (operator token.colon ∷ [])) (behind_condition w) between) (step assigned (one_of (operator token.arrow ∷ [])) (in_lambda w) between))) (passes-step h ih (one_of (operator token.greater_than ∷ [])) w greater refl) (passes-either h (step assigned (one_of (operator token.question ∷ [])) (in_condition w) between) (either (step assigned (one_of (operator token.colon ∷ [])) (behind_condition w) between) (step assigned (one_of (operator token.arrow ∷ [])) (in_lambda w) between)) (passes-step h ih (one_of (operator token.question ∷ [])) (in_condition w) between refl) (passes-either h (step assigned (one_of (operator token.colon ∷ [])) (behind_condition w) between) (step assigned (one_of (operator token.arrow ∷ [])) (in_lambda w) between) (passes-step h ih (one_of (operator token.colon ∷ [])) (behind_condition w) between refl) (passes-step h ih (one_of (operator token.arrow ∷ [])) (in_lambda w) between refl)))))))))
 
 less-passes : (h : ℕ) → RestPasses h → (w : Freedom) (a : After) → Passes h (less_form assigned w a)
 unfolding two_readings
 less-passes h ih w between = passes-step h ih (one_of (less_sorts between)) w between refl
-less-passes h ih w name_there = passes-attempt h (step assigned type_reference w colons) (step assigned (one_of (operator 14 ∷ [])) w between) (passes-step h ih type_reference w colons refl) (passes-step h ih (one_of (operator 14 ∷ [])) w between refl)
+less-passes h ih w name_there = passes-attempt h (step assigned type_reference w colons) (step assigned (one_of (operator token.less_than ∷ [])) w between) (passes-step h ih type_reference w colons refl) (passes-step h ih (one_of (operator token.less_than ∷ [])) w between refl)
 less-passes h ih w greater = passes-step h ih (one_of (less_sorts greater)) w between refl
 less-passes h ih w dot = passes-step h ih arguments w between refl
 less-passes h ih w colons = passes-step h ih arguments w colon_arguments refl
@@ -147,11 +148,11 @@ less-passes h ih w test_end = passes-step h ih (one_of (less_sorts test_end)) w 
 
 plain-dots-passes : (h : ℕ) → RestPasses h → (w : Freedom) → Passes h (plain_dots assigned w)
 unfolding plain_dots
-plain-dots-passes h ih w = (passes-either h (step assigned (one_of (operator 8 ∷ [])) w dot) (step assigned (one_of (operator 11 ∷ [])) w colons) (passes-step h ih (one_of (operator 8 ∷ [])) w dot refl) (passes-step h ih (one_of (operator 11 ∷ [])) w colons refl))
+plain-dots-passes h ih w = (passes-either h (step assigned (one_of (operator token.dot ∷ [])) w dot) (step assigned (one_of (operator token.double_colon ∷ [])) w colons) (passes-step h ih (one_of (operator token.dot ∷ [])) w dot refl) (passes-step h ih (one_of (operator token.double_colon ∷ [])) w colons refl))
 
 plain-squares-passes : (h : ℕ) → RestPasses h → (w : Freedom) → Passes h (plain_squares assigned w)
 unfolding plain_squares
-plain-squares-passes h ih w = (passes-either h (step assigned (bracketed (operator 4 ∷ [])) w between) (step assigned (one_of ats) w between) (passes-step h ih (bracketed (operator 4 ∷ [])) w between refl) (passes-step h ih (one_of ats) w between refl))
+plain-squares-passes h ih w = (passes-either h (step assigned (bracketed (operator token.open_bracket ∷ [])) w between) (step assigned (one_of ats) w between) (passes-step h ih (bracketed (operator token.open_bracket ∷ [])) w between refl) (passes-step h ih (one_of ats) w between refl))
 
 greater-dots-passes : (h : ℕ) → RestPasses h → (w : Freedom) → Passes h (greater_dots assigned w)
 greater-dots-passes h ih w = plain-dots-passes h ih w
@@ -168,8 +169,8 @@ dot-passes h ih w colons = plain-dots-passes h ih w
 dot-passes h ih w colon_arguments = plain-dots-passes h ih w
 dot-passes h ih w creation = passes-step h ih (one_of []) w between refl
 dot-passes h ih w test = plain-dots-passes h ih w
-dot-passes h ih w test_name = (passes-either h (step assigned tested_name w test_name) (step assigned (one_of (operator 11 ∷ [])) w colons) (passes-step h ih tested_name w test_name refl) (passes-step h ih (one_of (operator 11 ∷ [])) w colons refl))
-dot-passes h ih w test_arguments = (passes-either h (step assigned tested_name w test_name) (step assigned (one_of (operator 11 ∷ [])) w colons) (passes-step h ih tested_name w test_name refl) (passes-step h ih (one_of (operator 11 ∷ [])) w colons refl))
+dot-passes h ih w test_name = (passes-either h (step assigned tested_name w test_name) (step assigned (one_of (operator token.double_colon ∷ [])) w colons) (passes-step h ih tested_name w test_name refl) (passes-step h ih (one_of (operator token.double_colon ∷ [])) w colons refl))
+dot-passes h ih w test_arguments = (passes-either h (step assigned tested_name w test_name) (step assigned (one_of (operator token.double_colon ∷ [])) w colons) (passes-step h ih tested_name w test_name refl) (passes-step h ih (one_of (operator token.double_colon ∷ [])) w colons refl))
 dot-passes h ih w test_end = plain-dots-passes h ih w
 
 square-passes : (h : ℕ) → RestPasses h → (w : Freedom) (a : After) → Passes h (square_form assigned w a)
@@ -192,7 +193,7 @@ equals-even anywhere = refl
 
 other-passes : (h : ℕ) → RestPasses h → (w : Freedom) → Passes h (other_steps assigned w)
 unfolding other_steps
-other-passes h ih w = (passes-either h (step assigned (bracketed (operator 2 ∷ [])) w between) (step assigned (one_of (equals w)) w between) (passes-step h ih (bracketed (operator 2 ∷ [])) w between refl) (passes-step h ih (one_of (equals w)) w between (equals-even w)))
+other-passes h ih w = (passes-either h (step assigned (bracketed (operator token.open_brace ∷ [])) w between) (step assigned (one_of (equals w)) w between) (passes-step h ih (bracketed (operator token.open_brace ∷ [])) w between refl) (passes-step h ih (one_of (equals w)) w between (equals-even w)))
 
 signs-passes : (h : ℕ) → RestPasses h → (w : Freedom) (a : After) → Passes h (signs_form assigned w a)
 unfolding signs_form

@@ -3,6 +3,7 @@ use Rattle.std.specs.Prelude.{nat_le}
 use Rattle.std.proofs.Common.{◌≡◌, ℕ, arith, Bool, true, false, Option, Some, None, List, [], ◌∷◌, ◌++◌, length, refl, sym, ap, ◌∙◌, append_assoc}
 use Rattle.decl_grammar.specs.declared.symbol.Symbol.{Symbol}
 use Rattle.decl_grammar.specs.Symbols.{operator}
+use Rattle.decl_grammar.specs.TokenNames as token
 use Rattle.decl_grammar.specs.Reading.{Outcome, done, fault, deep, ◌>>=◌}
 use Rattle.decl_grammar.specs.Form.{Stands, Freedom, After, Part, Rest, Behind, freedom_in, between, colons, one_of, type_reference, expression_rest, value_end, turn, nest, attempted, failed_at, further_of, turned}
 use Rattle.decl_grammar.specs.Expressions.{part_symbols, with_symbols, step, two_readings, no_symbols}
@@ -106,14 +107,14 @@ row-types s far us room w v a ts ps rest e d =
 
 -- no type there: the operator, and the place at which the type failed
 pub row-compares : (s : Stands) (far : Option (List Symbol)) (us : List Symbol) (room : ℕ) (w v : Freedom) (a : After) (ts at ps rest : List Symbol) → read_nest room (expression_rest s w a) ts ≡ reads room (two_readings s v) ts
-    → reads room (part_symbols s type_reference) ts ≡ fault at → reads room (part_symbols s (one_of (operator 14 ∷ []))) ts ≡ done ps rest → row_from s far us room w a ts ≡ row_from s (Some (further_than far at)) (us ++ ps) room v between rest
+    → reads room (part_symbols s type_reference) ts ≡ fault at → reads room (part_symbols s (one_of (operator token.less_than ∷ []))) ts ≡ done ps rest → row_from s far us room w a ts ≡ row_from s (Some (further_than far at)) (us ++ ps) room v between rest
 unfolding two_readings
 row-compares s far us room w v a ts at ps rest e d f =
-    let other = reads room (step s (one_of (operator 14 ∷ [])) v between) ts in
+    let other = reads room (step s (one_of (operator token.less_than ∷ [])) v between) ts in
     ap (λ (o : Outcome (Rest s)). failed_upto far (turned (λ y. with_symbols (us, y)) o)) (e ∙ ap (λ (o : Outcome (Rest s)). attempted o other) (step-fails s type_reference v colons room ts at d))
     ∙ ap (λ (o : Outcome (Rest s)). failed_upto far o) (failed-turned at (λ y. with_symbols (us, y)) other)
     ∙ failed-more far at (turned (λ y. with_symbols (us, y)) other)
-    ∙ ap (λ (o : Outcome (Rest s)). failed_upto (Some (further_than far at)) (turned (λ y. with_symbols (us, y)) o)) (step-reads s (one_of (operator 14 ∷ [])) v between room ts ps rest f)
+    ∙ ap (λ (o : Outcome (Rest s)). failed_upto (Some (further_than far at)) (turned (λ y. with_symbols (us, y)) o)) (step-reads s (one_of (operator token.less_than ∷ [])) v between room ts ps rest f)
     ∙ ap (λ (o : Outcome (Rest s)). failed_upto (Some (further_than far at)) o) (turned-more us ps (read_nest room (expression_rest s v between) rest))
 
 -- a type that is too deep
@@ -121,9 +122,9 @@ pub row-sinks : (s : Stands) (far : Option (List Symbol)) (us : List Symbol) (ro
     → reads room (part_symbols s type_reference) ts ≡ deep at → row_from s far us room w a ts ≡ deep at
 unfolding two_readings
 row-sinks s None us room w v a ts at e d =
-    ap (λ (o : Outcome (Rest s)). turned (λ y. with_symbols (us, y)) o) (e ∙ ap (λ (o : Outcome (Rest s)). attempted o (reads room (step s (one_of (operator 14 ∷ [])) v between) ts)) (step-deep s type_reference v colons room ts at d))
+    ap (λ (o : Outcome (Rest s)). turned (λ y. with_symbols (us, y)) o) (e ∙ ap (λ (o : Outcome (Rest s)). attempted o (reads room (step s (one_of (operator token.less_than ∷ [])) v between) ts)) (step-deep s type_reference v colons room ts at d))
 row-sinks s (Some to) us room w v a ts at e d =
-    ap (λ (o : Outcome (Rest s)). failed_at to (turned (λ y. with_symbols (us, y)) o)) (e ∙ ap (λ (o : Outcome (Rest s)). attempted o (reads room (step s (one_of (operator 14 ∷ [])) v between) ts)) (step-deep s type_reference v colons room ts at d))
+    ap (λ (o : Outcome (Rest s)). failed_at to (turned (λ y. with_symbols (us, y)) o)) (e ∙ ap (λ (o : Outcome (Rest s)). attempted o (reads room (step s (one_of (operator token.less_than ∷ [])) v between) ts)) (step-deep s type_reference v colons room ts at d))
 
 -- the end of the expression, and what stands behind it
 pub row-ends : (s : Stands) (far : Option (List Symbol)) (us : List Symbol) (room : ℕ) (w : Freedom) (a : After) (ts : List Symbol) → read_nest room (expression_rest s w a) ts ≡ reads room (turn no_symbols (nest (value_end s))) ts

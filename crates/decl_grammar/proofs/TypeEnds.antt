@@ -3,6 +3,7 @@ use Rattle.std.proofs.Common.{◌≡◌, ℕ, Bool, true, false, List, [], ◌�
 use Rattle.std.specs.Prelude.{◌&&◌}
 use Rattle.decl_grammar.specs.declared.symbol.Symbol.{Symbol}
 use Rattle.decl_grammar.specs.Symbols.{operator}
+use Rattle.decl_grammar.specs.TokenNames as token
 use Rattle.decl_grammar.specs.Form.{Stands, Freedom, Rest, alone, paired, listed, defaulted, assigned, between, colons, one_of, type_reference, Form, terminal, pair, turn, maybe, many, either, seen, nest, over, attempt, Wholes, Begun, Is, Begins}
 use Rattle.decl_grammar.specs.Expressions.{part_symbols, step}
 use Rattle.decl_grammar.proofs.OneToken.{both}
@@ -47,7 +48,7 @@ type-closes listed w = refl
 type-closes defaulted w = refl
 type-closes assigned w = refl
 
-less-closes : (s : Stands) (w : Freedom) → effect in_brackets (step s (one_of (operator 14 ∷ [])) w between) ≡ closing (last_end s)
+less-closes : (s : Stands) (w : Freedom) → effect in_brackets (step s (one_of (operator token.less_than ∷ [])) w between) ≡ closing (last_end s)
 unfolding step part_symbols
 less-closes alone w = refl
 less-closes paired w = refl
@@ -56,8 +57,8 @@ less-closes defaulted w = refl
 less-closes assigned w = refl
 
 -- In every place, a field too, neither of the two goes on where the other one is whole.
-pub type-ends : (s : Stands) (w : Freedom) (us vs : List Symbol) (x : Rest s) (n : ℕ) → Is Whole (step s type_reference w colons) us x → Begins Whole Started (step s (one_of (operator 14 ∷ [])) w between) (us ++ vs) n → vs ≡ []
-type-ends s w us vs x n p q = ends-there (step s type_reference w colons) (step s (one_of (operator 14 ∷ [])) w between) (last_end s) (type-closes s w) (less-closes s w) us vs x n p q
+pub type-ends : (s : Stands) (w : Freedom) (us vs : List Symbol) (x : Rest s) (n : ℕ) → Is Whole (step s type_reference w colons) us x → Begins Whole Started (step s (one_of (operator token.less_than ∷ [])) w between) (us ++ vs) n → vs ≡ []
+type-ends s w us vs x n p q = ends-there (step s type_reference w colons) (step s (one_of (operator token.less_than ∷ [])) w between) (last_end s) (type-closes s w) (less-closes s w) us vs x n p q
 
-pub less-ends : (s : Stands) (w : Freedom) (us vs : List Symbol) (x : Rest s) (n : ℕ) → Is Whole (step s (one_of (operator 14 ∷ [])) w between) us x → Begins Whole Started (step s type_reference w colons) (us ++ vs) n → vs ≡ []
-less-ends s w us vs x n p q = ends-there (step s (one_of (operator 14 ∷ [])) w between) (step s type_reference w colons) (last_end s) (less-closes s w) (type-closes s w) us vs x n p q
+pub less-ends : (s : Stands) (w : Freedom) (us vs : List Symbol) (x : Rest s) (n : ℕ) → Is Whole (step s (one_of (operator token.less_than ∷ [])) w between) us x → Begins Whole Started (step s type_reference w colons) (us ++ vs) n → vs ≡ []
+less-ends s w us vs x n p q = ends-there (step s (one_of (operator token.less_than ∷ [])) w between) (step s type_reference w colons) (last_end s) (less-closes s w) (type-closes s w) us vs x n p q

@@ -3,6 +3,7 @@ use Rattle.std.proofs.Common.{◌≡◌, ℕ, zero, suc, ◌≤◌, ◌+◌, ari
 use Rattle.std.specs.Prelude.{◌&&◌}
 use Rattle.decl_grammar.specs.declared.symbol.Symbol.{Symbol}
 use Rattle.decl_grammar.specs.Symbols.{operator}
+use Rattle.decl_grammar.specs.TokenNames as token
 use Rattle.decl_grammar.specs.Reading.{has}
 use Rattle.decl_grammar.specs.Form.{Stands, Freedom, Rest, freedom_in, is_value, opened, alone, paired, listed, defaulted, assigned, anywhere, between, colons, one_of, type_reference, expression_part, expression_rest, nest, Is, Begins}
 use Rattle.decl_grammar.specs.Expressions.{with_symbols, reference_form, part_symbols, step}
@@ -62,7 +63,7 @@ counted s k = go (is_value s)
     go true = omega arith
     go false = omega arith
 
-at-most : (s : Stands) (k n : ℕ) → k ≡ 0 → n ≡ opened (expression_part s (one_of (operator 14 ∷ []))) k → n ≤ extra (is_value s)
+at-most : (s : Stands) (k n : ℕ) → k ≡ 0 → n ≡ opened (expression_part s (one_of (operator token.less_than ∷ []))) k → n ≤ extra (is_value s)
 at-most s k n z e = subst (λ (x : ℕ). x ≤ extra (is_value s)) (sym e) (go (is_value s))
   where
     go : (c : Bool) → cond c (suc k) k ≤ extra c
@@ -97,12 +98,12 @@ row-tested true = refl
 row-tested false = refl
 
 -- the comparison behind its `<`
-less-held : (s : Stands) (w : Freedom) (t : Symbol) (us : List Symbol) (n : ℕ) (ms : List ℕ) → Leads us (lists (suc zero)) ms → Begins Whole Started (step s (one_of (operator 14 ∷ [])) w between) (t ∷ us) n → Held (extra (is_value s)) (suc zero) us n
+less-held : (s : Stands) (w : Freedom) (t : Symbol) (us : List Symbol) (n : ℕ) (ms : List ℕ) → Leads us (lists (suc zero)) ms → Begins Whole Started (step s (one_of (operator token.less_than ∷ [])) w between) (t ∷ us) n → Held (extra (is_value s)) (suc zero) us n
 unfolding step part_symbols
 less-held s w t us n ms l (inl (inl b)) = absurd (let z = b.0 in cc)
-less-held s w t us n ms l (inl (inr q)) = inl (at-most s q.2 n (one-begun s (operator 14 ∷ []) (t ∷ us) q.2 q.5).0 q.4)
+less-held s w t us n ms l (inl (inr q)) = inl (at-most s q.2 n (one-begun s (operator token.less_than ∷ []) (t ∷ us) q.2 q.5).0 q.4)
 less-held s w t us n ms l (inr q) =
-    let one = one-whole s (operator 14 ∷ []) q.0 q.4.0.1 q.4.1.0 in
+    let one = one-whole s (operator token.less_than ∷ []) q.0 q.4.0.1 q.4.1.0 in
     let r = behind-one t one.0 us q.0 q.1 q.3 one.1 in
     rest us n (subst (λ (x : List Symbol). Begins Whole Started (nest (expression_rest s w between)) x n) r.1 q.5) l
   where
@@ -111,9 +112,9 @@ less-held s w t us n ms l (inr q) =
     rest us n (inr p) l = held-at (is_value s) p.5.0 (expression_rest s w between) (row-tested (is_value s)) (suc zero) us n ms l (inr (p.0, p.1, p.2, p.3, p.4, p.5.1))
 
 -- where the type is begun, it may have as much open as the comparison
-type-open : (s : Stands) (w : Freedom) (us : List Symbol) (j n : ℕ) → Started (expression_part s type_reference) us j → Begins Whole Started (step s (one_of (operator 14 ∷ [])) w between) us n
+type-open : (s : Stands) (w : Freedom) (us : List Symbol) (j n : ℕ) → Started (expression_part s type_reference) us j → Begins Whole Started (step s (one_of (operator token.less_than ∷ [])) w between) us n
     → (k : ℕ) × (n ≤ extra (is_value s) + k) × Started (expression_part s type_reference) us k
-type-open s w [] j n b c = (j, omega (arith, nil-open Whole Started (step s (one_of (operator 14 ∷ [])) w between) [] n refl c), b)
+type-open s w [] j n b c = (j, omega (arith, nil-open Whole Started (step s (one_of (operator token.less_than ∷ [])) w between) [] n refl c), b)
 type-open s w (t ∷ us) j n (zero, b) c = absurd b
 type-open s w (t ∷ us) j n (suc h, b) c =
     let o : Opened in_reference (closing 201) (t ∷ us) = opened-any in_reference (expression_part s type_reference) (t ∷ us) j (suc h, b) in
@@ -134,16 +135,16 @@ append-end [] rs e = e
 append-end (u ∷ us) rs e = ap (λ (x : List Symbol). u ∷ x) (append-end us rs e)
 
 -- an initialiser over a whole type goes on behind its `::`
-pub less-reached : (t : Symbol) (u : List Symbol) (r : Symbol) (rs : List Symbol) (n : ℕ) → Leads u (lists (suc zero)) [] → Begins Whole Started (step assigned (one_of (operator 14 ∷ [])) anywhere between) (t ∷ u ++ r ∷ rs) n → Reached (r ∷ rs) n
+pub less-reached : (t : Symbol) (u : List Symbol) (r : Symbol) (rs : List Symbol) (n : ℕ) → Leads u (lists (suc zero)) [] → Begins Whole Started (step assigned (one_of (operator token.less_than ∷ [])) anywhere between) (t ∷ u ++ r ∷ rs) n → Reached (r ∷ rs) n
 unfolding step part_symbols
 less-reached t u r rs n l (inl (inl b)) = absurd (let z = b.0 in cc)
-less-reached t u r rs n l (inl (inr q)) = absurd (too-long (one-begun assigned (operator 14 ∷ []) (t ∷ u ++ r ∷ rs) q.2 q.5).1)
+less-reached t u r rs n l (inl (inr q)) = absurd (too-long (one-begun assigned (operator token.less_than ∷ []) (t ∷ u ++ r ∷ rs) q.2 q.5).1)
   where
     too-long : (t ∷ u ++ r ∷ rs ≡ []) ⊎ ((q : Symbol) × (t ∷ u ++ r ∷ rs ≡ q ∷ [])) → ⊥
     too-long (inl e) = cc
     too-long (inr p) = let z : u ++ r ∷ rs ≡ [] = (let y = p.1 in cc) in let x = (nil_parts u (r ∷ rs) (sym z)).1 in cc
 less-reached t u r rs n l (inr q) =
-    let one = one-whole assigned (operator 14 ∷ []) q.0 q.4.0.1 q.4.1.0 in
+    let one = one-whole assigned (operator token.less_than ∷ []) q.0 q.4.0.1 q.4.1.0 in
     let e = behind-one t one.0 (u ++ r ∷ rs) q.0 q.1 q.3 one.1 in
     rest (subst (λ (x : List Symbol). Begins Whole Started (nest (expression_rest assigned anywhere between)) x n) e.1 q.5)
   where
@@ -164,7 +165,7 @@ same-rest (Some (suc h)) w vs y is = is
 
 -- ---- the type has at least as much open
 
-part-dominated : (s : Stands) (w : Freedom) (us : List Symbol) (j n : ℕ) → Started (expression_part s type_reference) us j → Begins Whole Started (step s (one_of (operator 14 ∷ [])) w between) us n
+part-dominated : (s : Stands) (w : Freedom) (us : List Symbol) (j n : ℕ) → Started (expression_part s type_reference) us j → Begins Whole Started (step s (one_of (operator token.less_than ∷ [])) w between) us n
     → (t : Symbol) (us' : List Symbol) → us ≡ t ∷ us' → (k : ℕ) × (n ≤ k) × Begins Whole Started (step s type_reference w colons) us k
 unfolding step part_symbols
 part-dominated s w us j n b c t us' e =
@@ -182,11 +183,11 @@ unfolding step
 rest-begun us a r rs n e is b = inr (a, r ∷ rs, a, e, is, inr (r, rs, n, refl, refl, b))
 
 past-dominated : (s : Stands) (w : Freedom) (us a c : List Symbol) (x : Unit {0}) (m n : ℕ) → us ≡ a ++ c → Whole (expression_part s type_reference) a x → Begins Whole Started (nest (expression_rest s (freedom_in s w) colons)) c m
-    → Is Whole (part_symbols s type_reference) a (a) → Begins Whole Started (step s (one_of (operator 14 ∷ [])) (freedom_in s w) between) us n → (k : ℕ) × (n ≤ k) × Begins Whole Started (step s type_reference (freedom_in s w) colons) us k
-past-dominated alone w us a c x m n e whole rest is q = absurd (values-past alone refl w a c x n whole (subst (λ (u : List Symbol). Begins Whole Started (step alone (one_of (operator 14 ∷ [])) w between) u n) e q))
-past-dominated paired w us a c x m n e whole rest is q = absurd (values-past paired refl w a c x n whole (subst (λ (u : List Symbol). Begins Whole Started (step paired (one_of (operator 14 ∷ [])) w between) u n) e q))
-past-dominated listed w us a c x m n e whole rest is q = absurd (values-past listed refl w a c x n whole (subst (λ (u : List Symbol). Begins Whole Started (step listed (one_of (operator 14 ∷ [])) w between) u n) e q))
-past-dominated defaulted w us a c x m n e whole rest is q = absurd (values-past defaulted refl w a c x n whole (subst (λ (u : List Symbol). Begins Whole Started (step defaulted (one_of (operator 14 ∷ [])) w between) u n) e q))
+    → Is Whole (part_symbols s type_reference) a (a) → Begins Whole Started (step s (one_of (operator token.less_than ∷ [])) (freedom_in s w) between) us n → (k : ℕ) × (n ≤ k) × Begins Whole Started (step s type_reference (freedom_in s w) colons) us k
+past-dominated alone w us a c x m n e whole rest is q = absurd (values-past alone refl w a c x n whole (subst (λ (u : List Symbol). Begins Whole Started (step alone (one_of (operator token.less_than ∷ [])) w between) u n) e q))
+past-dominated paired w us a c x m n e whole rest is q = absurd (values-past paired refl w a c x n whole (subst (λ (u : List Symbol). Begins Whole Started (step paired (one_of (operator token.less_than ∷ [])) w between) u n) e q))
+past-dominated listed w us a c x m n e whole rest is q = absurd (values-past listed refl w a c x n whole (subst (λ (u : List Symbol). Begins Whole Started (step listed (one_of (operator token.less_than ∷ [])) w between) u n) e q))
+past-dominated defaulted w us a c x m n e whole rest is q = absurd (values-past defaulted refl w a c x n whole (subst (λ (u : List Symbol). Begins Whole Started (step defaulted (one_of (operator token.less_than ∷ [])) w between) u n) e q))
 past-dominated assigned w us a [] x m n e whole rest is q =
     let t = type-split assigned a x whole in
     let there : us ≡ a = e ∙ append-end a [] refl in
@@ -194,13 +195,13 @@ past-dominated assigned w us a [] x m n e whole rest is q =
     part-dominated assigned anywhere us b.0 n (subst (λ (u : List Symbol). Started (expression_part assigned type_reference) u b.0) (sym there) b.1) q t.0 t.1 (there ∙ t.2)
 past-dominated assigned w us a (r ∷ rs) x m n e whole rest is q =
     let t = type-split assigned a x whole in
-    let c : Reached (r ∷ rs) n = less-reached t.0 t.1 r rs n t.3 (subst (λ (u : List Symbol). Begins Whole Started (step assigned (one_of (operator 14 ∷ [])) anywhere between) u n) (e ∙ ap (λ (u : List Symbol). u ++ r ∷ rs) t.2) q) in
+    let c : Reached (r ∷ rs) n = less-reached t.0 t.1 r rs n t.3 (subst (λ (u : List Symbol). Begins Whole Started (step assigned (one_of (operator token.less_than ∷ [])) anywhere between) u n) (e ∙ ap (λ (u : List Symbol). u ++ r ∷ rs) t.2) q) in
     (n, omega arith, rest-begun us a r rs n e is (same-begun c.0 (r ∷ rs) n c.1))
 
-types-dominated : (s : Stands) (w : Freedom) (us : List Symbol) (m n : ℕ) → Begins Whole Started (step s type_reference (freedom_in s w) colons) us m → Begins Whole Started (step s (one_of (operator 14 ∷ [])) (freedom_in s w) between) us n
+types-dominated : (s : Stands) (w : Freedom) (us : List Symbol) (m n : ℕ) → Begins Whole Started (step s type_reference (freedom_in s w) colons) us m → Begins Whole Started (step s (one_of (operator token.less_than ∷ [])) (freedom_in s w) between) us n
     → (k : ℕ) × (n ≤ k) × Begins Whole Started (step s type_reference (freedom_in s w) colons) us k
 unfolding step part_symbols
-types-dominated s w us m n (inl (inl b)) q = (m, omega (arith, nil-open Whole Started (step s (one_of (operator 14 ∷ [])) (freedom_in s w) between) us n b.0 q), inl (inl b))
+types-dominated s w us m n (inl (inl b)) q = (m, omega (arith, nil-open Whole Started (step s (one_of (operator token.less_than ∷ [])) (freedom_in s w) between) us n b.0 q), inl (inl b))
 types-dominated s w us m n (inl (inr b)) q = part-dominated s (freedom_in s w) us b.2 n b.5 q b.0 b.1 b.3
 types-dominated s w us m n (inr b) q = past-dominated s w us b.0 b.1 b.4.0.1 m n b.3 b.4.1.0 b.5 (part-itself s b.0 b.4.0.1 b.4.1.0) q
 
@@ -211,9 +212,9 @@ upto-past : (l : Option ℕ) (u : List Symbol) (r : Symbol) (rs : List Symbol) (
 upto-past None u r rs z l is = let p = (rest-passes is.0).0 anywhere between (suc zero) u r rs z l is.1 in (p.0, p.1, (is.0, p.2), p.3)
 upto-past (Some h) u r rs z l is = (rest-passes h).0 anywhere between (suc zero) u r rs z l is
 
-fields-agree : (l : Option ℕ) (ts : List Symbol) (x y : Rest assigned) → Is (Sole Whole (Upto l)) (step assigned type_reference anywhere colons) ts x → Is (Upto l) (step assigned (one_of (operator 14 ∷ [])) anywhere between) ts y → x ≡ y
+fields-agree : (l : Option ℕ) (ts : List Symbol) (x y : Rest assigned) → Is (Sole Whole (Upto l)) (step assigned type_reference anywhere colons) ts x → Is (Upto l) (step assigned (one_of (operator token.less_than ∷ [])) anywhere between) ts y → x ≡ y
 unfolding step part_symbols
-fields-agree l ts x y p q = go p.1.0 p.1.1 p.1.2 p.1.3.0.1 p.1.3.1.0.0 (p.1.3.2 ∙ p.1.3.1.1) p.1.4 q.1.0 q.1.1 q.1.2 (one-whole assigned (operator 14 ∷ []) q.1.0 q.1.3.0.1 (upto-any l (expression_part assigned (one_of (operator 14 ∷ []))) q.1.0 q.1.3.0.1 q.1.3.1.0)) (q.1.3.2 ∙ q.1.3.1.1) q.1.4
+fields-agree l ts x y p q = go p.1.0 p.1.1 p.1.2 p.1.3.0.1 p.1.3.1.0.0 (p.1.3.2 ∙ p.1.3.1.1) p.1.4 q.1.0 q.1.1 q.1.2 (one-whole assigned (operator token.less_than ∷ []) q.1.0 q.1.3.0.1 (upto-any l (expression_part assigned (one_of (operator token.less_than ∷ []))) q.1.0 q.1.3.0.1 q.1.3.1.0)) (q.1.3.2 ∙ q.1.3.1.1) q.1.4
   where
     go : (a rest : List Symbol) → ts ≡ a ++ rest → (v : Unit {0}) → Whole (expression_part assigned type_reference) a v → p.0.0 ≡ a → Sole Whole (Upto l) (expression_rest assigned anywhere colons) rest p.0.1
         → (b c : List Symbol) → ts ≡ b ++ c → (t : Symbol) × (b ≡ t ∷ []) → q.0.0 ≡ b → Upto l (expression_rest assigned anywhere between) c q.0.1 → x ≡ y
@@ -229,30 +230,30 @@ fields-agree l ts x y p q = go p.1.0 p.1.1 p.1.2 p.1.3.0.1 p.1.3.1.0.0 (p.1.3.2 
         ∙ ap (λ (z : Rest assigned). glue b z) (sym past.3) ∙ ap (λ (u : List Symbol). glue u q.0.1) (sym qe) ∙ sym q.2
 
 -- an initialiser that goes on behind a whole type is whole as that type and what stands behind it
-pub less-past : (us : List Symbol) (r : Symbol) (rs : List Symbol) (x : Rest assigned) → Whole (expression_part assigned type_reference) us tt → Is Whole (step assigned (one_of (operator 14 ∷ [])) anywhere between) (us ++ r ∷ rs) x
+pub less-past : (us : List Symbol) (r : Symbol) (rs : List Symbol) (x : Rest assigned) → Whole (expression_part assigned type_reference) us tt → Is Whole (step assigned (one_of (operator token.less_than ∷ [])) anywhere between) (us ++ r ∷ rs) x
     → (y : Rest assigned) × Is Whole (step assigned type_reference anywhere colons) (us ++ r ∷ rs) y
 unfolding step part_symbols
 less-past us r rs x whole q =
     let t = type-split assigned us tt whole in
-    let one = one-whole assigned (operator 14 ∷ []) q.1.0 q.1.3.0.1 q.1.3.1.0 in
+    let one = one-whole assigned (operator token.less_than ∷ []) q.1.0 q.1.3.0.1 q.1.3.1.0 in
     let k = behind-one t.0 one.0 (t.1 ++ r ∷ rs) q.1.0 q.1.1 (ap (λ (u : List Symbol). u ++ r ∷ rs) (sym t.2) ∙ q.1.2) one.1 in
     let past = upto-past None t.1 r rs q.0.1 t.3 (subst (λ (u : List Symbol). Whole (expression_rest assigned anywhere between) u q.0.1) k.1 q.1.4) in
     (with_symbols (us, past.1), ((us, past.1), (us, r ∷ rs, refl, ((us, tt), (whole, refl), refl), same-rest None past.0 (r ∷ rs) past.1 past.2), refl))
 
-values-agree : (s : Stands) → is_value s ≡ true → (w : Freedom) (l : Option ℕ) (ts : List Symbol) (x y : Rest s) → Is (Sole Whole (Upto l)) (step s type_reference w colons) ts x → Is (Upto l) (step s (one_of (operator 14 ∷ [])) w between) ts y → x ≡ y
+values-agree : (s : Stands) → is_value s ≡ true → (w : Freedom) (l : Option ℕ) (ts : List Symbol) (x y : Rest s) → Is (Sole Whole (Upto l)) (step s type_reference w colons) ts x → Is (Upto l) (step s (one_of (operator token.less_than ∷ [])) w between) ts y → x ≡ y
 values-agree s e w l ts x y p q =
     absurd (values-exclude s e w ts x y
     (Is-up (Sole Whole (Upto l)) Whole (sole-up Whole (Upto l)) (step s type_reference w colons) ts x p)
-    (Is-up (Upto l) Whole (upto-any l) (step s (one_of (operator 14 ∷ [])) w between) ts y q))
+    (Is-up (Upto l) Whole (upto-any l) (step s (one_of (operator token.less_than ∷ [])) w between) ts y q))
 
-types-agree : (s : Stands) (w : Freedom) (l : Option ℕ) (ts : List Symbol) (x y : Rest s) → Is (Sole Whole (Upto l)) (step s type_reference (freedom_in s w) colons) ts x → Is (Upto l) (step s (one_of (operator 14 ∷ [])) (freedom_in s w) between) ts y → x ≡ y
+types-agree : (s : Stands) (w : Freedom) (l : Option ℕ) (ts : List Symbol) (x y : Rest s) → Is (Sole Whole (Upto l)) (step s type_reference (freedom_in s w) colons) ts x → Is (Upto l) (step s (one_of (operator token.less_than ∷ [])) (freedom_in s w) between) ts y → x ≡ y
 types-agree alone w = values-agree alone refl w
 types-agree paired w = values-agree paired refl w
 types-agree listed w = values-agree listed refl w
 types-agree defaulted w = values-agree defaulted refl w
 types-agree assigned w = fields-agree
 
-pub type-rivals : (s : Stands) (w : Freedom) → Rivals Whole Started (step s type_reference (freedom_in s w) colons) (step s (one_of (operator 14 ∷ [])) (freedom_in s w) between)
+pub type-rivals : (s : Stands) (w : Freedom) → Rivals Whole Started (step s type_reference (freedom_in s w) colons) (step s (one_of (operator token.less_than ∷ [])) (freedom_in s w) between)
 type-rivals s w = record {
   agree = types-agree s w;
   first_ends = type-ends s (freedom_in s w);

@@ -4,6 +4,7 @@ use Rattle.std.specs.Prelude.{nat_le}
 use Rattle.std.proofs.lemmas.List.{append-nil}
 use Rattle.decl_grammar.specs.declared.symbol.Symbol.{Symbol}
 use Rattle.decl_grammar.specs.Symbols.{numbers, operator}
+use Rattle.decl_grammar.specs.TokenNames as token
 use Rattle.decl_grammar.specs.Reading.{starts, Outcome, done, fault, deep, left, ◌>>=◌}
 use Rattle.decl_grammar.specs.Form.{Stands, Freedom, Rest, freedom_in, is_value, alone, paired, listed, defaulted, assigned, strict, conditional, anywhere, between, colons, one_of, type_reference, expression_part, expression_rest, Form, Is, Begins, attempted, failed_at, further_of, turned}
 use Rattle.decl_grammar.specs.Expressions.{part_symbols, with_symbols, step, two_readings}
@@ -31,7 +32,7 @@ abbrev Typed : (s : Stands) → Freedom → Form (Rest s)
 Typed s w = step s type_reference w colons
 
 abbrev Compared : (s : Stands) → Freedom → Form (Rest s)
-Compared s w = step s (one_of (operator 14 ∷ [])) w between
+Compared s w = step s (one_of (operator token.less_than ∷ [])) w between
 
 typed-ok : (s : Stands) (w : Freedom) → ok (Typed s (freedom_in s w)) ≡ true
 unfolding numbers step part_symbols

@@ -16,6 +16,7 @@ use Rattle.decl_grammar.proofs.TypeEnds.{flat, flat-open}
 use Rattle.decl_grammar.proofs.TypeParts.{lists}
 use Rattle.decl_grammar.proofs.Plants.{Hole, at_list, at_mark, opens_hole, Fills, angular}
 use Rattle.decl_grammar.proofs.Planted.{level-name, level-dot, level-marks, level-parts, level-dims}
+use Rattle.decl_grammar.specs.TokenNames as token
 
 -- a part of a value counts
 abbrev pub extra : Bool → ℕ
@@ -119,11 +120,11 @@ holds-part h = holds-pair h name (maybe (nest type_arguments)) level-name (holds
 
 holds-next-part : (h : ℕ) → Holds h next_part
 unfolding next_part
-holds-next-part h = holds-pair h (sign 8) (behind annotations named_part) level-dot (holds-flat h (sign 8) refl) (holds-marked h named_part (holds-part h))
+holds-next-part h = holds-pair h (sign token.dot) (behind annotations named_part) level-dot (holds-flat h (sign token.dot) refl) (holds-marked h named_part (holds-part h))
 
 holds-dim : (h : ℕ) → Holds h dim
 unfolding dim
-holds-dim h = holds-marked h (behind (sign 4) (turn array_around (sign 5))) (holds-flat h (behind (sign 4) (turn array_around (sign 5))) refl)
+holds-dim h = holds-marked h (behind (sign token.open_bracket) (turn array_around (sign token.close_bracket))) (holds-flat h (behind (sign token.open_bracket) (turn array_around (sign token.close_bracket))) refl)
 
 pub holds-dims : (h : ℕ) → Holds h (many dim)
 holds-dims h = holds-many h dim level-dims (holds-dim h)
@@ -137,6 +138,6 @@ list-keeps in_constant e = absurd cc
 pub holds-reference : (h : ℕ) → Holds h reference_form
 unfolding reference_form
 holds-reference h =
-    holds-pair h (nest type_arguments) (pair (many next_part) (pair (many dim) (sign 11))) list-keeps (holds-list h)
-    (holds-pair h (many next_part) (pair (many dim) (sign 11)) level-parts (holds-many h next_part level-parts (holds-next-part h))
-    (holds-pair h (many dim) (sign 11) level-dims (holds-dims h) (holds-flat h (sign 11) refl)))
+    holds-pair h (nest type_arguments) (pair (many next_part) (pair (many dim) (sign token.double_colon))) list-keeps (holds-list h)
+    (holds-pair h (many next_part) (pair (many dim) (sign token.double_colon)) level-parts (holds-many h next_part level-parts (holds-next-part h))
+    (holds-pair h (many dim) (sign token.double_colon) level-dims (holds-dims h) (holds-flat h (sign token.double_colon) refl)))

@@ -5,6 +5,7 @@ use Rattle.decl_tree.specs.declared.type_text.NamedPart.{NamedPart}
 use Rattle.apt_base.specs.declared.around.Around.{Around}
 use Rattle.decl_grammar.specs.declared.symbol.Symbol.{Symbol}
 use Rattle.decl_grammar.specs.Symbols.{operator, numbers}
+use Rattle.decl_grammar.specs.TokenNames as token
 use Rattle.decl_grammar.specs.Reading.{has}
 use Rattle.decl_grammar.specs.Form.{Stands, Freedom, Rest, is_value, first_of, names, ats, alone, paired, listed, defaulted, assigned, strict, conditional, anywhere, between, name_there, greater, colons, one_of, annotated, type_reference, type_arguments, expression_part, expression_rest, value_end, Form, pair, turn, many, either, nest, first, Each, Is, Begins}
 use Rattle.decl_grammar.specs.Types.{sign, annotation, annotations, next_part, dim}
@@ -89,7 +90,7 @@ marks-step s e w t us n a (suc h, b) = Begins-up (WholeAt h) Whole (BegunAt h) S
 -- ---- the parts of a type behind its first arguments
 
 abbrev pub later_parts : Form (List NamedPart × (List Around × Symbol))
-later_parts = pair (many next_part) (pair (many dim) (sign 11))
+later_parts = pair (many next_part) (pair (many dim) (sign token.double_colon))
 
 pub reference-split : (s : Stands) (us : List Symbol) (x : Unit {0}) → Whole (expression_part s type_reference) us x
     → (args : List Symbol) × (bs : List Symbol) × (y : List TypeText) × (z : List NamedPart × (List Around × Symbol)) × (us ≡ args ++ bs) × Whole type_arguments args y × Is Whole later_parts bs z
@@ -169,17 +170,17 @@ parts-not-crossed s e (t ∷ bs) rs z n is (inr q) =
     (parts-head t.sort (Is-head Whole full-any heads-any later_parts t bs z (t ∷ bs) refl is))
 
 -- Behind a whole type with its `::` no comparison goes on.
-pub values-past : (s : Stands) → is_value s ≡ true → (w : Freedom) (us rs : List Symbol) (x : Unit {0}) (n : ℕ) → Whole (expression_part s type_reference) us x → Begins Whole Started (step s (one_of (operator 14 ∷ [])) w between) (us ++ rs) n → ⊥
+pub values-past : (s : Stands) → is_value s ≡ true → (w : Freedom) (us rs : List Symbol) (x : Unit {0}) (n : ℕ) → Whole (expression_part s type_reference) us x → Begins Whole Started (step s (one_of (operator token.less_than ∷ [])) w between) (us ++ rs) n → ⊥
 values-past s e w us rs x n whole b =
     let p = reference-split s us x whole in
     parts-not-crossed s e p.1 rs p.3 n p.6
     (arguments-crossed s w p.0 (p.1 ++ rs) p.2 n p.5
-    (subst (λ (u : List Symbol). Begins Whole Started (step s (one_of (operator 14 ∷ [])) w between) u n) (ap (λ (u : List Symbol). u ++ rs) p.4 ∙ append_assoc p.0 p.1 rs) b))
+    (subst (λ (u : List Symbol). Begins Whole Started (step s (one_of (operator token.less_than ∷ [])) w between) u n) (ap (λ (u : List Symbol). u ++ rs) p.4 ∙ append_assoc p.0 p.1 rs) b))
 
 -- In a value no symbols are both.
-pub values-exclude : (s : Stands) → is_value s ≡ true → (w : Freedom) (ts : List Symbol) (x y : Rest s) → Is Whole (step s type_reference w colons) ts x → Is Whole (step s (one_of (operator 14 ∷ [])) w between) ts y → ⊥
+pub values-exclude : (s : Stands) → is_value s ≡ true → (w : Freedom) (ts : List Symbol) (x y : Rest s) → Is Whole (step s type_reference w colons) ts x → Is Whole (step s (one_of (operator token.less_than ∷ [])) w between) ts y → ⊥
 unfolding step part_symbols
 values-exclude s e w ts x y p q =
-    let b = Is-begins Whole Started full-any begins-any (step s (one_of (operator 14 ∷ [])) w between) ts y q in
+    let b = Is-begins Whole Started full-any begins-any (step s (one_of (operator token.less_than ∷ [])) w between) ts y q in
     let a = p.1 in
-    values-past s e w a.0 a.1 a.3.0.1 b.0 a.3.1.0 (subst (λ (u : List Symbol). Begins Whole Started (step s (one_of (operator 14 ∷ [])) w between) u b.0) a.2 b.1)
+    values-past s e w a.0 a.1 a.3.0.1 b.0 a.3.1.0 (subst (λ (u : List Symbol). Begins Whole Started (step s (one_of (operator token.less_than ∷ [])) w between) u b.0) a.2 b.1)

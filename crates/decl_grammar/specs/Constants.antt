@@ -14,15 +14,16 @@ use Rattle.decl_tree.specs.declared.type_text.NamedPart.{NamedPart, roll-NamedPa
 use Rattle.decl_tree.specs.declared.annotation.ValueText.{ValueText}
 use Rattle.decl_tree.specs.declared.annotation.ValueText.TheVariants as value
 use Rattle.decl_grammar.specs.declared.symbol.Symbol.{Symbol}
-use Rattle.decl_grammar.specs.Symbols.{integer, floating, null, word, operator}
+use Rattle.decl_grammar.specs.Symbols.{named, integer, floating, null, word, operator}
+use Rattle.decl_grammar.specs.TokenNames as token
 
 -- ---- symbols
 
 abbrev pub is_name : Symbol → Bool
-is_name s = nat_le s.sort 1
+is_name s = nat_le s.sort named
 
 abbrev pub is_literal : Symbol → Bool
-is_literal s = nat_le 2 s.sort && nat_le s.sort null
+is_literal s = nat_le integer s.sort && nat_le s.sort null
 
 abbrev pub is_numeral : Symbol → Bool
 is_numeral s = (s.sort == integer) || (s.sort == floating)
@@ -36,7 +37,7 @@ is_word n s = s.sort == word n
 
 -- `.` and a name
 abbrev pub is_dot_name : Symbol → Symbol → Bool
-is_dot_name s t = is_operator 8 s && is_name t
+is_dot_name s t = is_operator token.dot s && is_name t
 
 -- the name behind the dot that stands first, where there are such
 abbrev pub dotted_name : List Symbol → Option Symbol
@@ -104,9 +105,9 @@ chain_of (s ∷ ss) = if is_name s then chain_from s.text ss else None
 -- the primitive type that the reserved word of this sort is
 abbrev pub primitive_of : ℕ → Option PrimitiveKind
 primitive_of n =
-    if n == word 2 then Some primitive.Boolean else if n == word 4 then Some primitive.Byte else if n == word 36 then Some primitive.Short
-    else if n == word 26 then Some primitive.Int else if n == word 28 then Some primitive.Long else if n == word 7 then Some primitive.Char
-    else if n == word 19 then Some primitive.Float else if n == word 13 then Some primitive.Double else None
+    if n == word token.boolean then Some primitive.Boolean else if n == word token.byte then Some primitive.Byte else if n == word token.short then Some primitive.Short
+    else if n == word token.int then Some primitive.Int else if n == word token.long then Some primitive.Long else if n == word token.char then Some primitive.Char
+    else if n == word token.float then Some primitive.Float else if n == word token.double then Some primitive.Double else None
 
 abbrev pub named_part_of : List ℕ → Option (List TypeText) → NamedPart
 named_part_of name arguments = roll-NamedPart (record { name = name; arguments = arguments })
@@ -122,11 +123,11 @@ type_of of items = roll-TypeText (record { around = items; base = of })
 abbrev pub dim_here : List Symbol → Bool
 dim_here [] = false
 dim_here (s ∷ []) = false
-dim_here (s ∷ t ∷ ss) = is_operator 4 s && is_operator 5 t
+dim_here (s ∷ t ∷ ss) = is_operator token.open_bracket s && is_operator token.close_bracket t
 
 -- these are `.` and `class`
 abbrev pub class_here : List Symbol → Bool
-class_here (s ∷ t ∷ []) = is_operator 8 s && is_word 8 t
+class_here (s ∷ t ∷ []) = is_operator token.dot s && is_word token.class t
 class_here _ = false
 
 -- the rest of a class literal: pairs of brackets, and then `.` and `class`
@@ -152,7 +153,7 @@ class_void ss = if class_here ss then Some (type_of (base.Primitive primitive.Vo
 -- a class literal (JLS 15.8.2)
 abbrev pub class_of : List Symbol → Option TypeText
 class_of [] = None
-class_of (s ∷ ss) = if is_name s then class_named (name_part s.text ∷ []) ss else if is_word 47 s then class_void ss else class_primitive (primitive_of s.sort) ss
+class_of (s ∷ ss) = if is_name s then class_named (name_part s.text ∷ []) ss else if is_word token.void s then class_void ss else class_primitive (primitive_of s.sort) ss
 
 -- ---- values
 
@@ -165,7 +166,7 @@ literal_of (s ∷ t ∷ ss) = None
 abbrev pub negated_of : List Symbol → Option ValueText
 negated_of [] = None
 negated_of (s ∷ []) = None
-negated_of (s ∷ t ∷ []) = if is_operator 29 s && is_numeral t then Some (value.Negated t.text) else None
+negated_of (s ∷ t ∷ []) = if is_operator token.minus s && is_numeral t then Some (value.Negated t.text) else None
 negated_of (s ∷ t ∷ u ∷ ss) = None
 
 -- a literal, or names that dots join
@@ -178,7 +179,7 @@ every [] = Some []
 every (x ∷ xs) = option_and_then (λ y. option_map (λ ys. y ∷ ys) (every xs)) x
 
 abbrev pub is_plus : Symbol → Bool
-is_plus s = is_operator 28 s
+is_plus s = is_operator token.plus s
 
 -- the literals and names between which a `+` stands
 abbrev pub parts_of : List Symbol → Option (List ValueText)

@@ -9,6 +9,7 @@ use Rattle.decl_grammar.specs.declared.written.Declarator.{Declarator}
 use Rattle.decl_grammar.specs.declared.written.NameAt.{NameAt}
 use Rattle.decl_grammar.specs.declared.symbol.Symbol.{Symbol}
 use Rattle.decl_grammar.specs.Symbols.{word, operator, numbers, integer, floating}
+use Rattle.decl_grammar.specs.TokenNames as token
 use Rattle.decl_grammar.specs.Reading.{Outcome, done, fault}
 use Rattle.std.specs.List.{list_any}
 use Rattle.decl_grammar.specs.Constants.{expression_of, joined}
@@ -28,7 +29,7 @@ created_part = turn silently (pair name (maybe (nest created_arguments)))
 
 -- . Annotations CreatedPart
 unfoldable pub next_created_part : Form (Unit {0})
-next_created_part = behind (sign 8) (behind annotations created_part)
+next_created_part = behind (sign token.dot) (behind annotations created_part)
 
 -- the class that is created, or the primitive type of an array that is (JLS 15.9, 15.10.1)
 unfoldable pub created_type : Form (Unit {0})
@@ -36,28 +37,28 @@ created_type = either (turn silently (pair created_part (many next_created_part)
 
 -- new [TypeArguments] Annotations CreatedType
 unfoldable pub creation_form : Form (Unit {0})
-creation_form = behind (keyword 30) (behind (maybe (nest type_arguments)) (behind annotations created_type))
+creation_form = behind (keyword token.new) (behind (maybe (nest type_arguments)) (behind annotations created_type))
 
 -- < [TypeArgument { , TypeArgument }] >
 unfoldable pub created_arguments_form : Form (List TypeText)
 created_arguments_form =
-    behind (sign 14) (before (turn list_or_none (maybe (turn first_and_rest (pair type_argument (many next_argument))))) (sign 13))
+    behind (sign token.less_than) (before (turn list_or_none (maybe (turn first_and_rest (pair type_argument (many next_argument))))) (sign token.greater_than))
 
 -- instanceof Annotations (JLS 15.20.2)
 unfoldable pub test_form : Form (Unit {0})
-test_form = turn silently (pair (keyword 25) annotations)
+test_form = turn silently (pair (keyword token.instanceof) annotations)
 
 -- . Annotations Name
 unfoldable pub test_name_form : Form (Unit {0})
-test_name_form = turn silently (behind (sign 8) (behind annotations name))
+test_name_form = turn silently (behind (sign token.dot) (behind annotations name))
 
 -- Behind the first name of a type with arguments: TypeArguments { . Annotations Name [TypeArguments] } { [ ] } ::
 unfoldable pub reference_form : Form (Unit {0})
-reference_form = turn silently (pair (nest type_arguments) (pair (many next_part) (pair (many dim) (sign 11))))
+reference_form = turn silently (pair (nest type_arguments) (pair (many next_part) (pair (many dim) (sign token.double_colon))))
 
 -- @ Name { . Name } [( .. )]
 unfoldable pub annotation_over : Form (Unit {0})
-annotation_over = turn silently (pair (terminal ats) (pair name_chain (maybe (over (operator 0 ∷ [])))))
+annotation_over = turn silently (pair (terminal ats) (pair name_chain (maybe (over (operator token.open_parenthesis ∷ [])))))
 
 -- annotations, and the first symbol of the type behind them (JLS 15.13)
 unfoldable pub annotated_form : Form (Unit {0})
@@ -110,16 +111,16 @@ in_lambda anywhere = anywhere
 
 -- `.`, and `::`
 unfoldable pub plain_dots : (s : Stands) → Freedom → Form (Rest s)
-plain_dots s w = either (step s (one_of (operator 8 ∷ [])) w dot) (step s (one_of (operator 11 ∷ [])) w colons)
+plain_dots s w = either (step s (one_of (operator token.dot ∷ [])) w dot) (step s (one_of (operator token.double_colon ∷ [])) w colons)
 
 -- `[` and all up to its `]`, and `@`
 unfoldable pub plain_squares : (s : Stands) → Freedom → Form (Rest s)
-plain_squares s w = either (step s (bracketed (operator 4 ∷ [])) w between) (step s (one_of ats) w between)
+plain_squares s w = either (step s (bracketed (operator token.open_bracket ∷ [])) w between) (step s (one_of ats) w between)
 
 -- `new`, which behind `::` names a constructor (JLS 15.13)
 abbrev pub new_step : (s : Stands) → Freedom → After → Form (Rest s)
-new_step s w colons = step s (one_of (word 30 ∷ [])) w between
-new_step s w colon_arguments = step s (one_of (word 30 ∷ [])) w between
+new_step s w colons = step s (one_of (word token.new ∷ [])) w between
+new_step s w colon_arguments = step s (one_of (word token.new ∷ [])) w between
 new_step s w a = step s created w creation
 
 -- what may stand anywhere, with these names
@@ -127,18 +128,18 @@ unfoldable pub told_steps : (s : Stands) → List ℕ → Freedom → After → 
 told_steps s sorts w a =
     either (step s (one_of sorts) w name_there)
     (either (step s (one_of plain_sorts) w between)
-    (either (step s (bracketed (operator 0 ∷ [])) w between)
+    (either (step s (bracketed (operator token.open_parenthesis ∷ [])) w between)
     (either (new_step s w a)
     (either (step s tested w test)
-    (either (step s (one_of (operator 13 ∷ [])) w greater)
-    (either (step s (one_of (operator 17 ∷ [])) (in_condition w) between)
-    (either (step s (one_of (operator 18 ∷ [])) (behind_condition w) between)
-    (step s (one_of (operator 19 ∷ [])) (in_lambda w) between))))))))
+    (either (step s (one_of (operator token.greater_than ∷ [])) w greater)
+    (either (step s (one_of (operator token.question ∷ [])) (in_condition w) between)
+    (either (step s (one_of (operator token.colon ∷ [])) (behind_condition w) between)
+    (step s (one_of (operator token.arrow ∷ [])) (in_lambda w) between))))))))
 
 -- Behind a name: the rest of a type with arguments that a `::` follows, or the operator `<`.
 unfoldable pub two_readings : (s : Stands) → Freedom → Form (Rest s)
 two_readings s w =
-    attempt (step s type_reference w colons) (step s (one_of (operator 14 ∷ [])) w between)
+    attempt (step s type_reference w colons) (step s (one_of (operator token.less_than ∷ [])) w between)
 
 -- `<` by what stands before it
 abbrev pub less_form : (s : Stands) → Freedom → After → Form (Rest s)
@@ -160,8 +161,8 @@ greater_squares s w = step s annotated w name_there
 
 -- `.` and `::` by what stands before them
 abbrev pub dot_form : (s : Stands) → Freedom → After → Form (Rest s)
-dot_form s w test_name = either (step s tested_name w test_name) (step s (one_of (operator 11 ∷ [])) w colons)
-dot_form s w test_arguments = either (step s tested_name w test_name) (step s (one_of (operator 11 ∷ [])) w colons)
+dot_form s w test_name = either (step s tested_name w test_name) (step s (one_of (operator token.double_colon ∷ [])) w colons)
+dot_form s w test_arguments = either (step s tested_name w test_name) (step s (one_of (operator token.double_colon ∷ [])) w colons)
 dot_form s w creation = step s (one_of []) w between
 dot_form s w greater = greater_dots s w
 dot_form s w a = plain_dots s w
@@ -176,7 +177,7 @@ square_form s w a = plain_squares s w
 
 -- `{` and `=`
 unfoldable pub other_steps : (s : Stands) → Freedom → Form (Rest s)
-other_steps s w = either (step s (bracketed (operator 2 ∷ [])) w between) (step s (one_of (equals w)) w between)
+other_steps s w = either (step s (bracketed (operator token.open_brace ∷ [])) w between) (step s (one_of (equals w)) w between)
 
 abbrev pub no_symbols : {B : Type 0} → B → List Symbol × B
 no_symbols b = ([], b)
@@ -193,7 +194,7 @@ rest_form s w a =
 
 -- as a value an expression begins with no `@`, `{` and `=`
 unfoldable pub value_squares : (s : Stands) → Form (Rest s)
-value_squares s = step s (bracketed (operator 4 ∷ [])) strict between
+value_squares s = step s (bracketed (operator token.open_bracket ∷ [])) strict between
 
 -- an expression, and what stands behind it
 abbrev pub expression : (s : Stands) → Form (Rest s)
@@ -223,12 +224,12 @@ listed_values = turn value_and_more (nest (value_and_rest listed))
 
 -- the end of an array, behind a `,` or not
 unfoldable pub listed_end : Form (List ValueText)
-listed_end = turn no_values (sign 3)
+listed_end = turn no_values (sign token.close_brace)
 
 -- { [Value { , Value }] [,] }
 unfoldable pub array_form : Form ValueText
 array_form =
-    turn array_of (seen as_written (behind (sign 2) (either listed_end (either (behind (sign 7) listed_end) listed_values))))
+    turn array_of (seen as_written (behind (sign token.open_brace) (either listed_end (either (behind (sign token.comma) listed_end) listed_values))))
 
 abbrev pub value_there : {B : Type 0} → List Symbol × B → ValueText × B
 value_there x = (expression_of x.0, x.1)
@@ -254,11 +255,11 @@ value_form defaulted = value_of defaulted
 
 -- , Name = Value, or )
 unfoldable pub paired_end : Form (List ElementValuePair)
-paired_end = either (turn no_pairs (sign 1)) (behind (sign 7) next_pair)
+paired_end = either (turn no_pairs (sign token.close_parenthesis)) (behind (sign token.comma) next_pair)
 
 -- , Value, or [,] }
 unfoldable pub listed_more : Form (List ValueText)
-listed_more = either listed_end (behind (sign 7) (either listed_end listed_values))
+listed_more = either listed_end (behind (sign token.comma) (either listed_end listed_values))
 
 abbrev pub declarator_of : NameAt → List Around → Option ValueText → Declarator
 declarator_of n ds v = record { name = n; dims = ds; constant = v }
@@ -271,39 +272,39 @@ without_value ds = (None, ds)
 
 -- [= Initialiser] { , Declarator } ;
 unfoldable pub value_or_end : Form (Option ValueText × List Declarator)
-value_or_end = either (behind (sign 12) (nest initialiser)) (turn without_value (nest (value_end assigned)))
+value_or_end = either (behind (sign token.equals) (nest initialiser)) (turn without_value (nest (value_end assigned)))
 
 abbrev pub declarator_first : NameAt × (List Around × (Option ValueText × List Declarator)) → List Declarator
 declarator_first x = declarator_of x.0 x.1.0 x.1.1.0 ∷ x.1.1.1
 
 -- , Name { [ ] } [= Initialiser] .., or ; (JLS 8.3)
 unfoldable pub assigned_end : Form (List Declarator)
-assigned_end = either (turn no_declarators (sign 6)) (behind (sign 7) (turn declarator_first (pair name_at (pair (many dim) value_or_end))))
+assigned_end = either (turn no_declarators (sign token.semicolon)) (behind (sign token.comma) (turn declarator_first (pair name_at (pair (many dim) value_or_end))))
 
 abbrev pub end_form : (s : Stands) → Form (Behind s)
-end_form alone = turn silently (sign 1)
+end_form alone = turn silently (sign token.close_parenthesis)
 end_form paired = paired_end
 end_form listed = listed_more
-end_form defaulted = turn silently (sign 6)
+end_form defaulted = turn silently (sign token.semicolon)
 end_form assigned = assigned_end
 
 -- ---- constant forms
 
 -- a literal, or names that dots join
 unfoldable pub plain_constant : Form (Unit {0})
-plain_constant = either (turn silently (terminal (numbers 2 7))) (turn silently name_chain)
+plain_constant = either (turn silently (terminal (numbers integer 7))) (turn silently name_chain)
 
 -- + PlainConstant
 unfoldable pub plus_constant : Form (Unit {0})
-plus_constant = behind (sign 28) plain_constant
+plus_constant = behind (sign token.plus) plain_constant
 
 -- [ ]
 unfoldable pub bare_dim : Form Symbol
-bare_dim = behind (sign 4) (sign 5)
+bare_dim = behind (sign token.open_bracket) (sign token.close_bracket)
 
 -- . class
 unfoldable pub dot_class : Form Symbol
-dot_class = behind (sign 8) (keyword 8)
+dot_class = behind (sign token.dot) (keyword token.class)
 
 -- [ ] { [ ] } . class
 unfoldable pub array_class : Form Symbol
@@ -312,24 +313,24 @@ array_class = behind bare_dim (behind (many bare_dim) dot_class)
 -- Behind a name: . Name .., . class, [ ] .. . class, or + ..
 unfoldable pub chain_form : Form (Unit {0})
 chain_form =
-    either (behind (sign 8) (either (turn silently (keyword 8)) (turn silently (pair name (maybe (nest constant_chain))))))
+    either (behind (sign token.dot) (either (turn silently (keyword token.class)) (turn silently (pair name (maybe (nest constant_chain))))))
     (either (turn silently array_class) (turn silently (pair plus_constant (many plus_constant))))
 
 unfoldable pub literal_constant : Form (Unit {0})
-literal_constant = turn silently (pair (terminal (numbers 2 7)) (many plus_constant))
+literal_constant = turn silently (pair (terminal (numbers integer 7)) (many plus_constant))
 
 unfoldable pub named_constant : Form (Unit {0})
 named_constant = turn silently (pair name (maybe (nest constant_chain)))
 
 -- - Numeral
 unfoldable pub negated_constant : Form (Unit {0})
-negated_constant = turn silently (behind (sign 29) (terminal (integer ∷ floating ∷ [])))
+negated_constant = turn silently (behind (sign token.minus) (terminal (integer ∷ floating ∷ [])))
 
 unfoldable pub primitive_class : Form (Unit {0})
 primitive_class = turn silently (behind primitive_type (behind (many bare_dim) dot_class))
 
 unfoldable pub void_class : Form (Unit {0})
-void_class = turn silently (behind (keyword 47) dot_class)
+void_class = turn silently (behind (keyword token.void) dot_class)
 
 -- a constant form that is no array and no annotation
 unfoldable pub plain_form : Form (Unit {0})
@@ -339,7 +340,7 @@ abbrev pub plain_value : List Symbol × Unit {0} → ValueText
 plain_value x = expression_of x.0
 
 unfoldable pub constant_end : Form (List ValueText)
-constant_end = either listed_end (behind (sign 7) (either listed_end (nest constant_items)))
+constant_end = either listed_end (behind (sign token.comma) (either listed_end (nest constant_items)))
 
 -- ConstantForm, and all behind it up to the `}`
 unfoldable pub constant_items_form : Form (List ValueText)
@@ -347,7 +348,7 @@ constant_items_form = turn value_and_more (pair (nest constant_value) constant_e
 
 -- { [ConstantForm { , ConstantForm }] [,] }
 unfoldable pub constant_array : Form ValueText
-constant_array = turn value.Array (behind (sign 2) (either listed_end (either (behind (sign 7) listed_end) (nest constant_items))))
+constant_array = turn value.Array (behind (sign token.open_brace) (either listed_end (either (behind (sign token.comma) listed_end) (nest constant_items))))
 
 -- JLS 15.28 as far as it is kept
 unfoldable pub constant_form : Form ValueText
@@ -398,7 +399,7 @@ kept ts = whole_of (read_by value_rule (3 * suc (length ts)) constant_value ts)
 -- ---- initialisers (JLS 8.3)
 
 unfoldable pub constant_alone : Form (List Symbol)
-constant_alone = before (turn (λ x. x.0) (seen as_written (nest constant_value))) (sign 6)
+constant_alone = before (turn (λ x. x.0) (seen as_written (nest constant_value))) (sign token.semicolon)
 
 abbrev pub initialised : List Symbol × List Declarator → Option ValueText × List Declarator
 initialised x = (kept x.0, x.1)

@@ -14,7 +14,8 @@ use Rattle.decl_grammar.specs.declared.written.TypeRest.{TypeRest}
 use Rattle.decl_grammar.specs.declared.written.Declarator.{Declarator}
 use Rattle.decl_grammar.specs.declared.written.ParamEnd.{ParamEnd}
 use Rattle.decl_grammar.specs.declared.symbol.Symbol.{Symbol}
-use Rattle.decl_grammar.specs.Symbols.{identifier, named, at_interface, word, operator, numbers}
+use Rattle.decl_grammar.specs.Symbols.{identifier, named, integer, at_interface, word, operator, numbers}
+use Rattle.decl_grammar.specs.TokenNames as token
 use Rattle.decl_grammar.specs.Reading.{has, starts, Outcome, done, fault, ◌>>=◌, one_at, read_of, skip, deep}
 
 -- Where an expression stands: alone in the brackets of an annotation, behind the `=` of a pair there, in an array, as the
@@ -258,33 +259,39 @@ abbrev pub names : List ℕ
 names = identifier ∷ named ∷ []
 
 abbrev pub ats : List ℕ
-ats = operator 10 ∷ at_interface ∷ []
+ats = operator token.at ∷ at_interface ∷ []
 
 -- the reserved words but `instanceof` and `new`
 abbrev pub plain_expression_words : List ℕ
-plain_expression_words = numbers (word 0) 25 ++ (numbers (word 26) 4 ++ numbers (word 31) 20)
+plain_expression_words = numbers (word token.abstract) 25 ++ (numbers (word token.int) 4 ++ numbers (word token.«package») 20)
 
 -- What tells nothing in an expression: literals, words, and all operators but brackets, `,`, `;`, `.`, `::`, `@`, `=`, `<`, `>`, `?`, `:` and `->`.
 abbrev pub plain_sorts : List ℕ
-plain_sorts = numbers 2 7 ++ (plain_expression_words ++ (operator 9 ∷ operator 15 ∷ operator 16 ∷ numbers (operator 20) 30))
+plain_sorts =
+    numbers integer 7
+    ++ (plain_expression_words ++ (operator token.ellipsis ∷ operator token.exclamation ∷ operator token.tilde ∷ numbers (operator token.double_equals) 30))
 
 -- `.` and `::`
 abbrev pub dots : List ℕ
-dots = operator 8 ∷ operator 11 ∷ []
+dots = operator token.dot ∷ operator token.double_colon ∷ []
 
 -- `new`, `instanceof`, `>`, `?`, `:`, `->` and `(`, which may stand anywhere in an expression
 abbrev pub telling_sorts : List ℕ
-telling_sorts = word 30 ∷ word 25 ∷ operator 13 ∷ operator 17 ∷ operator 18 ∷ operator 19 ∷ operator 0 ∷ []
+telling_sorts =
+    word token.new ∷ word token.instanceof ∷ operator token.greater_than ∷ operator token.question ∷ operator token.colon ∷ operator token.arrow
+    ∷ operator token.open_parenthesis ∷ []
 
 -- the primitive types (JLS 4.2)
 abbrev pub primitive_sorts : List ℕ
-primitive_sorts = word 2 ∷ word 4 ∷ word 36 ∷ word 26 ∷ word 28 ∷ word 7 ∷ word 19 ∷ word 13 ∷ []
+primitive_sorts =
+    word token.boolean ∷ word token.byte ∷ word token.short ∷ word token.int ∷ word token.long ∷ word token.char ∷ word token.float ∷ word token.double
+    ∷ []
 
 -- `=`, where it may stand
 abbrev pub equals : Freedom → List ℕ
 equals strict = []
-equals (conditional n) = operator 12 ∷ []
-equals anywhere = operator 12 ∷ []
+equals (conditional n) = operator token.equals ∷ []
+equals anywhere = operator token.equals ∷ []
 
 -- the names that begin an expression: where a pair may stand, no name that a `=` follows
 abbrev pub first_names : Stands → List ℕ
@@ -293,33 +300,33 @@ first_names _ = names
 
 -- what ends a value and what stands behind it: a bracket or a `;`, or a `,`
 abbrev pub ends : Stands → List ℕ
-ends alone = operator 1 ∷ []
-ends paired = operator 1 ∷ operator 7 ∷ []
-ends listed = operator 3 ∷ operator 7 ∷ []
-ends defaulted = operator 6 ∷ []
-ends assigned = operator 6 ∷ operator 7 ∷ []
+ends alone = operator token.close_parenthesis ∷ []
+ends paired = operator token.close_parenthesis ∷ operator token.comma ∷ []
+ends listed = operator token.close_brace ∷ operator token.comma ∷ []
+ends defaulted = operator token.semicolon ∷ []
+ends assigned = operator token.semicolon ∷ operator token.comma ∷ []
 
 -- what begins an expression: as a value nothing that begins an array or an annotation
 abbrev pub value_sorts : Stands → List ℕ
-value_sorts s = first_names s ++ (plain_sorts ++ (telling_sorts ++ (operator 14 ∷ (dots ++ operator 4 ∷ []))))
+value_sorts s = first_names s ++ (plain_sorts ++ (telling_sorts ++ (operator token.less_than ∷ (dots ++ operator token.open_bracket ∷ []))))
 
 abbrev pub expression_sorts : Stands → List ℕ
-expression_sorts assigned = value_sorts assigned ++ (operator 2 ∷ operator 12 ∷ ats)
+expression_sorts assigned = value_sorts assigned ++ (operator token.open_brace ∷ operator token.equals ∷ ats)
 expression_sorts s = value_sorts s
 
 -- `<`: behind a type that is created it has begun its arguments, and behind `::` with arguments a name or `new` comes
 abbrev pub less_sorts : After → List ℕ
 less_sorts creation = []
 less_sorts colon_arguments = []
-less_sorts name_there = operator 14 ∷ []
-less_sorts between = operator 14 ∷ []
-less_sorts greater = operator 14 ∷ []
-less_sorts dot = operator 14 ∷ []
-less_sorts colons = operator 14 ∷ []
-less_sorts test = operator 14 ∷ []
-less_sorts test_name = operator 14 ∷ []
-less_sorts test_arguments = operator 14 ∷ []
-less_sorts test_end = operator 14 ∷ []
+less_sorts name_there = operator token.less_than ∷ []
+less_sorts between = operator token.less_than ∷ []
+less_sorts greater = operator token.less_than ∷ []
+less_sorts dot = operator token.less_than ∷ []
+less_sorts colons = operator token.less_than ∷ []
+less_sorts test = operator token.less_than ∷ []
+less_sorts test_name = operator token.less_than ∷ []
+less_sorts test_arguments = operator token.less_than ∷ []
+less_sorts test_end = operator token.less_than ∷ []
 
 -- `.` and `::`, which behind a type that is created have gone on with it, and which in a value stand behind no `>` that is an operator
 abbrev pub dot_sorts : Stands → After → List ℕ
@@ -329,14 +336,14 @@ dot_sorts s _ = dots
 
 -- `[`, in the same way
 abbrev pub square_sorts : Stands → After → List ℕ
-square_sorts s greater = if is_value s then [] else operator 4 ∷ []
-square_sorts s _ = operator 4 ∷ []
+square_sorts s greater = if is_value s then [] else operator token.open_bracket ∷ []
+square_sorts s _ = operator token.open_bracket ∷ []
 
 -- what goes on with an expression; behind `instanceof` a type comes
 abbrev pub later_sorts : Stands → Freedom → After → List ℕ
 later_sorts s w test = names ++ primitive_sorts
 later_sorts s w a =
-    names ++ (plain_sorts ++ (telling_sorts ++ (less_sorts a ++ (dot_sorts s a ++ (square_sorts s a ++ (ats ++ (operator 2 ∷ equals w)))))))
+    names ++ (plain_sorts ++ (telling_sorts ++ (less_sorts a ++ (dot_sorts s a ++ (square_sorts s a ++ (ats ++ (operator token.open_brace ∷ equals w)))))))
 
 -- what ends an expression and what stands behind it, which behind `instanceof` may not come yet
 abbrev pub later_ends : Stands → After → List ℕ
@@ -345,49 +352,57 @@ later_ends s _ = ends s
 
 -- what begins a constant form: `{`, `@`, literals, names, `-`, the primitive types and `void`
 abbrev pub constant_sorts : List ℕ
-constant_sorts = operator 2 ∷ (ats ++ (names ++ (numbers 2 7 ++ operator 29 ∷ word 47 ∷ word 2 ∷ word 4 ∷ word 36 ∷ word 26 ∷ word 28 ∷ word 7 ∷ word 19 ∷ word 13 ∷ [])))
+constant_sorts =
+    operator token.open_brace
+    ∷ (ats
+    ++ (names
+    ++ (numbers integer 7
+    ++ operator token.minus ∷ word token.void ∷ word token.boolean ∷ word token.byte ∷ word token.short ∷ word token.int ∷ word token.long
+    ∷ word token.char ∷ word token.float ∷ word token.double ∷ [])))
 
 abbrev pub first_of_part : Part → List ℕ
 first_of_part (one_of ks) = ks
 first_of_part (bracketed ks) = ks
-first_of_part arguments = operator 14 ∷ []
+first_of_part arguments = operator token.less_than ∷ []
 first_of_part annotated = ats
-first_of_part created = word 30 ∷ []
-first_of_part tested = word 25 ∷ []
-first_of_part tested_name = operator 8 ∷ []
-first_of_part tested_dim = operator 4 ∷ ats
-first_of_part type_reference = operator 14 ∷ []
+first_of_part created = word token.new ∷ []
+first_of_part tested = word token.instanceof ∷ []
+first_of_part tested_name = operator token.dot ∷ []
+first_of_part tested_dim = operator token.open_bracket ∷ ats
+first_of_part type_reference = operator token.less_than ∷ []
 
 -- the modifiers but `static`, and no annotations
 abbrev pub plain_words : List ℕ
-plain_words = word 34 ∷ word 33 ∷ word 32 ∷ word 0 ∷ word 11 ∷ word 17 ∷ word 45 ∷ word 48 ∷ word 41 ∷ word 29 ∷ word 38 ∷ []
+plain_words =
+    word token.public ∷ word token.protected ∷ word token.private ∷ word token.abstract ∷ word token.default ∷ word token.final ∷ word token.transient
+    ∷ word token.volatile ∷ word token.synchronized ∷ word token.native ∷ word token.strictfp ∷ []
 
 abbrev pub modifier_words : List ℕ
-modifier_words = word 37 ∷ plain_words
+modifier_words = word token.static ∷ plain_words
 
 -- the sorts of symbol that begin them
 abbrev pub first_of : Nest → List ℕ
-first_of type_arguments = operator 14 ∷ []
-first_of created_arguments = operator 14 ∷ []
-first_of array_value = operator 2 ∷ []
+first_of type_arguments = operator token.less_than ∷ []
+first_of created_arguments = operator token.less_than ∷ []
+first_of array_value = operator token.open_brace ∷ []
 first_of nested_annotation = ats
 first_of constant_value = constant_sorts
 first_of (expression_part s p) = first_of_part p
 first_of first_name = named ∷ []
-first_of nested_type = word 8 ∷ word 27 ∷ at_interface ∷ word 15 ∷ []
-first_of modifiers = modifier_words ++ operator 10 ∷ []
-first_of plain_modifiers = plain_words ++ operator 10 ∷ []
-first_of static_word = word 37 ∷ []
-first_of import_rest = operator 8 ∷ []
-first_of enum_rest = operator 7 ∷ []
-first_of param_rest = operator 4 ∷ (ats ++ operator 9 ∷ names)
-first_of first_rest = operator 4 ∷ (ats ++ operator 9 ∷ word 42 ∷ names)
-first_of (value_and_rest s) = operator 2 ∷ (ats ++ expression_sorts s)
+first_of nested_type = word token.class ∷ word token.interface ∷ at_interface ∷ word token.enum ∷ []
+first_of modifiers = modifier_words ++ operator token.at ∷ []
+first_of plain_modifiers = plain_words ++ operator token.at ∷ []
+first_of static_word = word token.static ∷ []
+first_of import_rest = operator token.dot ∷ []
+first_of enum_rest = operator token.comma ∷ []
+first_of param_rest = operator token.open_bracket ∷ (ats ++ operator token.ellipsis ∷ names)
+first_of first_rest = operator token.open_bracket ∷ (ats ++ operator token.ellipsis ∷ word token.this ∷ names)
+first_of (value_and_rest s) = operator token.open_brace ∷ (ats ++ expression_sorts s)
 first_of (expression_rest s w a) = later_sorts s (freedom_in s w) a ++ later_ends s a
 first_of initialiser = expression_sorts assigned
 first_of (value_end s) = ends s
 first_of constant_items = constant_sorts
-first_of constant_chain = operator 8 ∷ operator 4 ∷ operator 28 ∷ []
+first_of constant_chain = operator token.dot ∷ operator token.open_bracket ∷ operator token.plus ∷ []
 
 -- the sorts of symbol that may begin a form
 abbrev pub first : {A : Type 0} → Form A → List ℕ

@@ -18,6 +18,7 @@ use Rattle.decl_grammar.specs.declared.written.TypeAt.{TypeAt}
 use Rattle.decl_grammar.specs.declared.written.Lines.{Lines, roll-Lines}
 use Rattle.decl_grammar.specs.declared.symbol.Symbol.{Symbol}
 use Rattle.decl_grammar.specs.Symbols.{at_interface, operator}
+use Rattle.decl_grammar.specs.TokenNames as token
 use Rattle.std.specs.List.{flat_map}
 use Rattle.std.specs.Int.Bits.{bit_or}
 use Rattle.decl_tree.specs.declared.type_text.PrimitiveKind.{PrimitiveKind}
@@ -52,7 +53,7 @@ use Rattle.decl_grammar.specs.Expressions.{declarator_of, value_or_end}
 -- ---- parameters (JLS 8.4.1)
 
 unfoldable pub param_modifier : Form Mark
-param_modifier = either (turn bit_mark (keyword 17)) (turn marked annotation)
+param_modifier = either (turn bit_mark (keyword token.final)) (turn marked annotation)
 
 unfoldable pub param_modifiers : Form Modifiers
 param_modifiers = turn (with_marks no_modifiers) (many param_modifier)
@@ -103,18 +104,18 @@ params_from = turn apply_rest (pair param_modifiers (based (nest param_rest)))
 
 -- , ParamsFrom
 unfoldable pub next_params : Form (List ParamAt × Bool)
-next_params = behind (sign 7) params_from
+next_params = behind (sign token.comma) params_from
 
 abbrev pub any_number : NameAt → ParamEnd
 any_number n = param_end.AnyNumber n
 
 -- ... Name
 unfoldable pub varargs : Form ParamEnd
-varargs = turn any_number (behind (sign 9) name_at)
+varargs = turn any_number (behind (sign token.ellipsis) name_at)
 
 -- [ ] Rest
 abbrev pub bracket_rest : Form ParamRest → Form ParamRest
-bracket_rest rest = behind (sign 4) (behind (sign 5) (turn in_array rest))
+bracket_rest rest = behind (sign token.open_bracket) (behind (sign token.close_bracket) (turn in_array rest))
 
 -- Annotation { Annotation } BracketRest, or with Varargs: annotations of a type stand before brackets, or before the `...`
 abbrev pub annotated_rest : Form ParamRest → Form ParamRest
@@ -137,7 +138,7 @@ receiver_end s = param_end.Receiver
 
 -- this
 unfoldable pub receiver : Form ParamEnd
-receiver = turn receiver_end (keyword 42)
+receiver = turn receiver_end (keyword token.this)
 
 -- [ ] { [ ] }
 unfoldable pub some_dims : Form (List Around)
@@ -151,7 +152,7 @@ some_brackets ds = Some ds
 
 -- . this: the name before it is that of a type around the receiver
 unfoldable pub dot_this : Form (Option (List Around))
-dot_this = turn no_dims (behind (sign 8) (keyword 42))
+dot_this = turn no_dims (behind (sign token.dot) (keyword token.this))
 
 unfoldable pub with_dims : Form (Option (List Around))
 with_dims = turn some_brackets some_dims
@@ -205,7 +206,7 @@ abbrev pub plain_first : BaseType × ParamRest → FirstRest
 plain_first v found = apply_rest (annotated_only found, v)
 
 unfoldable pub behind_annotations : Form FirstRest
-behind_annotations = either (turn final_first (behind (keyword 17) (pair (many param_modifier) (based (nest param_rest))))) (turn plain_first (based (nest first_rest)))
+behind_annotations = either (turn final_first (behind (keyword token.final) (pair (many param_modifier) (based (nest param_rest))))) (turn plain_first (based (nest first_rest)))
 
 abbrev pub first_from : List AnnotationText × FirstRest → List ParamAt × Bool
 first_from x = x.1 x.0
@@ -221,20 +222,20 @@ optional_first o = params_of (params_or_none o)
 
 -- ( [FirstParams] )
 unfoldable pub params : Form Params
-params = behind (sign 0) (before (turn optional_first (maybe first_params)) (sign 1))
+params = behind (sign token.open_parenthesis) (before (turn optional_first (maybe first_params)) (sign token.close_parenthesis))
 
 -- ---- what stands behind the name of a method or a constructor (JLS 8.4, 8.8, 9.6.1)
 
 -- throws ClassType { , ClassType }
 unfoldable pub thrown : Form (List TypeText)
-thrown = turn list_or_none (maybe (behind (keyword 44) classes))
+thrown = turn list_or_none (maybe (behind (keyword token.throws) classes))
 
 -- a block, whatever it holds (JLS 14.2)
 abbrev pub block : Form (Unit {0})
-block = over (operator 2 ∷ [])
+block = over (operator token.open_brace ∷ [])
 
 unfoldable pub body : Form (Unit {0})
-body = either block (turn silently (sign 6))
+body = either block (turn silently (sign token.semicolon))
 
 abbrev pub signature_of : Params → List Around → List TypeText → Option ValueText → Signature
 signature_of ps ds ts v = record { params = ps; dims = ds; thrown = ts; default = v }
@@ -253,11 +254,11 @@ some_default x = Some x.0
 
 -- [default Value] ;
 unfoldable pub element_end : Form (Option ValueText)
-element_end = either (turn no_default (sign 6)) (turn some_default (behind (keyword 11) (nest (value_and_rest defaulted))))
+element_end = either (turn no_default (sign token.semicolon)) (turn some_default (behind (keyword token.default) (nest (value_and_rest defaulted))))
 
 unfoldable pub element_signature : Form Signature
 element_signature =
-    turn (λ x. signature_of (params_of no_params) x.0 [] x.1) (behind (sign 0) (behind (sign 1) (pair (many dim) element_end)))
+    turn (λ x. signature_of (params_of no_params) x.0 [] x.1) (behind (sign token.open_parenthesis) (behind (sign token.close_parenthesis) (pair (many dim) element_end)))
 
 -- ---- fields (JLS 8.3): `Expressions` says what stands behind a `=`
 
@@ -317,7 +318,7 @@ void_named x = method_named x.1 void_type x.0
 
 -- void Name Signature
 unfoldable pub void_method : Form Unmodified
-void_method = turn void_named (behind (keyword 47) (pair name_at method_signature))
+void_method = turn void_named (behind (keyword token.void) (pair name_at method_signature))
 
 abbrev pub primitive_of_dims : PrimitiveKind × List Around → TypeText
 primitive_of_dims x = type_of (base.Primitive x.0) x.1
@@ -542,7 +543,7 @@ or_block kind.AnnotationType f = f
 or_block kind.Interface f = f
 
 unfoldable pub member_form : TypeKind → Form (List MemberAt)
-member_form k = either (turn no_member (sign 6)) (or_block k (member_from (modified_form k)))
+member_form k = either (turn no_member (sign token.semicolon)) (or_block k (member_from (modified_form k)))
 
 abbrev pub joined_lists : List (List MemberAt) → List MemberAt
 joined_lists ms = flat_map (λ m. m) ms
@@ -554,31 +555,31 @@ rest_of k n ps above types ms = record { kind = k; name = n; parameters = ps; su
 
 -- { Members }
 abbrev pub members_in : TypeKind → Form (List MemberAt)
-members_in k = behind (sign 2) (before (turn joined_lists (many (member_form k))) (sign 3))
+members_in k = behind (sign token.open_brace) (before (turn joined_lists (many (member_form k))) (sign token.close_brace))
 
 unfoldable pub superclass : Form (Option TypeText)
-superclass = maybe (behind (keyword 16) annotated_class)
+superclass = maybe (behind (keyword token.extends) annotated_class)
 
 unfoldable pub implemented : Form (List TypeText)
-implemented = turn list_or_none (maybe (behind (keyword 23) classes))
+implemented = turn list_or_none (maybe (behind (keyword token.implements) classes))
 
 unfoldable pub extended : Form (List TypeText)
-extended = turn list_or_none (maybe (behind (keyword 16) classes))
+extended = turn list_or_none (maybe (behind (keyword token.extends) classes))
 
 unfoldable pub class_form : Form TypeRest
 class_form =
     turn (λ x. rest_of kind.Class x.0 x.1.0 x.1.1.0 x.1.1.1.0 x.1.1.1.1)
-    (behind (keyword 8) (pair name_at (pair optional_params (pair superclass (pair implemented (members_in kind.Class))))))
+    (behind (keyword token.class) (pair name_at (pair optional_params (pair superclass (pair implemented (members_in kind.Class))))))
 
 unfoldable pub interface_form : Form TypeRest
 interface_form =
     turn (λ x. rest_of kind.Interface x.0 x.1.0 None x.1.1.0 x.1.1.1)
-    (behind (keyword 27) (pair name_at (pair optional_params (pair extended (members_in kind.Interface)))))
+    (behind (keyword token.interface) (pair name_at (pair optional_params (pair extended (members_in kind.Interface)))))
 
 unfoldable pub annotation_form : Form TypeRest
 annotation_form =
     turn (λ x. rest_of kind.AnnotationType x.0 [] None [] x.1)
-    (behind (terminal (at_interface ∷ [])) (behind (keyword 27) (pair name_at (members_in kind.AnnotationType))))
+    (behind (terminal (at_interface ∷ [])) (behind (keyword token.interface) (pair name_at (members_in kind.AnnotationType))))
 
 -- whether something in brackets of this sort stands here
 abbrev pub is_there : {A : Type 0} → Option A → Bool
@@ -596,7 +597,7 @@ constant_part_of x = (x.0, (x.1.0, x.1.1.1))
 
 -- Annotations Name [Arguments] [Body]: arguments and a body are passed over (JLS 8.9.1)
 unfoldable pub constant_part : Form ConstantPart
-constant_part = turn constant_part_of (pair annotations (pair name_at (pair (optional_over (operator 0)) (optional_over (operator 2)))))
+constant_part = turn constant_part_of (pair annotations (pair name_at (pair (optional_over (operator token.open_parenthesis)) (optional_over (operator token.open_brace)))))
 
 abbrev pub constant_of : Option (List ℕ) × ConstantPart → MemberAt
 constant_of x =
@@ -611,23 +612,23 @@ some_constants = turn one_and_rest (pair constant (maybe (nest enum_rest)))
 
 -- , [SomeConstants]: behind the last constant a `,` may stand
 unfoldable pub enum_rest_form : Form (List MemberAt)
-enum_rest_form = behind (sign 7) (turn list_or_none (maybe some_constants))
+enum_rest_form = behind (sign token.comma) (turn list_or_none (maybe some_constants))
 
 -- SomeConstants, or a `,` alone
 unfoldable pub constant_list : Form (List MemberAt)
-constant_list = either some_constants (turn no_values (sign 7))
+constant_list = either some_constants (turn no_values (sign token.comma))
 
 unfoldable pub constants : Form (List MemberAt)
 constants = turn list_or_none (maybe constant_list)
 
 -- [; Members]
 unfoldable pub enum_members : Form (List MemberAt)
-enum_members = turn list_or_none (maybe (behind (sign 6) (turn joined_lists (many (member_form kind.Enum)))))
+enum_members = turn list_or_none (maybe (behind (sign token.semicolon) (turn joined_lists (many (member_form kind.Enum)))))
 
 unfoldable pub enum_form : Form TypeRest
 enum_form =
     turn (λ x. rest_of kind.Enum x.0 [] None x.1.0 (x.1.1.0 ++ x.1.1.1))
-    (behind (keyword 15) (pair name_at (pair implemented (behind (sign 2) (pair constants (before enum_members (sign 3)))))))
+    (behind (keyword token.enum) (pair name_at (pair implemented (behind (sign token.open_brace) (pair constants (before enum_members (sign token.close_brace)))))))
 
 unfoldable pub type_rest : Form TypeRest
 type_rest = either class_form (either interface_form (either annotation_form enum_form))
@@ -664,28 +665,28 @@ no_name s = None
 
 -- . Name, or . *
 unfoldable pub import_step : Form (Option (List ℕ))
-import_step = behind (sign 8) (either (turn (λ n. Some n) name) (turn no_name (sign 30)))
+import_step = behind (sign token.dot) (either (turn (λ n. Some n) name) (turn no_name (sign token.star)))
 
 -- . Name [ImportRest], or . *
 unfoldable pub import_rest_form : Form ImportRest
-import_rest_form = behind (sign 8) (either (turn deeper_import (pair name (maybe (nest import_rest)))) (turn on_demand (sign 30)))
+import_rest_form = behind (sign token.dot) (either (turn deeper_import (pair name (maybe (nest import_rest)))) (turn on_demand (sign token.star)))
 
 unfoldable pub import_named : Form Import
 import_named = turn (λ x. single_or x.1 x.0) (pair name (maybe (nest import_rest)))
 
 -- static Name ImportRest
 unfoldable pub import_static : Form Import
-import_static = behind (keyword 37) (turn (λ x. static_import (x.1 x.0)) (pair name (nest import_rest)))
+import_static = behind (keyword token.static) (turn (λ x. static_import (x.1 x.0)) (pair name (nest import_rest)))
 
 unfoldable pub import_form : Form Import
-import_form = behind (keyword 24) (before (either import_named import_static) (sign 6))
+import_form = behind (keyword token.import) (before (either import_named import_static) (sign token.semicolon))
 
 -- the name of the package, with the line of the `package`
 abbrev pub package_named : Symbol × List ℕ → NameAt
 package_named x = record { name = x.1; line = x.0.line }
 
 unfoldable pub package_form : Form NameAt
-package_form = turn package_named (pair (keyword 31) (before name_chain (sign 6)))
+package_form = turn package_named (pair (keyword token.«package») (before name_chain (sign token.semicolon)))
 
 abbrev pub top_declared : Option (List ℕ) × (Modifiers × TypeRest) → Option TypeAt
 top_declared x = Some (declared x.0 x.1.0 x.1.1)
@@ -699,7 +700,7 @@ modified_type = pair type_modifiers type_rest
 
 -- a type with its modifiers, or a `;` (JLS 7.6)
 unfoldable pub top_type : Form (Option TypeAt)
-top_type = either (turn no_type (sign 6)) (turn top_declared (seen first_doc modified_type))
+top_type = either (turn no_type (sign token.semicolon)) (turn top_declared (seen first_doc modified_type))
 
 -- what an ordinary file declares: its package, its imports and its types
 abbrev pub Ordinary : Type 0
@@ -724,7 +725,7 @@ abbrev pub Info : Type 0
 Info = Option (Option (List ℕ) × (List AnnotationText × NameAt)) × (List Import × Unit {0})
 
 unfoldable pub semicolon : Form Symbol
-semicolon = sign 6
+semicolon = sign token.semicolon
 
 -- a package with annotations, imports, and no types
 unfoldable pub package_info : Form Info

@@ -1,4 +1,5 @@
 pub mod Symbols
+pub mod TokenNames
 pub mod Reading
 pub mod Docs
 pub mod Form

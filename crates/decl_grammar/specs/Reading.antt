@@ -4,6 +4,8 @@ use Rattle.std.specs.Option.{option_map_or}
 use Rattle.decl_grammar.specs.declared.symbol.Symbol.{Symbol}
 use Rattle.decl_grammar.specs.declared.fault.ReadFault.{ReadFault}
 use Rattle.decl_grammar.specs.declared.fault.ReadFault.TheVariants as faults
+use Rattle.decl_grammar.specs.Symbols.{operator}
+use Rattle.decl_grammar.specs.TokenNames as token
 
 -- a number is among these
 abbrev pub has : List ℕ → ℕ → Bool
@@ -66,10 +68,10 @@ shut_fault begins ts = if begins then faults.Deep (length ts) else faults.Bad (l
 
 -- `(`, `{` and `[`; the sort that follows each is what closes it
 abbrev pub openers : List ℕ
-openers = 61 ∷ 63 ∷ 65 ∷ []
+openers = operator token.open_parenthesis ∷ operator token.open_brace ∷ operator token.open_bracket ∷ []
 
 abbrev pub closers : List ℕ
-closers = 62 ∷ 64 ∷ 66 ∷ []
+closers = operator token.close_parenthesis ∷ operator token.close_brace ∷ operator token.close_bracket ∷ []
 
 -- the brackets that are still to be closed after this symbol, where it may stand
 abbrev pub after : ℕ → List ℕ → Symbol → Option (List ℕ)

@@ -6,6 +6,7 @@ use Rattle.decl_grammar.specs.Form.{Nest, counts, Of, Form, Wholes, Begun, Reade
 use Rattle.decl_grammar.specs.Types.{keyword, modifier, plain_modifier, modifiers_form}
 use Rattle.decl_grammar.specs.Expressions.{end_form, value_rule, initialiser_form}
 use Rattle.decl_grammar.specs.Grammar.{param_rest_form, first_rest_form, enum_rest_form, type_rest, import_rest_form}
+use Rattle.decl_grammar.specs.TokenNames as token
 
 -- ---- forms that hold themselves
 
@@ -13,7 +14,7 @@ abbrev pub rule : (m : Nest) → Form (Of m)
 rule nested_type = type_rest
 rule modifiers = modifiers_form modifier
 rule plain_modifiers = modifiers_form plain_modifier
-rule static_word = keyword 37
+rule static_word = keyword token.static
 rule import_rest = import_rest_form
 rule enum_rest = enum_rest_form
 rule param_rest = param_rest_form

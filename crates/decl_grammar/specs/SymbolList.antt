@@ -10,51 +10,56 @@ use Rattle.java_tokens.specs.declared.token.Token.{Token}
 use Rattle.java_tokens.specs.CharsShown.{FaultAt}
 use Rattle.java_tokens.specs.TokensShown.{shown_token, AreTokensIn, IsTokenFaultIn}
 use Rattle.decl_grammar.specs.declared.symbol.Symbol.{Symbol}
+use Rattle.decl_grammar.specs.Symbols.{identifier, named, integer, floating, character, text, text_block, truth, null, at_interface, word, operator}
+use Rattle.decl_grammar.specs.TokenNames as token
 
 -- a sort of which no form has a symbol; no token has a number beyond its table
 abbrev pub no_sort : ℕ
 no_sort = 255
 
 abbrev pub word_sort : ℕ → ℕ
-word_sort n = if nat_le n 50 then 10 + n else no_sort
+word_sort n = if nat_le n token.underscore then word n else no_sort
 
 abbrev pub operator_sort : ℕ → ℕ
-operator_sort n = if nat_le n 49 then 61 + n else no_sort
+operator_sort n = if nat_le n token.unsigned_shift_right_equals then operator n else no_sort
 
 -- the sort of a token by itself
 abbrev pub sort_of : TokenKind → ℕ
-sort_of Identifier = 0
+sort_of Identifier = identifier
 sort_of (Reserved n) = word_sort n
-sort_of Integer = 2
-sort_of Floating = 3
-sort_of Character = 4
-sort_of Text = 5
-sort_of TextBlock = 6
+sort_of Integer = integer
+sort_of Floating = floating
+sort_of Character = character
+sort_of Text = text
+sort_of TextBlock = text_block
 sort_of (Operator n) = operator_sort n
-sort_of Truth = 7
-sort_of Null = 8
+sort_of Truth = truth
+sort_of Null = null
 
 -- the next token is of this sort
 abbrev pub is_before : ℕ → List Lexeme → Bool
 is_before n [] = false
 is_before n (t ∷ ts) = sort_of t.kind == n
 
--- the sort of a token before others: a name before `=` is 1, and `@` before `interface` is 9
+-- the sort of a token before others: a name before `=`, and `@` before `interface`, are of a sort of their own
 abbrev pub sort_before : ℕ → List Lexeme → ℕ
-sort_before n ts = if n == 0 then (if is_before 73 ts then 1 else 0) else if n == 71 then (if is_before 37 ts then 9 else 71) else n
+sort_before n ts =
+    if n == identifier then (if is_before (operator token.equals) ts then named else identifier)
+    else if n == operator token.at then (if is_before (word token.interface) ts then at_interface else operator token.at)
+    else n
 
 abbrev pub symbol_of : ℕ → Bool → Lexeme → Symbol
 symbol_of sort further t = record { sort = sort; further = further; start = t.start; line = t.line; text = t.text; doc = t.doc }
 
 -- `>`, behind others of the same token or not
 abbrev pub closing : Bool → Lexeme → Symbol
-closing further t = symbol_of 74 further t
+closing further t = symbol_of (operator token.greater_than) further t
 
 -- the symbols of a token of this sort before others
 abbrev pub symbols_at : ℕ → Lexeme → List Lexeme → List Symbol
 symbols_at n t ts =
-    if n == 98 then closing false t ∷ closing true t ∷ []
-    else if n == 99 then closing false t ∷ closing true t ∷ closing true t ∷ []
+    if n == operator token.shift_right then closing false t ∷ closing true t ∷ []
+    else if n == operator token.unsigned_shift_right then closing false t ∷ closing true t ∷ closing true t ∷ []
     else symbol_of (sort_before n ts) false t ∷ []
 
 abbrev pub symbols_before : Lexeme → List Lexeme → List Symbol
@@ -67,11 +72,11 @@ symbols_of (t ∷ ts) = symbols_before t ts ++ symbols_of ts
 -- the next token, where there is one
 abbrev pub shown_next : Option Token → List Lexeme
 shown_next None = []
-shown_next (Some token) = shown_token token ∷ []
+shown_next (Some next) = shown_token next ∷ []
 
 -- the symbols of a token before the next one, as code has them
 abbrev pub shown_before : Token → Option Token → List Symbol
-shown_before token next = symbols_before (shown_token token) (shown_next next)
+shown_before here next = symbols_before (shown_token here) (shown_next next)
 
 -- a file has these symbols, or no list of its tokens goes on, or memory is wanted
 abbrev pub AreSymbols : Chars → Result (Vec Symbol Global) TextFault → Type 0

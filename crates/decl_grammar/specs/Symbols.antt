@@ -2,6 +2,7 @@
 -- Two tokens are of a sort of their own by the token that follows: an identifier that a `=` follows, and a `@` that `interface` follows.
 use Rattle.std.specs.Prelude.{ℕ, zero, suc, ◌+◌, List, [], ◌∷◌}
 
+-- an identifier that no `=` follows
 abbrev pub identifier : ℕ
 identifier = 0
 
@@ -9,24 +10,31 @@ identifier = 0
 abbrev pub named : ℕ
 named = 1
 
+-- an integer literal
 abbrev pub integer : ℕ
 integer = 2
 
+-- a floating-point literal
 abbrev pub floating : ℕ
 floating = 3
 
+-- a character literal
 abbrev pub character : ℕ
 character = 4
 
+-- a string literal
 abbrev pub text : ℕ
 text = 5
 
+-- a text block
 abbrev pub text_block : ℕ
 text_block = 6
 
+-- `true` or `false`
 abbrev pub truth : ℕ
 truth = 7
 
+-- `null`
 abbrev pub null : ℕ
 null = 8
 

@@ -11,6 +11,7 @@ use Rattle.decl_grammar.specs.declared.written.NameAt.{NameAt}
 use Rattle.decl_grammar.specs.declared.written.TypeParamAt.{TypeParamAt}
 use Rattle.decl_grammar.specs.declared.symbol.Symbol.{Symbol}
 use Rattle.decl_grammar.specs.Symbols.{named, word, operator}
+use Rattle.decl_grammar.specs.TokenNames as token
 use Rattle.std.specs.Option.{option_map_or}
 use Rattle.std.specs.Int.Bits.{bit_or}
 use Rattle.decl_tree.specs.declared.type_text.PrimitiveKind.{PrimitiveKind}
@@ -48,7 +49,7 @@ first_and_rest x = x.0 ∷ x.1
 
 -- a comma, and what stands behind it, where it begins there
 abbrev pub comma_item : {A : Type 0} → Form A → Form (Option A)
-comma_item f = behind (sign 7) (maybe f)
+comma_item f = behind (sign token.comma) (maybe f)
 
 -- ---- names (JLS 3.8, 6.5)
 
@@ -71,7 +72,7 @@ named_text = turn text_of (terminal (named ∷ []))
 
 -- . Name
 unfoldable pub dot_name : Form (List ℕ)
-dot_name = behind (sign 8) name
+dot_name = behind (sign token.dot) name
 
 abbrev pub dotted_name : List ℕ × List (List ℕ) → List ℕ
 dotted_name x = more_dotted x.0 x.1
@@ -95,11 +96,11 @@ lone_pair v = pair_of (codes "value") v ∷ []
 
 -- Name = Value, and all behind it up to the `)`, where the name might still be a value
 unfoldable pub first_pair : Form (List ElementValuePair)
-first_pair = turn pair_and_rest (pair (nest first_name) (behind (sign 12) (nest (value_and_rest paired))))
+first_pair = turn pair_and_rest (pair (nest first_name) (behind (sign token.equals) (nest (value_and_rest paired))))
 
 -- Name = Value, and all behind it
 unfoldable pub next_pair : Form (List ElementValuePair)
-next_pair = turn pair_and_rest (pair name (behind (sign 12) (nest (value_and_rest paired))))
+next_pair = turn pair_and_rest (pair name (behind (sign token.equals) (nest (value_and_rest paired))))
 
 abbrev pub no_pairs : Symbol → List ElementValuePair
 no_pairs s = []
@@ -113,7 +114,7 @@ pairs_or_value = either first_pair (turn only_pair (nest (value_and_rest alone))
 
 -- ( [PairsOrValue] )
 unfoldable pub annotation_arguments : Form (List ElementValuePair)
-annotation_arguments = behind (sign 0) (either (turn no_pairs (sign 1)) pairs_or_value)
+annotation_arguments = behind (sign token.open_parenthesis) (either (turn no_pairs (sign token.close_parenthesis)) pairs_or_value)
 
 abbrev pub annotation_of : List ℕ → Option (List ElementValuePair) → AnnotationText
 annotation_of n values = roll-AnnotationText (record { name = n; values = list_or_none values })
@@ -131,7 +132,7 @@ annotation = annotation_from ats
 
 -- the same where the `@` of an annotation interface begins no annotation
 unfoldable pub modifier_annotation : Form AnnotationText
-modifier_annotation = annotation_from (operator 10 ∷ [])
+modifier_annotation = annotation_from (operator token.at ∷ [])
 
 unfoldable pub annotations : Form (List AnnotationText)
 annotations = many annotation
@@ -167,7 +168,7 @@ named_part = turn (λ x. named_part_of x.0 x.1) (pair name (maybe (nest type_arg
 
 -- . Annotations NamedPart
 unfoldable pub next_part : Form NamedPart
-next_part = behind (sign 8) (behind annotations named_part)
+next_part = behind (sign token.dot) (behind annotations named_part)
 
 -- NamedPart { . Annotations NamedPart }
 unfoldable pub class_type : Form (List NamedPart)
@@ -178,7 +179,7 @@ array_around s = around.Array
 
 -- Annotations [ ]
 unfoldable pub dim : Form Around
-dim = behind annotations (behind (sign 4) (turn array_around (sign 5)))
+dim = behind annotations (behind (sign token.open_bracket) (turn array_around (sign token.close_bracket)))
 
 unfoldable pub base_type : Form BaseType
 base_type = either (turn base.Primitive primitive_type) (turn base.Named class_type)
@@ -215,8 +216,8 @@ bounded item x = bounded_text item (type_in x)
 -- extends Reference, or super Reference
 unfoldable pub wildcard_bound : Form TypeText
 wildcard_bound =
-    either (turn (bounded around.Extends) (behind (keyword 16) annotated_reference))
-    (turn (bounded around.Super) (behind (keyword 39) annotated_reference))
+    either (turn (bounded around.Extends) (behind (keyword token.extends) annotated_reference))
+    (turn (bounded around.Super) (behind (keyword token.super) annotated_reference))
 
 abbrev pub wildcard_of : Option TypeText → TypeText
 wildcard_of None = type_of base.Wildcard []
@@ -224,7 +225,7 @@ wildcard_of (Some w) = w
 
 -- ? [WildcardBound]
 unfoldable pub wildcard : Form TypeText
-wildcard = turn wildcard_of (behind (sign 17) (maybe wildcard_bound))
+wildcard = turn wildcard_of (behind (sign token.question) (maybe wildcard_bound))
 
 -- JLS 4.5.1
 unfoldable pub type_argument : Form TypeText
@@ -232,11 +233,11 @@ type_argument = behind annotations (either wildcard (turn type_in reference))
 
 -- , TypeArgument
 unfoldable pub next_argument : Form TypeText
-next_argument = behind (sign 7) type_argument
+next_argument = behind (sign token.comma) type_argument
 
 -- < TypeArgument { , TypeArgument } >
 unfoldable pub arguments_form : Form (List TypeText)
-arguments_form = behind (sign 14) (before (turn first_and_rest (pair type_argument (many next_argument))) (sign 13))
+arguments_form = behind (sign token.less_than) (before (turn first_and_rest (pair type_argument (many next_argument))) (sign token.greater_than))
 
 abbrev pub class_text : List NamedPart → TypeText
 class_text parts = type_of (base.Named parts) []
@@ -247,11 +248,11 @@ annotated_class = behind annotations (turn class_text class_type)
 
 -- & Annotations ClassType
 unfoldable pub next_bound : Form TypeText
-next_bound = behind (sign 32) annotated_class
+next_bound = behind (sign token.ampersand) annotated_class
 
 -- extends Bound { & Bound }
 unfoldable pub bounds : Form (List TypeText)
-bounds = behind (keyword 16) (turn first_and_rest (pair annotated_class (many next_bound)))
+bounds = behind (keyword token.extends) (turn first_and_rest (pair annotated_class (many next_bound)))
 
 abbrev pub type_param_of : List AnnotationText → NameAt → Option (List TypeText) → TypeParamAt
 type_param_of marks n bs = record { param = record { name = n.name; annotations = marks; bounds = list_or_none bs }; line = n.line }
@@ -262,18 +263,18 @@ type_param = turn (λ x. type_param_of x.0 x.1.0 x.1.1) (pair annotations (pair 
 
 -- , TypeParam
 unfoldable pub next_type_param : Form TypeParamAt
-next_type_param = behind (sign 7) type_param
+next_type_param = behind (sign token.comma) type_param
 
 -- < TypeParam { , TypeParam } >
 unfoldable pub type_params : Form (List TypeParamAt)
-type_params = behind (sign 14) (before (turn first_and_rest (pair type_param (many next_type_param))) (sign 13))
+type_params = behind (sign token.less_than) (before (turn first_and_rest (pair type_param (many next_type_param))) (sign token.greater_than))
 
 unfoldable pub optional_params : Form (List TypeParamAt)
 optional_params = turn list_or_none (maybe type_params)
 
 -- , Annotations ClassType
 unfoldable pub next_class : Form TypeText
-next_class = behind (sign 7) annotated_class
+next_class = behind (sign token.comma) annotated_class
 
 -- ClassType { , ClassType }
 unfoldable pub classes : Form (List TypeText)
@@ -289,9 +290,9 @@ pub data Mark : Type 0 where
 -- the bit of a modifier, by its sort
 abbrev pub bit_of : ℕ → ℕ
 bit_of n =
-    if n == word 34 then 1 else if n == word 33 then 2 else if n == word 32 then 4 else if n == word 0 then 8
-    else if n == word 11 then 16 else if n == word 37 then 32 else if n == word 17 then 64 else if n == word 45 then 128
-    else if n == word 48 then 256 else if n == word 41 then 512 else if n == word 29 then 1024 else 2048
+    if n == word token.public then 1 else if n == word token.protected then 2 else if n == word token.private then 4 else if n == word token.abstract then 8
+    else if n == word token.default then 16 else if n == word token.static then 32 else if n == word token.final then 64 else if n == word token.transient then 128
+    else if n == word token.volatile then 256 else if n == word token.synchronized then 512 else if n == word token.native then 1024 else 2048
 
 abbrev pub bit_mark : Symbol → Mark
 bit_mark s = bit (bit_of s.sort)

@@ -13,6 +13,7 @@
 mod fault;
 mod laws;
 mod line_place;
+pub mod sorts;
 mod symbol;
 mod symbol_list;
 mod written;

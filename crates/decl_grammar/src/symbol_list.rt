@@ -4,6 +4,11 @@ ghost use Rattle.java_tokens.specs.declared.fault.TextFault.TheVariants.{Memory}
 ghost use Rattle.java_tokens.specs.TokensShown.{shown_doc, shown_token};
 ghost use Rattle.decl_grammar.specs.SymbolList.{word_sort, operator_sort, sort_of, is_before, sort_before, symbol_of, shown_next, shown_before, AreSymbols};
 
+use crate::sorts::{
+    ABSTRACT, AT, AT_INTERFACE, CHARACTER, EQUALS, FLOATING, GREATER_THAN, IDENTIFIER, INTEGER,
+    INTERFACE, NAMED, NULL, OPEN_PARENTHESIS, SHIFT_RIGHT, TEXT, TEXT_BLOCK, TRUTH, UNDERSCORE,
+    UNSIGNED_SHIFT_RIGHT,
+};
 use crate::symbol::{Symbol, TokenText};
 use java_tokens::{Chars, TextFault, Token, TokenKind, TokenReader};
 use std::alloc::Global;
@@ -12,14 +17,22 @@ use std::alloc::Global;
 fn word_sort_of(number: u8) -> u8
     ensures { result ≡ word_sort number }
 {
-    if number <= 50 { 10 + number } else { 255 }
+    if number <= UNDERSCORE - ABSTRACT {
+        ABSTRACT + number
+    } else {
+        255
+    }
 }
 
 // The sort of an operator with this number.
 fn operator_sort_of(number: u8) -> u8
     ensures { result ≡ operator_sort number }
 {
-    if number <= 49 { 61 + number } else { 255 }
+    if number <= 49 {
+        OPEN_PARENTHESIS + number
+    } else {
+        255
+    }
 }
 
 // The sort of a token by itself.
@@ -27,16 +40,16 @@ fn kind_sort(kind: TokenKind) -> u8
     ensures { result ≡ sort_of kind }
 {
     match kind {
-        TokenKind::Identifier => 0,
+        TokenKind::Identifier => IDENTIFIER,
         TokenKind::Reserved(number) => word_sort_of(number),
-        TokenKind::Integer => 2,
-        TokenKind::Floating => 3,
-        TokenKind::Character => 4,
-        TokenKind::Text => 5,
-        TokenKind::TextBlock => 6,
+        TokenKind::Integer => INTEGER,
+        TokenKind::Floating => FLOATING,
+        TokenKind::Character => CHARACTER,
+        TokenKind::Text => TEXT,
+        TokenKind::TextBlock => TEXT_BLOCK,
         TokenKind::Operator(number) => operator_sort_of(number),
-        TokenKind::Truth => 7,
-        TokenKind::Null => 8,
+        TokenKind::Truth => TRUTH,
+        TokenKind::Null => NULL,
     }
 }
 
@@ -54,11 +67,19 @@ fn is_before_sort(sort: u8, next: &Option<Token<'_>>) -> bool
 fn sort_at(sort: u8, next: &Option<Token<'_>>) -> u8
     ensures { result ≡ sort_before sort (shown_next next.now) }
 {
-    if sort == 0 {
-        return if is_before_sort(73, next) { 1 } else { 0 };
+    if sort == IDENTIFIER {
+        return if is_before_sort(EQUALS, next) {
+            NAMED
+        } else {
+            IDENTIFIER
+        };
     }
-    if sort == 71 {
-        return if is_before_sort(37, next) { 9 } else { 71 };
+    if sort == AT {
+        return if is_before_sort(INTERFACE, next) {
+            AT_INTERFACE
+        } else {
+            AT
+        };
     }
     sort
 }
@@ -97,15 +118,15 @@ fn add_symbols<'a>(
     ensures memory { IfErr result (λ e. e ≡ Memory) }
 {
     let sort = kind_sort(token.kind);
-    if sort == 98 {
-        all.push(symbol_at(74, false, token))?;
-        all.push(symbol_at(74, true, token))?;
+    if sort == SHIFT_RIGHT {
+        all.push(symbol_at(GREATER_THAN, false, token))?;
+        all.push(symbol_at(GREATER_THAN, true, token))?;
         return Ok(());
     }
-    if sort == 99 {
-        all.push(symbol_at(74, false, token))?;
-        all.push(symbol_at(74, true, token))?;
-        all.push(symbol_at(74, true, token))?;
+    if sort == UNSIGNED_SHIFT_RIGHT {
+        all.push(symbol_at(GREATER_THAN, false, token))?;
+        all.push(symbol_at(GREATER_THAN, true, token))?;
+        all.push(symbol_at(GREATER_THAN, true, token))?;
         return Ok(());
     }
     all.push(symbol_at(sort_at(sort, next), false, token))?;

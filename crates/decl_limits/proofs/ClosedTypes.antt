@@ -5,6 +5,7 @@ use Rattle.decl_tree.specs.declared.declaration.TypeKind.TheVariants as kind
 use Rattle.decl_grammar.specs.declared.symbol.Symbol.{Symbol}
 use Rattle.decl_grammar.specs.declared.written.TypeRest.{TypeRest}
 use Rattle.decl_grammar.specs.Symbols.{at_interface}
+use Rattle.decl_grammar.specs.TokenNames as token
 use Rattle.decl_grammar.specs.Form.{nested_type, terminal, pair, turn, many, nest, Is}
 use Rattle.decl_grammar.specs.Types.{keyword, sign, before, name_at}
 use Rattle.decl_grammar.specs.Grammar.{constants, enum_members, joined_lists, member_form, members_in, superclass, implemented, extended, class_form, interface_form, annotation_form, enum_form, type_rest}
@@ -15,7 +16,7 @@ use Rattle.decl_limits.proofs.Counted.{AtLeast, at-least, none, weaker, in-brace
 use Rattle.decl_limits.proofs.FewParams.{further, optional-least}
 
 members-closed : (h : ℕ) (k : TypeKind) → AtLeast h (members_in k) (λ ms. 1)
-members-closed h k = in-braced h (before (turn joined_lists (many (member_form k))) (sign 3)) (members-close k)
+members-closed h k = in-braced h (before (turn joined_lists (many (member_form k))) (sign token.close_brace)) (members-close k)
 
 abbrev pub closed : TypeRest → ℕ
 closed x = suc (further x.parameters)
@@ -24,28 +25,28 @@ class-added : (h : ℕ) (ts : List Symbol) (x : TypeRest) → Is (WholeAt h) cla
 unfolding class_form
 class-added h ts x is =
     let heading = in-pair (none h superclass even.superclass_even) (in-pair (none h implemented even.implemented_even) (members-closed h kind.Class)) in
-    let p = in-behind 0 (none h (keyword 8) refl) (in-pair (none h name_at even.name_at_even) (in-pair (optional-least h) heading)) in
+    let p = in-behind 0 (none h (keyword token.class) refl) (in-pair (none h name_at even.name_at_even) (in-pair (optional-least h) heading)) in
     adds-less (p.added ts is.0 is.1) (omega (arith, ap closed is.2))
 
 interface-added : (h : ℕ) (ts : List Symbol) (x : TypeRest) → Is (WholeAt h) interface_form ts x → Adds ts (closed x)
 unfolding interface_form
 interface-added h ts x is =
     let heading = in-pair (none h extended even.extended_even) (members-closed h kind.Interface) in
-    let p = in-behind 0 (none h (keyword 27) refl) (in-pair (none h name_at even.name_at_even) (in-pair (optional-least h) heading)) in
+    let p = in-behind 0 (none h (keyword token.interface) refl) (in-pair (none h name_at even.name_at_even) (in-pair (optional-least h) heading)) in
     adds-less (p.added ts is.0 is.1) (omega (arith, ap closed is.2))
 
 annotation-added : (h : ℕ) (ts : List Symbol) (x : TypeRest) → Is (WholeAt h) annotation_form ts x → Adds ts (closed x)
 unfolding annotation_form
 annotation-added h ts x is =
     let named = in-pair (none h name_at even.name_at_even) (members-closed h kind.AnnotationType) in
-    let p = in-behind 0 (none h (terminal (at_interface ∷ [])) refl) (in-behind 0 (none h (keyword 27) refl) named) in
+    let p = in-behind 0 (none h (terminal (at_interface ∷ [])) refl) (in-behind 0 (none h (keyword token.interface) refl) named) in
     adds-less (p.added ts is.0 is.1) (omega (arith, ap closed is.2))
 
 enum-added : (h : ℕ) (ts : List Symbol) (x : TypeRest) → Is (WholeAt h) enum_form ts x → Adds ts (closed x)
 unfolding enum_form
 enum-added h ts x is =
-    let braced = in-braced h (pair constants (before enum_members (sign 3))) even.enum_closes in
-    let p = in-behind 0 (none h (keyword 15) refl) (in-pair (none h name_at even.name_at_even) (in-pair (none h implemented even.implemented_even) braced)) in
+    let braced = in-braced h (pair constants (before enum_members (sign token.close_brace))) even.enum_closes in
+    let p = in-behind 0 (none h (keyword token.enum) refl) (in-pair (none h name_at even.name_at_even) (in-pair (none h implemented even.implemented_even) braced)) in
     adds-less (p.added ts is.0 is.1) (omega (arith, ap closed is.2))
 
 pub rest-closed : (h : ℕ) → AtLeast h type_rest closed

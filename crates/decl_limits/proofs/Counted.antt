@@ -3,6 +3,7 @@ use Rattle.std.proofs.Common.{◌≡◌, ℕ, zero, suc, ◌+◌, ◌≤◌, tru
 use Rattle.std.proofs.lemmas.Bool.{eqb-true}
 use Rattle.decl_grammar.specs.declared.symbol.Symbol.{Symbol}
 use Rattle.decl_grammar.specs.Symbols.{operator}
+use Rattle.decl_grammar.specs.TokenNames as token
 use Rattle.decl_grammar.specs.Reading.{has}
 use Rattle.decl_grammar.specs.Form.{Nest, Of, Form, pair, turn, maybe, many, either, seen, nest, attempt, Each, Is}
 use Rattle.decl_grammar.specs.Types.{sign, behind, before}
@@ -40,14 +41,14 @@ one h n s = at-least (sign-added h n s)
 pub in-braces : (h : ℕ) → AtLeast h block (λ x. 1)
 in-braces h = at-least (λ ts x is. braces-add ts is)
 
-braced-added : (h : ℕ) {A : Type 0} (g : Form A) → effect g ≡ closing → (ts : List Symbol) (x : A) → Is (WholeAt h) (behind (sign 2) g) ts x → Adds ts 1
+braced-added : (h : ℕ) {A : Type 0} (g : Form A) → effect g ≡ closing → (ts : List Symbol) (x : A) → Is (WholeAt h) (behind (sign token.open_brace) g) ts x → Adds ts 1
 braced-added h g e ts x is =
     let parts = is.1 in
     let closes = subst (λ (e : Effect). Levels e parts.1) e (phrase-levels h g parts.1 is.0.1 parts.4) in
-    subst (λ (ss : List Symbol). Adds ss 1) (sym parts.2) (open-close parts.0 parts.1 (phrase-levels h (sign 2) parts.0 is.0.0 parts.3) closes)
+    subst (λ (ss : List Symbol). Adds ss 1) (sym parts.2) (open-close parts.0 parts.1 (phrase-levels h (sign token.open_brace) parts.0 is.0.0 parts.3) closes)
 
 -- a `{` before a form that closes it
-pub in-braced : (h : ℕ) {A : Type 0} (g : Form A) → effect g ≡ closing → AtLeast h (behind (sign 2) g) (λ x. 1)
+pub in-braced : (h : ℕ) {A : Type 0} (g : Form A) → effect g ≡ closing → AtLeast h (behind (sign token.open_brace) g) (λ x. 1)
 in-braced h g e = at-least (braced-added h g e)
 
 pub weaker : {h : ℕ} {A : Type 0} {f : Form A} {s : A → ℕ} (t : A → ℕ) → AtLeast h f s → ((x : A) → t x ≤ s x) → AtLeast h f t

@@ -3,6 +3,7 @@ use Rattle.std.proofs.Common.{◌≡◌, refl, ap}
 use Rattle.decl_tree.specs.declared.declaration.TypeKind.{TypeKind}
 use Rattle.decl_tree.specs.declared.declaration.TypeKind.TheVariants as kind
 use Rattle.decl_grammar.specs.Symbols.{numbers}
+use Rattle.decl_grammar.specs.TokenNames as token
 use Rattle.decl_grammar.specs.Form.{pair, turn, maybe, many, either}
 use Rattle.decl_grammar.specs.Types.{name, named_text, dot_name, name_chain, first_pair, next_pair, pairs_or_value, annotation_arguments, annotation_body, annotation, modifier_annotation, annotations, primitive_type, named_part, next_part, class_type, dim, base_type, class_array, primitive_array, reference, annotated_reference, wildcard_bound, wildcard, type_argument, next_argument, arguments_form, annotated_class, next_bound, bounds, type_param, next_type_param, type_params, optional_params, next_class, classes, modifier, plain_modifier, optional_modifiers, type_modifiers, keyword, silently, type_form, sign, before, behind, name_at}
 use Rattle.decl_grammar.specs.Expressions.{created_part, next_created_part, created_type, creation_form, created_arguments_form, test_form, test_name_form, reference_form, annotation_over, annotated_form, part_symbols, step, plain_dots, plain_squares, told_steps, two_readings, other_steps, signs_form, value_squares, listed_values, listed_end, array_form, value_of, value_form, paired_end, listed_more, value_or_end, assigned_end, plain_constant, plus_constant, bare_dim, dot_class, array_class, chain_form, literal_constant, named_constant, negated_constant, primitive_class, void_class, plain_form, constant_end, constant_items_form, constant_array, constant_form, kept, constant_alone, initialiser_form}
@@ -40,10 +41,10 @@ pub record EvenForms : Type 0 where
   pub interface_members_even : effect (member_form kind.Interface) ≡ level
   pub annotation_members_even : effect (member_form kind.AnnotationType) ≡ level
   pub enum_members_even : effect (member_form kind.Enum) ≡ level
-  pub enum_closes : effect (pair constants (before enum_members (sign 3))) ≡ closing
+  pub enum_closes : effect (pair constants (before enum_members (sign token.close_brace))) ≡ closing
   pub generic_name_even : effect generic_name ≡ level
   pub enum_heading_even : effect enum_heading ≡ level
-  pub behind_params_even : effect (pair annotations (pair (maybe (either (turn silently (keyword 47)) (turn silently type_form))) name)) ≡ level
+  pub behind_params_even : effect (pair annotations (pair (maybe (either (turn silently (keyword token.void)) (turn silently type_form))) name)) ≡ level
   pub ordinary_even : effect ordinary ≡ level
 
 pub even : EvenForms
@@ -92,5 +93,5 @@ members-even kind.AnnotationType = even.annotation_members_even
 members-even kind.Enum = even.enum_members_even
 
 -- members up to the `}` behind them
-pub members-close : (k : TypeKind) → effect (before (turn joined_lists (many (member_form k))) (sign 3)) ≡ closing
+pub members-close : (k : TypeKind) → effect (before (turn joined_lists (many (member_form k))) (sign token.close_brace)) ≡ closing
 members-close k = ap (λ (e : Effect). joined (repeated e) closing) (members-even k)

@@ -3,6 +3,7 @@ use Rattle.std.proofs.Common.{ℕ, zero, suc, [], ◌∷◌, Option, refl, arith
 use Rattle.decl_tree.specs.declared.annotation.ValueText.{ValueText}
 use Rattle.decl_grammar.specs.Form.{defaulted, strict, between, first_names, array_value, nested_annotation, value_and_rest, expression_rest, value_end, bracketed, nest}
 use Rattle.decl_grammar.specs.Symbols.{operator}
+use Rattle.decl_grammar.specs.TokenNames as token
 use Rattle.decl_grammar.specs.Types.{keyword, silently}
 use Rattle.decl_grammar.specs.Expressions.{annotation_there, value_there, value_squares, expression, value_of, value_form}
 use Rattle.decl_grammar.specs.Grammar.{no_default, some_default, element_end}
@@ -24,7 +25,7 @@ value_ended x = 1
 
 squares-least : (h : ℕ) → AtLeast h (value_squares defaulted) (behind_row defaulted)
 unfolding value_squares
-squares-least h = step-least defaulted h (rows-least h) (bracketed (operator 4 ∷ [])) refl strict between
+squares-least h = step-least defaulted h (rows-least h) (bracketed (operator token.open_bracket ∷ [])) refl strict between
 
 expression-least : (h : ℕ) → AtLeast h (expression defaulted) (behind_row defaulted)
 expression-least h =
@@ -49,4 +50,4 @@ pub element-end-least : (h : ℕ) → AtLeast h element_end (λ o. 1)
 unfolding element_end
 element-end-least h =
     in-either (in-turn no_default end_there (one h 6 refl) (λ s. omega arith))
-    (in-turn some_default end_there (in-behind 0 (none h (keyword 11) refl) (value-row h)) (λ x. omega arith))
+    (in-turn some_default end_there (in-behind 0 (none h (keyword token.default) refl) (value-row h)) (λ x. omega arith))

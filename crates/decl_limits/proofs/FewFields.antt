@@ -8,6 +8,7 @@ use Rattle.decl_grammar.specs.Expressions.{expression, declarator_first, no_decl
 use Rattle.decl_limits.proofs.Counted.{AtLeast, none, one, weaker, in-pair, in-turn, in-behind, in-before, in-either, in-attempt, nest-zero, nest-suc}
 use Rattle.decl_limits.proofs.EvenForms.{even}
 use Rattle.decl_limits.proofs.FewRows.{ended, behind_row, Rows, told-least, signs-least, other-least, any-least}
+use Rattle.decl_grammar.specs.TokenNames as token
 
 abbrev pub behind_value : Option ValueText × List Declarator → ℕ
 behind_value x = suc (length x.1)
@@ -30,7 +31,7 @@ initialiser-least h rows = in-attempt (constant-least h) (in-turn initialised be
 value-least : (h : ℕ) → FieldRows h → AtLeast h value_or_end behind_value
 unfolding value_or_end
 value-least h fields =
-    in-either (weaker behind_value (in-behind 0 (none h (sign 12) refl) fields.first) (λ x. omega arith))
+    in-either (weaker behind_value (in-behind 0 (none h (sign token.equals) refl) fields.first) (λ x. omega arith))
     (in-turn without_value behind_value fields.rows.end (λ ds. omega arith))
 
 -- a further field: its name, and what stands behind that

@@ -25,6 +25,7 @@ use Rattle.decl_grammar.specs.declared.written.TypeParamAt.{TypeParamAt}
 use Rattle.decl_grammar.specs.declared.written.Unmodified.{Unmodified}
 use Rattle.decl_grammar.specs.declared.written.Signature.{Signature}
 use Rattle.decl_grammar.specs.declared.written.Unmodified.TheVariants as unmodified
+use Rattle.decl_grammar.specs.TokenNames as token
 use Rattle.decl_grammar.specs.Form.{Form, type_arguments, plain_modifiers, static_word, pair, turn, maybe, many, nest, Is}
 use Rattle.decl_grammar.specs.Constants.{named_part_of, type_of}
 use Rattle.decl_grammar.specs.Types.{keyword, sign, silently, name_at, next_part, primitive_type, dim, annotation, annotations, optional_modifiers}
@@ -161,7 +162,7 @@ constructor-least h = at-least (constructor-added h)
 element-added : (h : ℕ) (ts : List Symbol) (s : Signature) → Is (WholeAt h) element_signature ts s → Adds ts (in_signature s)
 unfolding element_signature
 element-added h ts s is =
-    let p = in-behind 0 (none h (sign 0) refl) (in-behind 0 (none h (sign 1) refl) (in-pair (none h (many dim) even.dims_even) (element-end-least h))) in
+    let p = in-behind 0 (none h (sign token.open_parenthesis) refl) (in-behind 0 (none h (sign token.close_parenthesis) refl) (in-pair (none h (many dim) even.dims_even) (element-end-least h))) in
     adds-less (p.added ts is.0 is.1) (omega (arith, ap in_signature is.2))
 
 element-least : (h : ℕ) → AtLeast h element_signature in_signature
@@ -223,7 +224,7 @@ typed-form-least h first false rest = typed-least h first rest
 
 void-least : (h : ℕ) → AtLeast h void_method items_of
 unfolding void_method
-void-least h = in-turn void_named items_of (in-behind 0 (none h (keyword 47) refl) (in-pair (none h name_at even.name_at_even) (method-signature-least h))) (λ x. omega arith)
+void-least h = in-turn void_named items_of (in-behind 0 (none h (keyword token.void) refl) (in-pair (none h name_at even.name_at_even) (method-signature-least h))) (λ x. omega arith)
 
 primitive-added : (h : ℕ) (rest : MemberRest) (ts : List Symbol) (u : Unmodified) → Is (WholeAt h) (primitive_member rest) ts u → Adds ts (items_of u)
 unfolding primitive_member
@@ -327,7 +328,7 @@ or-block-least h kind.Interface = documented-least h kind.Interface
 
 pub member-least : (h : ℕ) (k : TypeKind) → AtLeast h (member_form k) weights
 unfolding member_form
-member-least h k = in-either (in-turn no_member weights (none h (sign 6) refl) (λ s. omega arith)) (or-block-least h k)
+member-least h k = in-either (in-turn no_member weights (none h (sign token.semicolon) refl) (λ s. omega arith)) (or-block-least h k)
 
 -- how many items some members give together
 abbrev pub all_items : List (List MemberAt) → ℕ

@@ -10,6 +10,7 @@ use Rattle.decl_grammar.specs.declared.written.Modifiers.{Modifiers}
 use Rattle.decl_grammar.specs.declared.written.ParamAt.{ParamAt}
 use Rattle.decl_grammar.specs.declared.written.ParamEnd.{ParamEnd}
 use Rattle.decl_grammar.specs.declared.written.ParamEnd.TheVariants as param_end
+use Rattle.decl_grammar.specs.TokenNames as token
 use Rattle.decl_grammar.specs.declared.written.Params.{Params}
 use Rattle.decl_grammar.specs.declared.written.TypeParamAt.{TypeParamAt}
 use Rattle.decl_grammar.specs.Form.{ParamRest, Form, enum_rest, param_rest, first_rest, pair, turn, maybe, many, nest, Is}
@@ -58,7 +59,7 @@ row-least h =
 
 pub type-params-least : (h : ℕ) → AtLeast h type_params further
 unfolding type_params
-type-params-least h = weaker further (in-behind 0 (none h (sign 14) refl) (in-before 0 (row-least h) (none h (sign 13) refl))) (λ ps. omega arith)
+type-params-least h = weaker further (in-behind 0 (none h (sign token.less_than) refl) (in-before 0 (row-least h) (none h (sign token.greater_than) refl))) (λ ps. omega arith)
 
 pub optional-least : (h : ℕ) → AtLeast h optional_params further
 unfolding optional_params
@@ -121,7 +122,7 @@ some-next h rows = in-maybe some_there (next-least h rows) refl (λ ps. omega ar
 
 bracket-least : (h : ℕ) (rest : Form ParamRest) → AtLeast h rest items_there → AtLeast h (bracket_rest rest) items_there
 bracket-least h rest p =
-    weaker items_there (in-behind 0 (none h (sign 4) refl) (in-behind 0 (none h (sign 5) refl) (in-turn in_array items_there p (λ r. omega arith)))) (λ r. omega arith)
+    weaker items_there (in-behind 0 (none h (sign token.open_bracket) refl) (in-behind 0 (none h (sign token.close_bracket) refl) (in-turn in_array items_there p (λ r. omega arith)))) (λ r. omega arith)
 
 varargs-least : (h : ℕ) → AtLeast h (turn ended_last varargs) items_there
 varargs-least h = in-turn ended_last items_there (none h varargs even.varargs_even) (λ e. omega (arith, ended-few e []))
@@ -174,7 +175,7 @@ found_there found g = further_there (g found)
 found-least : (h : ℕ) (found : List AnnotationText) → AtLeast h behind_annotations (found_there found)
 unfolding behind_annotations
 found-least h found =
-    in-either (in-turn final_first (found_there found) (in-behind 0 (none h (keyword 17) refl) (in-pair (none h (many param_modifier) even.param_marks_even) (in-pair (none h base_type even.base_type_even) (param-rows h).later)))
+    in-either (in-turn final_first (found_there found) (in-behind 0 (none h (keyword token.final) refl) (in-pair (none h (many param_modifier) even.param_marks_even) (in-pair (none h base_type even.base_type_even) (param-rows h).later)))
     (λ v. omega (arith, ended-there v.1.1.1.0 (with_marks (final_and found) v.0) v.1.0 v.1.1.0 v.1.1.1.1)))
     (in-turn plain_first (found_there found) (in-pair (none h base_type even.base_type_even) (param-rows h).first)
     (λ v. omega (arith, ended-there v.1.1.0 (annotated_only found) v.0 v.1.0 v.1.1.1)))
@@ -197,10 +198,10 @@ pub params-least : (h : ℕ) → AtLeast h params params_there
 unfolding params
 params-least h =
     weaker params_there
-    (in-behind 0 (none h (sign 0) refl)
+    (in-behind 0 (none h (sign token.open_parenthesis) refl)
     (in-before 0
     (in-turn optional_first params_there (in-maybe some_further (first-params-least h) refl (λ ps. omega arith)) (λ o. omega arith))
-    (none h (sign 1) refl)))
+    (none h (sign token.close_parenthesis) refl)))
     (λ ps. omega arith)
 
 -- ---- constants
@@ -226,6 +227,6 @@ unfolding constants constant_list
 constants-least h =
     in-turn (list_or_none {A = MemberAt}) further
     (in-maybe (further_listed {A = MemberAt})
-    (in-either (some-least h (constant-rows h)) (in-turn (no_values {A = MemberAt}) further (none h (sign 7) refl) (λ s. omega arith)))
+    (in-either (some-least h (constant-rows h)) (in-turn (no_values {A = MemberAt}) further (none h (sign token.comma) refl) (λ s. omega arith)))
     refl (λ ms. omega arith))
     (λ o. omega arith)

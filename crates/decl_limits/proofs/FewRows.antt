@@ -1,6 +1,7 @@
 -- How many separators the rest of an expression has at least, with all behind it, by where the expression stands: those of what ends it.
 use Rattle.std.proofs.Common.{◌≡◌, ℕ, suc, List, [], ◌∷◌, length, refl, arith}
 use Rattle.decl_grammar.specs.Symbols.{word, operator, numbers}
+use Rattle.decl_grammar.specs.TokenNames as token
 use Rattle.decl_grammar.specs.Form.{Stands, Freedom, After, strict, conditional, anywhere, Part, Behind, Rest, names, ats, plain_sorts, primitive_sorts, equals, less_sorts, alone, paired, listed, defaulted, assigned, between, name_there, greater, dot, colons, colon_arguments, creation, test, test_name, test_arguments, test_end, one_of, bracketed, arguments, annotated, created, type_reference, tested, tested_name, tested_dim, expression_rest, value_end, turn, either, nest}
 use Rattle.decl_grammar.specs.Expressions.{in_condition, behind_condition, in_lambda, part_symbols, with_symbols, step, told_steps, new_step, two_readings, less_form, plain_dots, plain_squares, greater_dots, greater_squares, dot_form, square_form, other_steps, signs_form, no_symbols, rest_form}
 use Rattle.decl_limits.proofs.Braces.{level, terminal_effect, part_effect}
@@ -40,8 +41,8 @@ new-least s h rows w between = step-least s h rows created refl w creation
 new-least s h rows w name_there = step-least s h rows created refl w creation
 new-least s h rows w greater = step-least s h rows created refl w creation
 new-least s h rows w dot = step-least s h rows created refl w creation
-new-least s h rows w colons = step-least s h rows (one_of (word 30 ∷ [])) refl w between
-new-least s h rows w colon_arguments = step-least s h rows (one_of (word 30 ∷ [])) refl w between
+new-least s h rows w colons = step-least s h rows (one_of (word token.new ∷ [])) refl w between
+new-least s h rows w colon_arguments = step-least s h rows (one_of (word token.new ∷ [])) refl w between
 new-least s h rows w creation = step-least s h rows created refl w creation
 new-least s h rows w test = step-least s h rows created refl w creation
 new-least s h rows w test_name = step-least s h rows created refl w creation
@@ -53,18 +54,18 @@ unfolding told_steps
 told-least s h rows sorts even w a =
     in-either (step-least s h rows (one_of sorts) even w name_there)
     (in-either (step-least s h rows (one_of plain_sorts) plain-even w between)
-    (in-either (step-least s h rows (bracketed (operator 0 ∷ [])) refl w between)
+    (in-either (step-least s h rows (bracketed (operator token.open_parenthesis ∷ [])) refl w between)
     (in-either (new-least s h rows w a)
     (in-either (step-least s h rows tested refl w test)
-    (in-either (step-least s h rows (one_of (operator 13 ∷ [])) refl w greater)
-    (in-either (step-least s h rows (one_of (operator 17 ∷ [])) refl (in_condition w) between)
-    (in-either (step-least s h rows (one_of (operator 18 ∷ [])) refl (behind_condition w) between)
-    (step-least s h rows (one_of (operator 19 ∷ [])) refl (in_lambda w) between))))))))
+    (in-either (step-least s h rows (one_of (operator token.greater_than ∷ [])) refl w greater)
+    (in-either (step-least s h rows (one_of (operator token.question ∷ [])) refl (in_condition w) between)
+    (in-either (step-least s h rows (one_of (operator token.colon ∷ [])) refl (behind_condition w) between)
+    (step-least s h rows (one_of (operator token.arrow ∷ [])) refl (in_lambda w) between))))))))
 
 pub less-least : (s : Stands) (h : ℕ) → Rows s h → (w : Freedom) (a : After) → AtLeast h (less_form s w a) (behind_row s)
 unfolding two_readings
 less-least s h rows w between = step-least s h rows (one_of (less_sorts between)) refl w between
-less-least s h rows w name_there = in-attempt (step-least s h rows type_reference refl w colons) (step-least s h rows (one_of (operator 14 ∷ [])) refl w between)
+less-least s h rows w name_there = in-attempt (step-least s h rows type_reference refl w colons) (step-least s h rows (one_of (operator token.less_than ∷ [])) refl w between)
 less-least s h rows w greater = step-least s h rows (one_of (less_sorts greater)) refl w between
 less-least s h rows w dot = step-least s h rows arguments refl w between
 less-least s h rows w colons = step-least s h rows arguments refl w colon_arguments
@@ -77,7 +78,7 @@ less-least s h rows w test_end = step-least s h rows (one_of (less_sorts test_en
 
 pub plain-dots-least : (s : Stands) (h : ℕ) → Rows s h → (w : Freedom) → AtLeast h (plain_dots s w) (behind_row s)
 unfolding plain_dots
-plain-dots-least s h rows w = in-either (step-least s h rows (one_of (operator 8 ∷ [])) refl w dot) (step-least s h rows (one_of (operator 11 ∷ [])) refl w colons)
+plain-dots-least s h rows w = in-either (step-least s h rows (one_of (operator token.dot ∷ [])) refl w dot) (step-least s h rows (one_of (operator token.double_colon ∷ [])) refl w colons)
 
 greater-dots-least : (s : Stands) (h : ℕ) → Rows s h → (w : Freedom) → AtLeast h (greater_dots s w) (behind_row s)
 greater-dots-least assigned h rows w = plain-dots-least assigned h rows w
@@ -87,7 +88,7 @@ greater-dots-least listed h rows w = step-least listed h rows (one_of []) refl w
 greater-dots-least defaulted h rows w = step-least defaulted h rows (one_of []) refl w between
 
 test-dots-least : (s : Stands) (h : ℕ) → Rows s h → (w : Freedom) → AtLeast h (dot_form s w test_name) (behind_row s)
-test-dots-least s h rows w = in-either (step-least s h rows tested_name refl w test_name) (step-least s h rows (one_of (operator 11 ∷ [])) refl w colons)
+test-dots-least s h rows w = in-either (step-least s h rows tested_name refl w test_name) (step-least s h rows (one_of (operator token.double_colon ∷ [])) refl w colons)
 
 dot-least : (s : Stands) (h : ℕ) → Rows s h → (w : Freedom) (a : After) → AtLeast h (dot_form s w a) (behind_row s)
 dot-least s h rows w between = plain-dots-least s h rows w
@@ -104,7 +105,7 @@ dot-least s h rows w test_end = plain-dots-least s h rows w
 
 plain-squares-least : (s : Stands) (h : ℕ) → Rows s h → (w : Freedom) → AtLeast h (plain_squares s w) (behind_row s)
 unfolding plain_squares
-plain-squares-least s h rows w = in-either (step-least s h rows (bracketed (operator 4 ∷ [])) refl w between) (step-least s h rows (one_of ats) refl w between)
+plain-squares-least s h rows w = in-either (step-least s h rows (bracketed (operator token.open_bracket ∷ [])) refl w between) (step-least s h rows (one_of ats) refl w between)
 
 greater-squares-least : (s : Stands) (h : ℕ) → Rows s h → (w : Freedom) → AtLeast h (greater_squares s w) (behind_row s)
 greater-squares-least assigned h rows w = plain-squares-least assigned h rows w
@@ -132,7 +133,7 @@ signs-least s h rows w a = in-either (less-least s h rows w a) (in-either (dot-l
 
 pub other-least : (s : Stands) (h : ℕ) → Rows s h → (w : Freedom) → AtLeast h (other_steps s w) (behind_row s)
 unfolding other_steps
-other-least s h rows w = in-either (step-least s h rows (bracketed (operator 2 ∷ [])) refl w between) (step-least s h rows (one_of (equals w)) (equals-even w) w between)
+other-least s h rows w = in-either (step-least s h rows (bracketed (operator token.open_brace ∷ [])) refl w between) (step-least s h rows (one_of (equals w)) (equals-even w) w between)
 
 ends-least : (s : Stands) (h : ℕ) → Rows s h → AtLeast h (turn no_symbols (nest (value_end s))) (behind_row s)
 ends-least s h rows = in-turn no_symbols (behind_row s) rows.end (λ v. omega arith)

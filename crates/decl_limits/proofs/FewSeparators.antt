@@ -14,6 +14,7 @@ use Rattle.decl_grammar.specs.declared.written.MemberAt.{MemberAt}
 use Rattle.decl_grammar.specs.declared.written.TypeParamAt.{TypeParamAt}
 use Rattle.decl_grammar.specs.declared.written.TypeRest.{TypeRest}
 use Rattle.decl_grammar.specs.Symbols.{operator, at_interface}
+use Rattle.decl_grammar.specs.TokenNames as token
 use Rattle.decl_grammar.specs.Form.{Form, terminal, pair, turn, maybe, many, either, Is}
 use Rattle.decl_grammar.specs.Types.{keyword, sign, behind, before, list_or_none, silently, name, name_at, annotations, type_form, type_param, optional_params}
 use Rattle.decl_grammar.specs.Grammar.{plain_members, constant, constants, joined_lists, member_form, members_in, superclass, implemented, extended, class_form, interface_form, annotation_form, enum_members, enum_form, type_rest}
@@ -39,33 +40,33 @@ further_members x = further x.members
 
 members-reached : (h : ℕ) (k : TypeKind) → Reaches h (members_in k) length
 members-reached h k =
-    reach-behind (sign 2) (reach-before (sign 3) (reach-turn joined_lists length (reach-least (members-least h k)) (λ ms. omega arith)))
+    reach-behind (sign token.open_brace) (reach-before (sign token.close_brace) (reach-turn joined_lists length (reach-least (members-least h k)) (λ ms. omega arith)))
 
 class-reached : (h : ℕ) (ts : List Symbol) (x : TypeRest) → Is (WholeAt h) class_form ts x → (s : Scan) → s.count ≤ s.most → further_members x ≤ (scanned s ts).most
 unfolding class_form
 class-reached h ts x is s le =
     let heading = reach-second optional_params (reach-second superclass (reach-second implemented (members-reached h kind.Class))) in
-    let p = reach-behind (keyword 8) (reach-second name_at heading) in
+    let p = reach-behind (keyword token.class) (reach-second name_at heading) in
     omega (arith, p.there ts is.0 is.1 s le, ap further_members is.2, further-less is.0.1.1.1.1)
 
 interface-reached : (h : ℕ) (ts : List Symbol) (x : TypeRest) → Is (WholeAt h) interface_form ts x → (s : Scan) → s.count ≤ s.most → further_members x ≤ (scanned s ts).most
 unfolding interface_form
 interface-reached h ts x is s le =
     let heading = reach-second optional_params (reach-second extended (members-reached h kind.Interface)) in
-    let p = reach-behind (keyword 27) (reach-second name_at heading) in
+    let p = reach-behind (keyword token.interface) (reach-second name_at heading) in
     omega (arith, p.there ts is.0 is.1 s le, ap further_members is.2, further-less is.0.1.1.1)
 
 annotation-reached : (h : ℕ) (ts : List Symbol) (x : TypeRest) → Is (WholeAt h) annotation_form ts x → (s : Scan) → s.count ≤ s.most → further_members x ≤ (scanned s ts).most
 unfolding annotation_form
 annotation-reached h ts x is s le =
-    let p = reach-behind (terminal (at_interface ∷ [])) (reach-behind (keyword 27) (reach-second name_at (members-reached h kind.AnnotationType))) in
+    let p = reach-behind (terminal (at_interface ∷ [])) (reach-behind (keyword token.interface) (reach-second name_at (members-reached h kind.AnnotationType))) in
     omega (arith, p.there ts is.0 is.1 s le, ap further_members is.2, further-less is.0.1)
 
 enum-members-least : (h : ℕ) → AtLeast h enum_members length
 unfolding enum_members
 enum-members-least h =
     in-turn (list_or_none {A = MemberAt}) length
-    (in-maybe (listed {A = MemberAt}) (in-behind 0 (none h (sign 6) refl) (in-turn joined_lists length (members-least h kind.Enum) (λ ms. omega arith))) refl (λ ms. omega arith))
+    (in-maybe (listed {A = MemberAt}) (in-behind 0 (none h (sign token.semicolon) refl) (in-turn joined_lists length (members-least h kind.Enum) (λ ms. omega arith))) refl (λ ms. omega arith))
     (λ o. omega arith)
 
 further-both : {A : Type 0} (xs ys : List A) → further (xs ++ ys) ≤ further xs + length ys
@@ -76,7 +77,7 @@ further-both (x ∷ xs) ys = omega (arith, length-append xs ys)
 abbrev in_enum : List MemberAt × List MemberAt → ℕ
 in_enum x = further x.0 + length x.1
 
-enum-braces : (h : ℕ) (ts : List Symbol) (x : List MemberAt × List MemberAt) → Is (WholeAt h) (pair constants (before enum_members (sign 3))) ts x
+enum-braces : (h : ℕ) (ts : List Symbol) (x : List MemberAt × List MemberAt) → Is (WholeAt h) (pair constants (before enum_members (sign token.close_brace))) ts x
     → (s : Scan) → s.count ≤ s.most → in_enum x ≤ (scanned s ts).most
 enum-braces h ts x is s le =
     let behind = is.4 in
@@ -91,8 +92,8 @@ enum-braces h ts x is s le =
 enum-reached : (h : ℕ) (ts : List Symbol) (x : TypeRest) → Is (WholeAt h) enum_form ts x → (s : Scan) → s.count ≤ s.most → further_members x ≤ (scanned s ts).most
 unfolding enum_form
 enum-reached h ts x is s le =
-    let braced : Reaches h (pair constants (before enum_members (sign 3))) in_enum = record { there = enum-braces h } in
-    let p = reach-behind (keyword 15) (reach-second name_at (reach-second implemented (reach-behind (sign 2) braced))) in
+    let braced : Reaches h (pair constants (before enum_members (sign token.close_brace))) in_enum = record { there = enum-braces h } in
+    let p = reach-behind (keyword token.enum) (reach-second name_at (reach-second implemented (reach-behind (sign token.open_brace) braced))) in
     omega (arith, p.there ts is.0 is.1 s le, ap further_members is.2, further-both is.0.1.1.0 is.0.1.1.1)
 
 type-reached : (h : ℕ) → Reaches h type_rest further_members
@@ -139,13 +140,13 @@ Heads h f = (ts : List Symbol) (n : ℕ) → Is (WholeAt h) f ts n → (s : Scan
 class-heads : (h : ℕ) → Heads h class_heading
 unfolding class_heading
 class-heads h ts n is s le =
-    let p = reach-behind (keyword 8) (reach-behind name (reach-before (pair superclass (before implemented (sign 2))) (reach-least (optional-least h)))) in
+    let p = reach-behind (keyword token.class) (reach-behind name (reach-before (pair superclass (before implemented (sign token.open_brace))) (reach-least (optional-least h)))) in
     omega (arith, p.there ts is.0 is.1 s le, is.2, further-few is.0)
 
 interface-heads : (h : ℕ) → Heads h interface_heading
 unfolding interface_heading
 interface-heads h ts n is s le =
-    let p = reach-behind (keyword 27) (reach-behind name (reach-before (before extended (sign 2)) (reach-least (optional-least h)))) in
+    let p = reach-behind (keyword token.interface) (reach-behind name (reach-before (before extended (sign token.open_brace)) (reach-least (optional-least h)))) in
     omega (arith, p.there ts is.0 is.1 s le, is.2, further-few is.0)
 
 annotation-heads : (h : ℕ) → Heads h annotation_heading
@@ -155,7 +156,7 @@ annotation-heads h ts n is s le = omega (arith, is.2)
 constants-head : (h : ℕ) → Heads h whole_constants
 unfolding whole_constants
 constants-head h ts n is s le =
-    let p = reach-behind enum_heading (reach-behind (sign 2) (reach-before (sign 6) (reach-least (constants-least h)))) in
+    let p = reach-behind enum_heading (reach-behind (sign token.open_brace) (reach-before (sign token.semicolon) (reach-least (constants-least h)))) in
     omega (arith, p.there ts is.0 is.1 s le, is.2, further-few is.0)
 
 members-added : (h : ℕ) (k : TypeKind) (ts : List Symbol) (n : ℕ) → Is (WholeAt h) (whole_members k) ts n → Adds ts n
@@ -185,12 +186,12 @@ heading-few : (ts : List Symbol) (n : ℕ) → IsPhrase executable_heading ts n 
 unfolding executable_heading
 heading-few ts n is s =
     let h = is.0 in
-    let rest = pair annotations (pair (maybe (either (turn silently (keyword 47)) (turn silently type_form))) name) in
+    let rest = pair annotations (pair (maybe (either (turn silently (keyword token.void)) (turn silently type_form))) name) in
     let p = in-before 0 (optional-least h) (none h rest even.behind_params_even) in
     omega (arith, (p.added ts is.1.0 is.1.1).adds s, is.1.2, further-few is.1.0)
 
 -- items with a comma behind each
-listed-least : (h : ℕ) {A : Type 0} (item : Form A) → effect item ≡ level → AtLeast h (many (before item (sign 7))) length
+listed-least : (h : ℕ) {A : Type 0} (item : Form A) → effect item ≡ level → AtLeast h (many (before item (sign token.comma))) length
 listed-least h {A} item level_there = in-row (length {A = A}) (in-before 1 (none h item level_there) (one h 7 refl)) refl (λ x xs. omega arith)
 
 -- ---- the same of phrases
@@ -221,7 +222,7 @@ next-few opens item level_there ts n f s le =
     omega (arith, f.count, front-reached f.opening ts f.front (f.next ∷ []) (length f.items) f.parts front s le)
 
 -- a `(` opens no braces and does not count
-at-round : (s : Scan) (t : Symbol) → t.sort ≡ operator 0 → (scan_next s t).count ≡ s.count
+at-round : (s : Scan) (t : Symbol) → t.sort ≡ operator token.open_parenthesis → (scan_next s t).count ≡ s.count
 at-round s t e = ap (λ (n : ℕ). (scan_next s (record { sort = n; further = t.further; start = t.start; line = t.line; text = t.text; doc = t.doc })).count) e
 
 further-param-few : (ts : List Symbol) (n : ℕ) → FurtherParam ts n → (s : Scan) → s.count ≤ s.most → s.count + n ≤ (scanned s ts).most
@@ -244,8 +245,8 @@ executable-full-few ts (inr f) s le =
     omega (arith, heading-few f.0 f.2 f.4 s, next-param-few f.1 g.0 g.1 (scanned s f.0) within, g.2, whole-most f.0 f.1 f.3 s)
 
 -- with one `;` more
-one-more : (ts : List Symbol) (s : Scan) → (scanned s (ts ++ blank (operator 6) ∷ [])).count ≡ suc (scanned s ts).count
-one-more ts s = whole-count ts (blank (operator 6) ∷ []) refl s ∙ ap (λ (x : Scan). x.count) (one-scanned (scanned s ts) (blank (operator 6)))
+one-more : (ts : List Symbol) (s : Scan) → (scanned s (ts ++ blank (operator token.semicolon) ∷ [])).count ≡ suc (scanned s ts).count
+one-more ts s = whole-count ts (blank (operator token.semicolon) ∷ []) refl s ∙ ap (λ (x : Scan). x.count) (one-scanned (scanned s ts) (blank (operator token.semicolon)))
 
 -- what is full within others
 abbrev Few : (List Symbol → Type 0) → Type 0
@@ -255,7 +256,7 @@ member-full-few : (inside : List Symbol → Type 0) → Few inside → (k : Type
     → (s : Scan) → s.count ≤ s.most → n ≤ suc s.most + s.count → most ≤ 3 + 2 * (scanned s ts).most
 member-full-few inside few k ts n (inl f) s le there = omega (arith, there, f.3, le, more-most ts s)
 member-full-few inside few k ts n (inr (inl f)) s le there =
-    let added = (members-few k (ts ++ blank (operator 6) ∷ []) f.0 f.1).adds s in
+    let added = (members-few k (ts ++ blank (operator token.semicolon) ∷ []) f.0 f.1).adds s in
     omega (arith, there, added, one-more ts s, f.2, more-most ts s, bounded ts s le)
 member-full-few inside few k ts n (inr (inr (inl f))) s le there = omega (arith, member-few k ts f.0 f.1 s le, f.2)
 member-full-few inside few k ts n (inr (inr (inr f))) s le there = go f.5

@@ -16,6 +16,7 @@ use Rattle.decl_grammar.specs.declared.written.TypeRest.{TypeRest}
 use Rattle.decl_grammar.specs.declared.written.Unmodified.{Unmodified}
 use Rattle.decl_grammar.specs.declared.written.Unmodified.TheVariants as unmodified
 use Rattle.decl_grammar.specs.Symbols.{word}
+use Rattle.decl_grammar.specs.TokenNames as token
 use Rattle.decl_grammar.specs.Reading.{has}
 use Rattle.decl_grammar.specs.Form.{Form, nested_type, modifiers, plain_modifiers, static_word, plain_words, modifier_words, turn, maybe, nest, Is}
 use Rattle.decl_grammar.specs.Types.{sign, Mark, no_modifiers, with_marks, bit_mark, modifier, plain_modifier, modifiers_or_none, optional_modifiers, type_modifiers}
@@ -183,7 +184,7 @@ plain-modified-has h room f p = has-pair (ModifiedLegal room) (plain-marked h ro
 
 -- behind a first `static`
 abbrev StaticAt : List Symbol → Symbol → Type 0
-StaticAt ts s = (ts ≡ s ∷ []) × (has (word 37 ∷ []) s.sort ≡ true)
+StaticAt ts s = (ts ≡ s ∷ []) × (has (word token.static ∷ []) s.sort ≡ true)
 
 static-there : (h : ℕ) (ts : List Symbol) (s : Symbol) → WholeAt h static_word ts s → StaticAt ts s
 static-there zero ts s is = absurd is
@@ -197,7 +198,7 @@ static-phrase : (us vs : List Symbol) (s : Symbol) (k : Modifiers) → StaticAt 
 unfolding type_modifiers modifier
 static-phrase us vs s k at is =
     let marks = bit_mark s ∷ is.1.0 in
-    (with_marks no_modifiers marks, (is.0, (marks, (us, vs, refl, inl (s, (at.0, within-has (word 37 ∷ []) modifier_words s.sort refl at.1), refl), is.1.1), refl)))
+    (with_marks no_modifiers marks, (is.0, (marks, (us, vs, refl, inl (s, (at.0, within-has (word token.static ∷ []) modifier_words s.sort refl at.1), refl), is.1.1), refl)))
 
 static-join : (room : ℕ) (us vs : List Symbol) (x : Modified) → Marked room us x.0 → UnmodifiedLegal room vs x.1 → BehindStatic room (us ++ vs) (with_static x)
 static-join room us vs x p q = λ ss s at safe doc d start named few.
@@ -245,4 +246,4 @@ or-block-has h room rows kind.Interface = documented-has h room rows kind.Interf
 pub member-has : (h room : ℕ) → NestedRows h → (k : TypeKind) → Has h room (member_form k) (MemberLegal room)
 unfolding member_form
 member-has h room rows k =
-    has-either (has-turn no_member (MemberLegal room) (anything h room (sign 6)) (λ ts s a p. λ safe start named few. refl)) (or-block-has h room rows k)
+    has-either (has-turn no_member (MemberLegal room) (anything h room (sign token.semicolon)) (λ ts s a p. λ safe start named few. refl)) (or-block-has h room rows k)

@@ -16,6 +16,7 @@ use Rattle.decl_grammar.specs.declared.written.Modifiers.{Modifiers}
 use Rattle.decl_grammar.specs.declared.written.TypeParamAt.{TypeParamAt}
 use Rattle.decl_grammar.specs.declared.written.TypeRest.{TypeRest}
 use Rattle.decl_grammar.specs.Symbols.{operator}
+use Rattle.decl_grammar.specs.TokenNames as token
 use Rattle.decl_grammar.specs.Form.{Form, enum_rest, nested_type, pair, turn, maybe, many, nest, Is}
 use Rattle.decl_grammar.specs.Types.{keyword, sign, behind, before, list_or_none, name, name_at, one_and_rest, no_values}
 use Rattle.decl_grammar.specs.Grammar.{doc_of, first_doc, declaration_of, plain_members, implemented, class_form, interface_form, annotation_form, member_form, joined_lists, optional_over, ConstantPart, constant_part_of, constant_part, constant_of, constant, some_constants, enum_rest_form, constant_list, constants, enum_members, enum_form, type_rest}
@@ -54,7 +55,7 @@ part-has h room =
     has-turn constant_part_of (PartLegal room)
     (has-pair (λ ts x. (all_fit (is_legal_annotation room) x.0 ≡ true) × (is_name x.1.0.name ≡ true))
     (has-more (λ ts xs. all_fit (is_legal_annotation room) xs ≡ true) (annotations-have h room) (λ ts xs a i. items-fit (is_legal_annotation room) ts xs a i))
-    (has-pair (λ ts x. is_name x.0.name ≡ true) (name-at-has h room) (anything h room (pair (optional_over (operator 0)) (optional_over (operator 2)))) (λ us vs x a p q. p))
+    (has-pair (λ ts x. is_name x.0.name ≡ true) (name-at-has h room) (anything h room (pair (optional_over (operator token.open_parenthesis)) (optional_over (operator token.open_brace)))) (λ us vs x a p q. p))
     (λ us vs x a p q. (p, q)))
     (λ ts x a p. p)
 
@@ -95,7 +96,7 @@ unfolding constants constant_list
 constants-have h room =
     has-turn (list_or_none {A = MemberAt}) (ConstantsLegal room)
     (has-maybe (λ ts o. ConstantsLegal room ts (list_or_none o))
-    (has-either (some-has h room (enum-rest-has h room)) (has-turn (no_values {A = MemberAt}) (ConstantsLegal room) (anything h room (sign 7)) (λ ts s a p. λ start. refl)))
+    (has-either (some-has h room (enum-rest-has h room)) (has-turn (no_values {A = MemberAt}) (ConstantsLegal room) (anything h room (sign token.comma)) (λ ts s a p. λ start. refl)))
     (λ ts. λ start. refl) (λ ts ms a p. p))
     (λ ts o a p. p)
 
@@ -106,16 +107,16 @@ Bodies = turn joined_lists (many (member_form kind.Enum))
 
 -- the members behind the constants, with a `;` between them
 members-there : (h room : ℕ) → NestedRows h → (whole heading middle us back : List Symbol) (count : List MemberAt) (o : Option (List MemberAt)) → whole ≡ heading ++ (middle ++ (us ++ back)) → TypeSafe whole
-    → Is (WholeAt h) enum_heading heading tt → ((s : Symbol) (ss : List Symbol) → Is (WholeAt h) (sign 6) ss s → Is (WholeAt h) (behind (sign 2) (before constants (sign 6))) (middle ++ ss) count)
-    → Fine h room (maybe (behind (sign 6) Bodies)) us o → (start : ℕ) → AllNamed start (list_or_none o) → AllLegal room start (list_or_none o)
+    → Is (WholeAt h) enum_heading heading tt → ((s : Symbol) (ss : List Symbol) → Is (WholeAt h) (sign token.semicolon) ss s → Is (WholeAt h) (behind (sign token.open_brace) (before constants (sign token.semicolon))) (middle ++ ss) count)
+    → Fine h room (maybe (behind (sign token.semicolon) Bodies)) us o → (start : ℕ) → AllNamed start (list_or_none o) → AllLegal room start (list_or_none o)
 unfolding whole_constants
 members-there h room rows whole heading middle us back count None e safe opening constants-there fine start named = refl
 members-there h room rows whole heading middle us back count (Some ms) e safe opening constants-there fine start named =
-    let semi = behind-part h room (sign 6) Bodies us ms (record { texts = fine.texts; shallow = fine.shallow; whole = fine.whole }) in
+    let semi = behind-part h room (sign token.semicolon) Bodies us ms (record { texts = fine.texts; shallow = fine.shallow; whole = fine.whole }) in
     let inner : us ++ back ≡ semi.0 ++ (semi.1 ++ back) = ap (λ (ss : List Symbol). ss ++ back) semi.3 ∙ append_assoc semi.0 semi.1 back in
     let behind_heading : middle ++ (us ++ back) ≡ (middle ++ semi.0) ++ (semi.1 ++ back) = ap (λ (ss : List Symbol). middle ++ ss) inner ∙ sym (append_assoc middle semi.0 (semi.1 ++ back)) in
     let split : whole ≡ (heading ++ (middle ++ semi.0)) ++ (semi.1 ++ back) = split-in whole heading (middle ++ (us ++ back)) (middle ++ semi.0) (semi.1 ++ back) e behind_heading in
-    let all = behind-is (WholeAt h) enum_heading (behind (sign 2) (before constants (sign 6))) heading (middle ++ semi.0) tt count opening (constants-there semi.2 semi.0 semi.4) in
+    let all = behind-is (WholeAt h) enum_heading (behind (sign token.open_brace) (before constants (sign token.semicolon))) heading (middle ++ semi.0) tt count opening (constants-there semi.2 semi.0 semi.4) in
     let begun = heading-parts h kind.Enum (heading ++ (middle ++ semi.0)) (length count) (count, all, refl) in
     body-legal h room rows kind.Enum whole (heading ++ (middle ++ semi.0)) semi.1 back ms split safe begun semi.5 start named
 
@@ -123,24 +124,24 @@ enum-there : (h room : ℕ) → NestedRows h → (ts : List Symbol) (rest : Type
 unfolding enum_form enum_heading enum_members
 enum-there h room rows ts rest a sh is safe =
     let w = WholeAt h in
-    let ends = before enum_members (sign 3) in
-    let all = behind-part h room (keyword 15) (pair name_at (pair implemented (behind (sign 2) (pair constants ends)))) ts is.0 (record { texts = a; shallow = sh; whole = is.1 }) in
-    let n = two-parts h room name_at (pair implemented (behind (sign 2) (pair constants ends))) all.1 is.0 all.5 in
-    let i = two-parts h room implemented (behind (sign 2) (pair constants ends)) n.1 is.0.1 n.4 in
-    let brace = behind-part h room (sign 2) (pair constants ends) i.1 is.0.1.1 i.4 in
+    let ends = before enum_members (sign token.close_brace) in
+    let all = behind-part h room (keyword token.enum) (pair name_at (pair implemented (behind (sign token.open_brace) (pair constants ends)))) ts is.0 (record { texts = a; shallow = sh; whole = is.1 }) in
+    let n = two-parts h room name_at (pair implemented (behind (sign token.open_brace) (pair constants ends))) all.1 is.0 all.5 in
+    let i = two-parts h room implemented (behind (sign token.open_brace) (pair constants ends)) n.1 is.0.1 n.4 in
+    let brace = behind-part h room (sign token.open_brace) (pair constants ends) i.1 is.0.1.1 i.4 in
     let c = two-parts h room constants ends brace.1 is.0.1.1 brace.5 in
-    let m = before-part h room enum_members (sign 3) c.1 is.0.1.1.1 c.4 in
-    let o = turned-part h room (list_or_none {A = MemberAt}) (maybe (behind (sign 6) Bodies)) m.0 is.0.1.1.1 m.4 in
+    let m = before-part h room enum_members (sign token.close_brace) c.1 is.0.1.1.1 c.4 in
+    let o = turned-part h room (list_or_none {A = MemberAt}) (maybe (behind (sign token.semicolon) Bodies)) m.0 is.0.1.1.1 m.4 in
     let plain = plain-name h n.0 is.0.0 n.3.whole in
     let titled = behind-is w name implemented n.0 i.0 plain.0 is.0.1.0 plain.1 i.3.whole in
-    let opening : Is w enum_heading (all.0 ++ (n.0 ++ i.0)) tt = (is.0.1.0, behind-is w (keyword 15) (behind name implemented) all.0 (n.0 ++ i.0) all.2 is.0.1.0 all.4 titled, refl) in
+    let opening : Is w enum_heading (all.0 ++ (n.0 ++ i.0)) tt = (is.0.1.0, behind-is w (keyword token.enum) (behind name implemented) all.0 (n.0 ++ i.0) all.2 is.0.1.0 all.4 titled, refl) in
     let heading : ts ≡ (all.0 ++ (n.0 ++ i.0)) ++ i.1 = split-in ts all.0 all.1 (n.0 ++ i.0) i.1 all.3 (split-in all.1 n.0 n.1 i.0 i.1 n.2 i.2) in
     let middle : i.1 ≡ (brace.0 ++ c.0) ++ c.1 = split-in i.1 brace.0 brace.1 c.0 c.1 brace.3 c.2 in
     let split : ts ≡ (all.0 ++ (n.0 ++ i.0)) ++ ((brace.0 ++ c.0) ++ (m.0 ++ m.1)) =
     heading ∙ ap (λ (ss : List Symbol). (all.0 ++ (n.0 ++ i.0)) ++ ss) (middle ∙ ap (λ (ss : List Symbol). (brace.0 ++ c.0) ++ ss) m.3) in
-    let closed : (s : Symbol) (ss : List Symbol) → Is w (sign 6) ss s → Is w (behind (sign 2) (before constants (sign 6))) ((brace.0 ++ c.0) ++ ss) is.0.1.1.0 =
-    λ s ss semi. subst (λ (us : List Symbol). Is w (behind (sign 2) (before constants (sign 6))) us is.0.1.1.0) (sym (append_assoc brace.0 c.0 ss))
-    (behind-is w (sign 2) (before constants (sign 6)) brace.0 (c.0 ++ ss) brace.2 is.0.1.1.0 brace.4 (before-is w constants (sign 6) c.0 ss is.0.1.1.0 s c.3.whole semi)) in
+    let closed : (s : Symbol) (ss : List Symbol) → Is w (sign token.semicolon) ss s → Is w (behind (sign token.open_brace) (before constants (sign token.semicolon))) ((brace.0 ++ c.0) ++ ss) is.0.1.1.0 =
+    λ s ss semi. subst (λ (us : List Symbol). Is w (behind (sign token.open_brace) (before constants (sign token.semicolon))) us is.0.1.1.0) (sym (append_assoc brace.0 c.0 ss))
+    (behind-is w (sign token.open_brace) (before constants (sign token.semicolon)) brace.0 (c.0 ++ ss) brace.2 is.0.1.1.0 brace.4 (before-is w constants (sign token.semicolon) c.0 ss is.0.1.1.0 s c.3.whole semi)) in
     subst (λ (r : TypeRest). TypeParts room r) (sym is.2)
     (record {
       named = found (name-at-has h room) n.3;

@@ -23,6 +23,7 @@ use Rattle.decl_tree.specs.declared.type_text.PrimitiveKind.TheVariants as primi
 use Rattle.decl_grammar.specs.declared.symbol.Symbol.{Symbol}
 use Rattle.decl_grammar.specs.Constants.{is_literal, is_numeral, is_operator, is_word, is_dot_name, joined, chain_from, chain_of, primitive_of, name_part, type_of, dim_here, class_here, class_end, class_named, class_primitive, class_void, class_of, literal_of, negated_of, plain_of, every, is_plus, parts_of, two_or_more, joined_of, constant_of, expression_of}
 use Rattle.decl_grammar.specs.Constants as constants
+use Rattle.decl_grammar.specs.TokenNames as token
 use Rattle.decl_limits.specs.Texts.{bytes_of, AreUtf8, AreTexts}
 use Rattle.decl_limits.proofs.LegalTexts.{and-true, dot-utf8, size, symbols-few, texts-front, texts-back, Items, items-fit, items-before, items-append, Made, made-fits, made-before, symbol-made, joined-made}
 use Rattle.decl_limits.proofs.LegalTypes.{part-legal, BaseFits, TypeFits, named-legal, primitive-legal, type-of-legal, type-legal}
@@ -110,7 +111,7 @@ negated-legal room [] a = tt
 negated-legal room (s ∷ []) a = tt
 negated-legal room (s ∷ t ∷ []) a =
     let name = first-name t [] (texts-back (s ∷ t ∷ []) (s ∷ []) (t ∷ []) refl a) in
-    choice-is (Legal room) (is_operator 29 s && is_numeral t) (Some (value.Negated t.text)) None
+    choice-is (Legal room) (is_operator token.minus s && is_numeral t) (Some (value.Negated t.text)) None
     (value-legal room (ValueText-F.Negated t.text) (value.Negated t.text) (value.rolls-Negated t.text) name) tt
 negated-legal room (s ∷ t ∷ u ∷ ss) a = tt
 
@@ -146,9 +147,9 @@ class-primitive-legal room (Some kind) ss = class-end-legal room (base.Primitive
 class-of-legal : (room : ℕ) (ss : List Symbol) → AreTexts ss → Some-is (TypeFits room) (class_of ss)
 class-of-legal room [] a = tt
 class-of-legal room (s ∷ ss) a =
-    choice-is (TypeFits room) (constants.is_name s) (class_named (name_part s.text ∷ []) ss) (cond (is_word 47 s) (class_void ss) (class_primitive (primitive_of s.sort) ss))
+    choice-is (TypeFits room) (constants.is_name s) (class_named (name_part s.text ∷ []) ss) (cond (is_word token.void s) (class_void ss) (class_primitive (primitive_of s.sort) ss))
     (class-named-legal room (s ∷ []) (name_part s.text ∷ []) ss (name-part-legal room s ss a) a)
-    (choice-is (TypeFits room) (is_word 47 s) (class_void ss) (class_primitive (primitive_of s.sort) ss)
+    (choice-is (TypeFits room) (is_word token.void s) (class_void ss) (class_primitive (primitive_of s.sort) ss)
     (choice-is (TypeFits room) (class_here ss) (Some (type_of (base.Primitive primitive.Void) [])) None (type-of-legal room (base.Primitive primitive.Void) [] (primitive-legal room primitive.Void)) tt)
     (class-primitive-legal room (primitive_of s.sort) ss))
 

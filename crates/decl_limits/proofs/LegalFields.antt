@@ -17,6 +17,7 @@ use Rattle.decl_limits.proofs.LegalTexts.{and-true, texts-front, Items, no-items
 use Rattle.decl_limits.proofs.LegalForms.{Has, anything, has-turn, has-pair, has-behind, has-either, has-symbol, has-lowest, has-free}
 use Rattle.decl_limits.proofs.LegalRows.{BehindFits, declarator_fits, RestFits, Rests, Ends, rest-fits, expression-fits}
 use Rattle.decl_limits.proofs.LegalValues.{value-rows}
+use Rattle.decl_grammar.specs.TokenNames as token
 
 -- the name of what is declared
 abbrev pub NameFits : List Symbol → NameAt → Type 0
@@ -83,7 +84,7 @@ value-has h room rows =
 end-has : (h room : ℕ) → FieldLegal h → Has h room assigned_end (BehindFits assigned room)
 unfolding assigned_end
 end-has h room rows =
-    has-either (has-turn no_declarators (BehindFits assigned room) (anything h room (sign 6)) (λ ts s a p. no-items (declarator_fits room) ts))
+    has-either (has-turn no_declarators (BehindFits assigned room) (anything h room (sign token.semicolon)) (λ ts s a p. no-items (declarator_fits room) ts))
     (has-behind
     (has-turn declarator_first (BehindFits assigned room)
     (has-pair (λ ts x. Items (declarator_fits room) ts (declarator_first x)) (has-symbol refl (name-at-has h room))

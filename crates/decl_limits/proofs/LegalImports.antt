@@ -13,6 +13,7 @@ use Rattle.decl_limits.specs.Texts.{bytes_of}
 use Rattle.decl_limits.proofs.LegalTexts.{dot-utf8, symbols-few, Items, Made, made-fits, made-grow, made-before, name-made, chain-made}
 use Rattle.decl_limits.proofs.LegalForms.{Has, anything, has-more, has-turn, has-pair, has-behind, has-behind-one, has-before, has-maybe, has-either, has-row, has-lowest, has-free}
 use Rattle.decl_limits.proofs.LegalFields.{NameFits}
+use Rattle.decl_grammar.specs.TokenNames as token
 
 -- ---- packages
 
@@ -20,7 +21,7 @@ pub package-has : (h room : ℕ) → Has h room package_form NameFits
 unfolding package_form
 package-has h room =
     has-turn package_named NameFits
-    (has-pair (λ ts x. is_name x.1 ≡ true) (anything h room (keyword 31))
+    (has-pair (λ ts x. is_name x.1 ≡ true) (anything h room (keyword token.«package»))
     (has-before (record { there = λ ts t a sh is. made-fits ts t a (chain-made h ts t a is) }) (λ us vs t p. p))
     (λ us vs x a p q. q))
     (λ ts x a p. p)
@@ -62,7 +63,7 @@ rest-rule h room rest =
     has-behind-one RestMade refl
     (has-either
     (has-turn deeper_import DeeperMade (has-pair (λ ts x. DeeperMade ts (deeper_import x)) (name-has h room) (single-has h room rest) (λ us vs x a p q. deeper us vs x p q)) (λ ts x a p. p))
-    (has-turn on_demand DeeperMade (anything h room (sign 30)) (λ ts s a p. λ us vs n m one. made-before us (vs ++ ts) n m)))
+    (has-turn on_demand DeeperMade (anything h room (sign token.star)) (λ ts s a p. λ us vs n m one. made-before us (vs ++ ts) n m)))
     (λ vs ws g one p. λ us n m. p us vs n m one)
 
 rest-has : (h room : ℕ) → Has h room (nest import_rest) RestMade

@@ -18,6 +18,7 @@ use Rattle.decl_grammar.specs.declared.written.Signature.{Signature}
 use Rattle.decl_grammar.specs.declared.written.TypeParamAt.{TypeParamAt}
 use Rattle.decl_grammar.specs.declared.written.Unmodified.{Unmodified}
 use Rattle.decl_grammar.specs.declared.written.Unmodified.TheVariants as unmodified
+use Rattle.decl_grammar.specs.TokenNames as token
 use Rattle.decl_grammar.specs.Form.{Form, pair, turn, many}
 use Rattle.decl_grammar.specs.Constants.{named_part_of, type_of}
 use Rattle.decl_grammar.specs.Types.{sign, list_or_none, name_at, primitive_type, dim}
@@ -68,7 +69,7 @@ DefaultFits room ts v = fits_if_some (is_legal_value room) v ≡ true
 element-end-has : (h room : ℕ) → Has h room element_end (DefaultFits room)
 unfolding element_end
 element-end-has h room =
-    has-either (has-turn no_default (DefaultFits room) (anything h room (sign 6)) (λ ts s a p. refl))
+    has-either (has-turn no_default (DefaultFits room) (anything h room (sign token.semicolon)) (λ ts s a p. refl))
     (has-turn some_default (DefaultFits room) (has-behind (default-has h room) (λ us vs x p. p)) (λ ts x a p. p.0))
 
 element-signature-has : (h room : ℕ) → Has h room element_signature (SignatureFits room)

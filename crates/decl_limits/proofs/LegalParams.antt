@@ -21,6 +21,7 @@ use Rattle.decl_grammar.specs.declared.written.ParamEnd.TheVariants as param_end
 use Rattle.decl_grammar.specs.declared.written.Params.{Params}
 use Rattle.decl_grammar.specs.declared.written.TypeParamAt.{TypeParamAt}
 use Rattle.decl_grammar.specs.Symbols.{word, operator}
+use Rattle.decl_grammar.specs.TokenNames as token
 use Rattle.decl_grammar.specs.Constants.{type_of}
 use Rattle.decl_grammar.specs.Form.{ParamRest, Form, param_rest, first_rest, modifier_words, plain_words, terminal, pair, turn, maybe, many, nest, nullable}
 use Rattle.decl_grammar.specs.Types.{keyword, annotations, type_param_of, type_param, next_type_param, type_params, optional_params, dim, Mark, bit, marked, bit_of, bit_mark, no_modifiers, with_bit, with_annotation, with_marks, marks_of, modifier_annotation, modifier_from, modifier, plain_modifier, modifiers_form, type_modifiers, list_or_none}
@@ -52,17 +53,17 @@ one-bit false a b p q = q
 
 bits-fit : (n : ℕ) → nat_lt (bit_of n) 4096 ≡ true
 bits-fit n =
-    one-bit (n == word 34) 1 (cond (n == word 33) 2 (cond (n == word 32) 4 (cond (n == word 0) 8 (cond (n == word 11) 16 (cond (n == word 37) 32 (cond (n == word 17) 64 (cond (n == word 45) 128 (cond (n == word 48) 256 (cond (n == word 41) 512 (cond (n == word 29) 1024 2048)))))))))) refl
-    (one-bit (n == word 33) 2 (cond (n == word 32) 4 (cond (n == word 0) 8 (cond (n == word 11) 16 (cond (n == word 37) 32 (cond (n == word 17) 64 (cond (n == word 45) 128 (cond (n == word 48) 256 (cond (n == word 41) 512 (cond (n == word 29) 1024 2048))))))))) refl
-    (one-bit (n == word 32) 4 (cond (n == word 0) 8 (cond (n == word 11) 16 (cond (n == word 37) 32 (cond (n == word 17) 64 (cond (n == word 45) 128 (cond (n == word 48) 256 (cond (n == word 41) 512 (cond (n == word 29) 1024 2048)))))))) refl
-    (one-bit (n == word 0) 8 (cond (n == word 11) 16 (cond (n == word 37) 32 (cond (n == word 17) 64 (cond (n == word 45) 128 (cond (n == word 48) 256 (cond (n == word 41) 512 (cond (n == word 29) 1024 2048))))))) refl
-    (one-bit (n == word 11) 16 (cond (n == word 37) 32 (cond (n == word 17) 64 (cond (n == word 45) 128 (cond (n == word 48) 256 (cond (n == word 41) 512 (cond (n == word 29) 1024 2048)))))) refl
-    (one-bit (n == word 37) 32 (cond (n == word 17) 64 (cond (n == word 45) 128 (cond (n == word 48) 256 (cond (n == word 41) 512 (cond (n == word 29) 1024 2048))))) refl
-    (one-bit (n == word 17) 64 (cond (n == word 45) 128 (cond (n == word 48) 256 (cond (n == word 41) 512 (cond (n == word 29) 1024 2048)))) refl
-    (one-bit (n == word 45) 128 (cond (n == word 48) 256 (cond (n == word 41) 512 (cond (n == word 29) 1024 2048))) refl
-    (one-bit (n == word 48) 256 (cond (n == word 41) 512 (cond (n == word 29) 1024 2048)) refl
-    (one-bit (n == word 41) 512 (cond (n == word 29) 1024 2048) refl
-    (one-bit (n == word 29) 1024 2048 refl refl))))))))))
+    one-bit (n == word token.public) 1 (cond (n == word token.protected) 2 (cond (n == word token.private) 4 (cond (n == word token.abstract) 8 (cond (n == word token.default) 16 (cond (n == word token.static) 32 (cond (n == word token.final) 64 (cond (n == word token.transient) 128 (cond (n == word token.volatile) 256 (cond (n == word token.synchronized) 512 (cond (n == word token.native) 1024 2048)))))))))) refl
+    (one-bit (n == word token.protected) 2 (cond (n == word token.private) 4 (cond (n == word token.abstract) 8 (cond (n == word token.default) 16 (cond (n == word token.static) 32 (cond (n == word token.final) 64 (cond (n == word token.transient) 128 (cond (n == word token.volatile) 256 (cond (n == word token.synchronized) 512 (cond (n == word token.native) 1024 2048))))))))) refl
+    (one-bit (n == word token.private) 4 (cond (n == word token.abstract) 8 (cond (n == word token.default) 16 (cond (n == word token.static) 32 (cond (n == word token.final) 64 (cond (n == word token.transient) 128 (cond (n == word token.volatile) 256 (cond (n == word token.synchronized) 512 (cond (n == word token.native) 1024 2048)))))))) refl
+    (one-bit (n == word token.abstract) 8 (cond (n == word token.default) 16 (cond (n == word token.static) 32 (cond (n == word token.final) 64 (cond (n == word token.transient) 128 (cond (n == word token.volatile) 256 (cond (n == word token.synchronized) 512 (cond (n == word token.native) 1024 2048))))))) refl
+    (one-bit (n == word token.default) 16 (cond (n == word token.static) 32 (cond (n == word token.final) 64 (cond (n == word token.transient) 128 (cond (n == word token.volatile) 256 (cond (n == word token.synchronized) 512 (cond (n == word token.native) 1024 2048)))))) refl
+    (one-bit (n == word token.static) 32 (cond (n == word token.final) 64 (cond (n == word token.transient) 128 (cond (n == word token.volatile) 256 (cond (n == word token.synchronized) 512 (cond (n == word token.native) 1024 2048))))) refl
+    (one-bit (n == word token.final) 64 (cond (n == word token.transient) 128 (cond (n == word token.volatile) 256 (cond (n == word token.synchronized) 512 (cond (n == word token.native) 1024 2048)))) refl
+    (one-bit (n == word token.transient) 128 (cond (n == word token.volatile) 256 (cond (n == word token.synchronized) 512 (cond (n == word token.native) 1024 2048))) refl
+    (one-bit (n == word token.volatile) 256 (cond (n == word token.synchronized) 512 (cond (n == word token.native) 1024 2048)) refl
+    (one-bit (n == word token.synchronized) 512 (cond (n == word token.native) 1024 2048) refl
+    (one-bit (n == word token.native) 1024 2048 refl refl))))))))))
 
 pub or-fits : (a b : ℕ) → nat_lt a 4096 ≡ true → nat_lt b 4096 ≡ true → nat_lt (bit_or a b) 4096 ≡ true
 or-fits a b p q = lt-ltb (bit_or a b) 4096 (or_lt 12 a b (ltb-true a 4096 p) (ltb-true b 4096 q))
@@ -88,7 +89,7 @@ mark-has : (h room : ℕ) (words : List ℕ) → Has h room (modifier_from words
 unfolding modifier_annotation
 mark-has h room words =
     has-either (has-turn bit_mark (λ ts k. mark_fits room k ≡ true) (anything h room (terminal words)) (λ ts s a p. bits-fit s.sort))
-    (has-turn marked (λ ts k. mark_fits room k ≡ true) (annotation-from-has h room (operator 10 ∷ [])) (λ ts m a p. p))
+    (has-turn marked (λ ts k. mark_fits room k ≡ true) (annotation-from-has h room (operator token.at ∷ [])) (λ ts m a p. p))
 
 pub modifier-has : (h room : ℕ) → Has h room modifier (λ ts k. mark_fits room k ≡ true)
 unfolding modifier
@@ -205,7 +206,7 @@ record ParamLegal (h : ℕ) : Type 0 where
 param-modifier-has : (h room : ℕ) → Has h room param_modifier (λ ts k. mark_fits room k ≡ true)
 unfolding param_modifier
 param-modifier-has h room =
-    has-either (has-turn bit_mark (λ ts k. mark_fits room k ≡ true) (anything h room (keyword 17)) (λ ts s a p. bits-fit s.sort))
+    has-either (has-turn bit_mark (λ ts k. mark_fits room k ≡ true) (anything h room (keyword token.final)) (λ ts s a p. bits-fit s.sort))
     (has-turn marked (λ ts k. mark_fits room k ≡ true) (annotation-has h room) (λ ts m a p. p))
 
 param-modifiers-have : (h room : ℕ) → Has h room param_modifiers (ModifiersFit room)
@@ -288,7 +289,7 @@ first-rule h room rows =
     has-either (bracket-has h room (nest first_rest) (rows.first room))
     (has-either (annotated-has h room (nest first_rest) (rows.first room))
     (has-either (varargs-has h room)
-    (has-either (end-has h room rows receiver (has-turn receiver_end EndFits (anything h room (keyword 42)) (λ ts s a p. tt)))
+    (has-either (end-has h room rows receiver (has-turn receiver_end EndFits (anything h room (keyword token.this)) (λ ts s a p. tt)))
     (has-turn first_named (RestParams room)
     (has-pair (λ ts v. RestParams room ts (first_named v)) (name-at-has h room) (behind-name-has h room rows)
     (λ us vs v a p ps. λ m of items q r. ended-legal room (end_named v.0 v.1.0) us (us ++ vs) m of items v.1.1 (end-named-fits us v.0 v.1.0 p) q r ps))

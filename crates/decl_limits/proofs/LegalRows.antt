@@ -5,6 +5,7 @@ use Rattle.decl_tree.specs.Legal.{pair_fits, is_legal_value}
 use Rattle.decl_grammar.specs.declared.symbol.Symbol.{Symbol}
 use Rattle.decl_grammar.specs.declared.written.Declarator.{Declarator}
 use Rattle.decl_grammar.specs.Symbols.{word, operator}
+use Rattle.decl_grammar.specs.TokenNames as token
 use Rattle.decl_grammar.specs.Form.{Stands, Freedom, After, Part, Behind, Rest, is_value, names, ats, plain_sorts, primitive_sorts, equals, first_names, less_sorts, alone, paired, listed, defaulted, assigned, strict, anywhere, between, name_there, greater, dot, colons, colon_arguments, creation, test, test_name, test_arguments, test_end, one_of, bracketed, arguments, annotated, created, type_reference, tested, tested_name, tested_dim, expression_part, expression_rest, value_end, Form, turn, either, nest}
 use Rattle.decl_grammar.specs.Types.{as_written}
 use Rattle.decl_grammar.specs.Expressions.{in_condition, behind_condition, in_lambda, symbols_of_part, part_symbols, with_symbols, step, told_steps, new_step, two_readings, less_form, plain_dots, plain_squares, greater_dots, greater_squares, dot_form, square_form, other_steps, signs_form, no_symbols, rest_form, value_squares, expression}
@@ -84,8 +85,8 @@ new-fits h s rests w between room = step-fits h s rests created w creation room
 new-fits h s rests w name_there room = step-fits h s rests created w creation room
 new-fits h s rests w greater room = step-fits h s rests created w creation room
 new-fits h s rests w dot room = step-fits h s rests created w creation room
-new-fits h s rests w colons room = step-fits h s rests (one_of (word 30 ∷ [])) w between room
-new-fits h s rests w colon_arguments room = step-fits h s rests (one_of (word 30 ∷ [])) w between room
+new-fits h s rests w colons room = step-fits h s rests (one_of (word token.new ∷ [])) w between room
+new-fits h s rests w colon_arguments room = step-fits h s rests (one_of (word token.new ∷ [])) w between room
 new-fits h s rests w creation room = step-fits h s rests created w creation room
 new-fits h s rests w test room = step-fits h s rests created w creation room
 new-fits h s rests w test_name room = step-fits h s rests created w creation room
@@ -97,18 +98,18 @@ unfolding told_steps
 told-fits h s rests sorts w a room =
     has-either (step-fits h s rests (one_of sorts) w name_there room)
     (has-either (step-fits h s rests (one_of plain_sorts) w between room)
-    (has-either (step-fits h s rests (bracketed (operator 0 ∷ [])) w between room)
+    (has-either (step-fits h s rests (bracketed (operator token.open_parenthesis ∷ [])) w between room)
     (has-either (new-fits h s rests w a room)
     (has-either (step-fits h s rests tested w test room)
-    (has-either (step-fits h s rests (one_of (operator 13 ∷ [])) w greater room)
-    (has-either (step-fits h s rests (one_of (operator 17 ∷ [])) (in_condition w) between room)
-    (has-either (step-fits h s rests (one_of (operator 18 ∷ [])) (behind_condition w) between room)
-    (step-fits h s rests (one_of (operator 19 ∷ [])) (in_lambda w) between room))))))))
+    (has-either (step-fits h s rests (one_of (operator token.greater_than ∷ [])) w greater room)
+    (has-either (step-fits h s rests (one_of (operator token.question ∷ [])) (in_condition w) between room)
+    (has-either (step-fits h s rests (one_of (operator token.colon ∷ [])) (behind_condition w) between room)
+    (step-fits h s rests (one_of (operator token.arrow ∷ [])) (in_lambda w) between room))))))))
 
 less-fits : (h : ℕ) (s : Stands) → Rests h s → (w : Freedom) (a : After) (room : ℕ) → Has h room (less_form s w a) (StepFits s room)
 unfolding two_readings
 less-fits h s rests w between room = step-fits h s rests (one_of (less_sorts between)) w between room
-less-fits h s rests w name_there room = has-attempt (step-fits h s rests type_reference w colons room) (step-fits h s rests (one_of (operator 14 ∷ [])) w between room)
+less-fits h s rests w name_there room = has-attempt (step-fits h s rests type_reference w colons room) (step-fits h s rests (one_of (operator token.less_than ∷ [])) w between room)
 less-fits h s rests w greater room = step-fits h s rests (one_of (less_sorts greater)) w between room
 less-fits h s rests w dot room = step-fits h s rests arguments w between room
 less-fits h s rests w colons room = step-fits h s rests arguments w colon_arguments room
@@ -121,7 +122,7 @@ less-fits h s rests w test_end room = step-fits h s rests (one_of (less_sorts te
 
 plain-dots-fit : (h : ℕ) (s : Stands) → Rests h s → (w : Freedom) (room : ℕ) → Has h room (plain_dots s w) (StepFits s room)
 unfolding plain_dots
-plain-dots-fit h s rests w room = has-either (step-fits h s rests (one_of (operator 8 ∷ [])) w dot room) (step-fits h s rests (one_of (operator 11 ∷ [])) w colons room)
+plain-dots-fit h s rests w room = has-either (step-fits h s rests (one_of (operator token.dot ∷ [])) w dot room) (step-fits h s rests (one_of (operator token.double_colon ∷ [])) w colons room)
 
 greater-dots-fit : (h : ℕ) (s : Stands) → Rests h s → (w : Freedom) (room : ℕ) → Has h room (greater_dots s w) (StepFits s room)
 greater-dots-fit h assigned rests w room = plain-dots-fit h assigned rests w room
@@ -131,7 +132,7 @@ greater-dots-fit h listed rests w room = step-fits h listed rests (one_of []) w 
 greater-dots-fit h defaulted rests w room = step-fits h defaulted rests (one_of []) w between room
 
 test-dots-fit : (h : ℕ) (s : Stands) → Rests h s → (w : Freedom) (room : ℕ) → Has h room (dot_form s w test_name) (StepFits s room)
-test-dots-fit h s rests w room = has-either (step-fits h s rests tested_name w test_name room) (step-fits h s rests (one_of (operator 11 ∷ [])) w colons room)
+test-dots-fit h s rests w room = has-either (step-fits h s rests tested_name w test_name room) (step-fits h s rests (one_of (operator token.double_colon ∷ [])) w colons room)
 
 dots-fit : (h : ℕ) (s : Stands) → Rests h s → (w : Freedom) (a : After) (room : ℕ) → Has h room (dot_form s w a) (StepFits s room)
 dots-fit h s rests w between room = plain-dots-fit h s rests w room
@@ -148,7 +149,7 @@ dots-fit h s rests w test_end room = plain-dots-fit h s rests w room
 
 plain-squares-fit : (h : ℕ) (s : Stands) → Rests h s → (w : Freedom) (room : ℕ) → Has h room (plain_squares s w) (StepFits s room)
 unfolding plain_squares
-plain-squares-fit h s rests w room = has-either (step-fits h s rests (bracketed (operator 4 ∷ [])) w between room) (step-fits h s rests (one_of ats) w between room)
+plain-squares-fit h s rests w room = has-either (step-fits h s rests (bracketed (operator token.open_bracket ∷ [])) w between room) (step-fits h s rests (one_of ats) w between room)
 
 greater-squares-fit : (h : ℕ) (s : Stands) → Rests h s → (w : Freedom) (room : ℕ) → Has h room (greater_squares s w) (StepFits s room)
 greater-squares-fit h assigned rests w room = plain-squares-fit h assigned rests w room
@@ -176,7 +177,7 @@ signs-fit h s rests w a room = has-either (less-fits h s rests w a room) (has-ei
 
 others-fit : (h : ℕ) (s : Stands) → Rests h s → (w : Freedom) (room : ℕ) → Has h room (other_steps s w) (StepFits s room)
 unfolding other_steps
-others-fit h s rests w room = has-either (step-fits h s rests (bracketed (operator 2 ∷ [])) w between room) (step-fits h s rests (one_of (equals w)) w between room)
+others-fit h s rests w room = has-either (step-fits h s rests (bracketed (operator token.open_brace ∷ [])) w between room) (step-fits h s rests (one_of (equals w)) w between room)
 
 weak : {h room : ℕ} (s : Stands) {f : Form (Rest s)} → Has h room f (StepFits s room) → Has h room f (RestFits s room)
 weak {h} {room} s p = has-more (RestFits s room) p (λ ts x a q. q.1)
@@ -207,7 +208,7 @@ first-fits : (h : ℕ) (s : Stands) → Rests h s → (room : ℕ) → Has h roo
 unfolding value_squares
 first-fits h s rests room =
     has-either (told-fits h s rests (first_names s) strict between room)
-    (has-either (less-fits h s rests strict between room) (has-either (plain-dots-fit h s rests strict room) (step-fits h s rests (bracketed (operator 4 ∷ [])) strict between room)))
+    (has-either (less-fits h s rests strict between room) (has-either (plain-dots-fit h s rests strict room) (step-fits h s rests (bracketed (operator token.open_bracket ∷ [])) strict between room)))
 
 pub expression-fits : (h : ℕ) (s : Stands) → Rests h s → (room : ℕ) → Has h room (expression s) (StepFits s room)
 expression-fits h assigned rests room =

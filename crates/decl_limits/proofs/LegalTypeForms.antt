@@ -11,6 +11,7 @@ use Rattle.decl_grammar.specs.declared.written.MemberAt.{MemberAt}
 use Rattle.decl_grammar.specs.declared.written.NameAt.{NameAt}
 use Rattle.decl_grammar.specs.declared.written.TypeRest.{TypeRest}
 use Rattle.decl_grammar.specs.Symbols.{at_interface}
+use Rattle.decl_grammar.specs.TokenNames as token
 use Rattle.decl_grammar.specs.Form.{terminal, pair, turn, maybe, many, Is}
 use Rattle.decl_grammar.specs.Types.{keyword, sign, behind, before, list_or_none, name, name_at, text_of, classes, optional_params}
 use Rattle.decl_grammar.specs.Grammar.{superclass, implemented, extended, members_in, member_form, joined_lists, class_form, interface_form, annotation_form}
@@ -82,19 +83,19 @@ pub class-there : (h room : ℕ) → NestedRows h → (ts : List Symbol) (rest :
 unfolding class_form class_heading
 class-there h room rows ts rest a sh is safe =
     let w = WholeAt h in
-    let all = behind-part h room (keyword 8) (pair name_at (pair optional_params (pair superclass (pair implemented (members_in kind.Class))))) ts is.0 (record { texts = a; shallow = sh; whole = is.1 }) in
+    let all = behind-part h room (keyword token.class) (pair name_at (pair optional_params (pair superclass (pair implemented (members_in kind.Class))))) ts is.0 (record { texts = a; shallow = sh; whole = is.1 }) in
     let n = two-parts h room name_at (pair optional_params (pair superclass (pair implemented (members_in kind.Class)))) all.1 is.0 all.5 in
     let ps = two-parts h room optional_params (pair superclass (pair implemented (members_in kind.Class))) n.1 is.0.1 n.4 in
     let s = two-parts h room superclass (pair implemented (members_in kind.Class)) ps.1 is.0.1.1 ps.4 in
     let i = two-parts h room implemented (members_in kind.Class) s.1 is.0.1.1.1 s.4 in
-    let brace = behind-part h room (sign 2) (before (turn joined_lists (many (member_form kind.Class))) (sign 3)) i.1 is.0.1.1.1.1 i.4 in
-    let body = before-part h room (turn joined_lists (many (member_form kind.Class))) (sign 3) brace.1 is.0.1.1.1.1 brace.5 in
+    let brace = behind-part h room (sign token.open_brace) (before (turn joined_lists (many (member_form kind.Class))) (sign token.close_brace)) i.1 is.0.1.1.1.1 i.4 in
+    let body = before-part h room (turn joined_lists (many (member_form kind.Class))) (sign token.close_brace) brace.1 is.0.1.1.1.1 brace.5 in
     let plain = plain-name h n.0 is.0.0 n.3.whole in
-    let last = before-is w implemented (sign 2) i.0 brace.0 is.0.1.1.1.0 brace.2 i.3.whole brace.4 in
-    let ends = pair-is w superclass (before implemented (sign 2)) s.0 (i.0 ++ brace.0) is.0.1.1.0 is.0.1.1.1.0 s.3.whole last in
-    let typed = before-is w optional_params (pair superclass (before implemented (sign 2))) ps.0 (s.0 ++ (i.0 ++ brace.0)) is.0.1.0 (is.0.1.1.0, is.0.1.1.1.0) ps.3.whole ends in
-    let titled = behind-is w name (before optional_params (pair superclass (before implemented (sign 2)))) n.0 (ps.0 ++ (s.0 ++ (i.0 ++ brace.0))) plain.0 is.0.1.0 plain.1 typed in
-    let opening = behind-is w (keyword 8) (behind name (before optional_params (pair superclass (before implemented (sign 2))))) all.0 (n.0 ++ (ps.0 ++ (s.0 ++ (i.0 ++ brace.0)))) all.2 is.0.1.0 all.4 titled in
+    let last = before-is w implemented (sign token.open_brace) i.0 brace.0 is.0.1.1.1.0 brace.2 i.3.whole brace.4 in
+    let ends = pair-is w superclass (before implemented (sign token.open_brace)) s.0 (i.0 ++ brace.0) is.0.1.1.0 is.0.1.1.1.0 s.3.whole last in
+    let typed = before-is w optional_params (pair superclass (before implemented (sign token.open_brace))) ps.0 (s.0 ++ (i.0 ++ brace.0)) is.0.1.0 (is.0.1.1.0, is.0.1.1.1.0) ps.3.whole ends in
+    let titled = behind-is w name (before optional_params (pair superclass (before implemented (sign token.open_brace)))) n.0 (ps.0 ++ (s.0 ++ (i.0 ++ brace.0))) plain.0 is.0.1.0 plain.1 typed in
+    let opening = behind-is w (keyword token.class) (behind name (before optional_params (pair superclass (before implemented (sign token.open_brace))))) all.0 (n.0 ++ (ps.0 ++ (s.0 ++ (i.0 ++ brace.0)))) all.2 is.0.1.0 all.4 titled in
     let pre : List Symbol = all.0 ++ (n.0 ++ (ps.0 ++ (s.0 ++ (i.0 ++ brace.0)))) in
     let split = split-in ts all.0 all.1 (n.0 ++ (ps.0 ++ (s.0 ++ (i.0 ++ brace.0)))) brace.1 all.3
     (split-in all.1 n.0 n.1 (ps.0 ++ (s.0 ++ (i.0 ++ brace.0))) brace.1 n.2
@@ -115,17 +116,17 @@ pub interface-there : (h room : ℕ) → NestedRows h → (ts : List Symbol) (re
 unfolding interface_form interface_heading
 interface-there h room rows ts rest a sh is safe =
     let w = WholeAt h in
-    let all = behind-part h room (keyword 27) (pair name_at (pair optional_params (pair extended (members_in kind.Interface)))) ts is.0 (record { texts = a; shallow = sh; whole = is.1 }) in
+    let all = behind-part h room (keyword token.interface) (pair name_at (pair optional_params (pair extended (members_in kind.Interface)))) ts is.0 (record { texts = a; shallow = sh; whole = is.1 }) in
     let n = two-parts h room name_at (pair optional_params (pair extended (members_in kind.Interface))) all.1 is.0 all.5 in
     let ps = two-parts h room optional_params (pair extended (members_in kind.Interface)) n.1 is.0.1 n.4 in
     let i = two-parts h room extended (members_in kind.Interface) ps.1 is.0.1.1 ps.4 in
-    let brace = behind-part h room (sign 2) (before (turn joined_lists (many (member_form kind.Interface))) (sign 3)) i.1 is.0.1.1.1 i.4 in
-    let body = before-part h room (turn joined_lists (many (member_form kind.Interface))) (sign 3) brace.1 is.0.1.1.1 brace.5 in
+    let brace = behind-part h room (sign token.open_brace) (before (turn joined_lists (many (member_form kind.Interface))) (sign token.close_brace)) i.1 is.0.1.1.1 i.4 in
+    let body = before-part h room (turn joined_lists (many (member_form kind.Interface))) (sign token.close_brace) brace.1 is.0.1.1.1 brace.5 in
     let plain = plain-name h n.0 is.0.0 n.3.whole in
-    let last = before-is w extended (sign 2) i.0 brace.0 is.0.1.1.0 brace.2 i.3.whole brace.4 in
-    let typed = before-is w optional_params (before extended (sign 2)) ps.0 (i.0 ++ brace.0) is.0.1.0 is.0.1.1.0 ps.3.whole last in
-    let titled = behind-is w name (before optional_params (before extended (sign 2))) n.0 (ps.0 ++ (i.0 ++ brace.0)) plain.0 is.0.1.0 plain.1 typed in
-    let opening = behind-is w (keyword 27) (behind name (before optional_params (before extended (sign 2)))) all.0 (n.0 ++ (ps.0 ++ (i.0 ++ brace.0))) all.2 is.0.1.0 all.4 titled in
+    let last = before-is w extended (sign token.open_brace) i.0 brace.0 is.0.1.1.0 brace.2 i.3.whole brace.4 in
+    let typed = before-is w optional_params (before extended (sign token.open_brace)) ps.0 (i.0 ++ brace.0) is.0.1.0 is.0.1.1.0 ps.3.whole last in
+    let titled = behind-is w name (before optional_params (before extended (sign token.open_brace))) n.0 (ps.0 ++ (i.0 ++ brace.0)) plain.0 is.0.1.0 plain.1 typed in
+    let opening = behind-is w (keyword token.interface) (behind name (before optional_params (before extended (sign token.open_brace)))) all.0 (n.0 ++ (ps.0 ++ (i.0 ++ brace.0))) all.2 is.0.1.0 all.4 titled in
     let pre : List Symbol = all.0 ++ (n.0 ++ (ps.0 ++ (i.0 ++ brace.0))) in
     let split = split-in ts all.0 all.1 (n.0 ++ (ps.0 ++ (i.0 ++ brace.0))) brace.1 all.3
     (split-in all.1 n.0 n.1 (ps.0 ++ (i.0 ++ brace.0)) brace.1 n.2 (split-in n.1 ps.0 ps.1 (i.0 ++ brace.0) brace.1 ps.2 (split-in ps.1 i.0 i.1 brace.0 brace.1 i.2 brace.3))) in
@@ -145,15 +146,15 @@ unfolding annotation_form annotation_heading
 annotation-there h room rows ts rest a sh is safe =
     let w = WholeAt h in
     let sort = terminal (at_interface ∷ []) in
-    let all = behind-part h room sort (behind (keyword 27) (pair name_at (members_in kind.AnnotationType))) ts is.0 (record { texts = a; shallow = sh; whole = is.1 }) in
-    let next = behind-part h room (keyword 27) (pair name_at (members_in kind.AnnotationType)) all.1 is.0 all.5 in
+    let all = behind-part h room sort (behind (keyword token.interface) (pair name_at (members_in kind.AnnotationType))) ts is.0 (record { texts = a; shallow = sh; whole = is.1 }) in
+    let next = behind-part h room (keyword token.interface) (pair name_at (members_in kind.AnnotationType)) all.1 is.0 all.5 in
     let n = two-parts h room name_at (members_in kind.AnnotationType) next.1 is.0 next.5 in
-    let brace = behind-part h room (sign 2) (before (turn joined_lists (many (member_form kind.AnnotationType))) (sign 3)) n.1 is.0.1 n.4 in
-    let body = before-part h room (turn joined_lists (many (member_form kind.AnnotationType))) (sign 3) brace.1 is.0.1 brace.5 in
+    let brace = behind-part h room (sign token.open_brace) (before (turn joined_lists (many (member_form kind.AnnotationType))) (sign token.close_brace)) n.1 is.0.1 n.4 in
+    let body = before-part h room (turn joined_lists (many (member_form kind.AnnotationType))) (sign token.close_brace) brace.1 is.0.1 brace.5 in
     let plain = plain-name h n.0 is.0.0 n.3.whole in
-    let titled = before-is w name (sign 2) n.0 brace.0 plain.0 brace.2 plain.1 brace.4 in
-    let later = behind-is w (keyword 27) (before name (sign 2)) next.0 (n.0 ++ brace.0) next.2 plain.0 next.4 titled in
-    let opening = behind-is w sort (behind (keyword 27) (before name (sign 2))) all.0 (next.0 ++ (n.0 ++ brace.0)) all.2 plain.0 all.4 later in
+    let titled = before-is w name (sign token.open_brace) n.0 brace.0 plain.0 brace.2 plain.1 brace.4 in
+    let later = behind-is w (keyword token.interface) (before name (sign token.open_brace)) next.0 (n.0 ++ brace.0) next.2 plain.0 next.4 titled in
+    let opening = behind-is w sort (behind (keyword token.interface) (before name (sign token.open_brace))) all.0 (next.0 ++ (n.0 ++ brace.0)) all.2 plain.0 all.4 later in
     let pre : List Symbol = all.0 ++ (next.0 ++ (n.0 ++ brace.0)) in
     let split = split-in ts all.0 all.1 (next.0 ++ (n.0 ++ brace.0)) brace.1 all.3 (split-in all.1 next.0 next.1 (n.0 ++ brace.0) brace.1 next.3 (split-in next.1 n.0 n.1 brace.0 brace.1 n.2 brace.3)) in
     let whole : ts ≡ pre ++ (body.0 ++ body.1) = split ∙ ap (λ (xs : List Symbol). pre ++ xs) body.3 in

@@ -35,6 +35,7 @@ use Rattle.decl_limits.proofs.LegalBodies.{place-on, one-more}
 use Rattle.decl_limits.proofs.LegalEnums.{type-has, type-named-has}
 use Rattle.decl_limits.proofs.LegalImports.{package-has, imports-have}
 use Rattle.decl_limits.proofs.FullForms.{row-symbols}
+use Rattle.decl_grammar.specs.TokenNames as token
 
 -- ---- packages
 
@@ -75,7 +76,7 @@ modified-has h =
 top-has : (h : ℕ) → Has h depth top_type TopLegal
 unfolding top_type
 top-has h =
-    has-either (has-turn no_type TopLegal (anything h depth (sign 6)) (λ ts s a p. tt))
+    has-either (has-turn no_type TopLegal (anything h depth (sign token.semicolon)) (λ ts s a p. tt))
     (has-turn top_declared TopLegal (has-seen first_doc (modified-has h))
     (λ ts x a p. λ safe. p.1 safe (doc_of x.0) (ap (λ raw. fits_if_some is_name (doc_of raw)) p.0 ∙ doc-fits ts a)))
 

@@ -10,6 +10,7 @@ use Rattle.decl_tree.specs.declared.annotation.ElementValuePair.{ElementValuePai
 use Rattle.decl_tree.specs.declared.annotation.ValueText.{ValueText}
 use Rattle.decl_tree.specs.declared.annotation.ValueText.TheOpen.{ValueText-F}
 use Rattle.decl_tree.specs.declared.annotation.ValueText.TheVariants as value
+use Rattle.decl_grammar.specs.TokenNames as token
 use Rattle.decl_grammar.specs.declared.symbol.Symbol.{Symbol}
 use Rattle.decl_grammar.specs.Form.{Stands, Behind, Form, is_value, ats, alone, paired, listed, defaulted, assigned, array_value, nested_annotation, first_name, constant_value, constant_items, value_and_rest, expression_rest, value_end, turn, nest, nullable}
 use Rattle.decl_grammar.specs.Constants.{joined}
@@ -142,7 +143,7 @@ annotation-rule h room rows = from-has h room rows ats
 
 none-has : (h room : ℕ) → Has h room listed_end (Items (is_legal_value room))
 unfolding listed_end
-none-has h room = has-turn (no_values {A = ValueText}) (Items (is_legal_value room)) (anything h room (sign 3)) (λ ts s a p. no-items (is_legal_value room) ts)
+none-has h room = has-turn (no_values {A = ValueText}) (Items (is_legal_value room)) (anything h room (sign token.close_brace)) (λ ts s a p. no-items (is_legal_value room) ts)
 
 none-more : (h room : ℕ) → Has h room listed_end (OneMore room)
 none-more h room = has-more (OneMore room) (none-has h room) (λ ts vs a i. (i.fit, omega (arith, i.few)))
@@ -238,10 +239,10 @@ paired-end-has h room rows =
     has-either (no-pairs-has h room 1) (has-behind (next-pair-has h room rows) (items-grow (pair_fits (is_legal_value room))))
 
 ends-rule : (h : ℕ) (s : Stands) → is_value s ≡ true → ValueRows h → Ends (suc h) s
-ends-rule h alone e rows room = has-free h room (value_end alone) refl (BehindFits alone room) (has-turn silently (BehindFits alone room) (anything h room (sign 1)) (λ ts s a p. tt))
+ends-rule h alone e rows room = has-free h room (value_end alone) refl (BehindFits alone room) (has-turn silently (BehindFits alone room) (anything h room (sign token.close_parenthesis)) (λ ts s a p. tt))
 ends-rule h paired e rows room = has-free h room (value_end paired) refl (BehindFits paired room) (paired-end-has h room rows)
 ends-rule h listed e rows room = has-free h room (value_end listed) refl (BehindFits listed room) (listed-more-has h room rows)
-ends-rule h defaulted e rows room = has-free h room (value_end defaulted) refl (BehindFits defaulted room) (has-turn silently (BehindFits defaulted room) (anything h room (sign 6)) (λ ts s a p. tt))
+ends-rule h defaulted e rows room = has-free h room (value_end defaulted) refl (BehindFits defaulted room) (has-turn silently (BehindFits defaulted room) (anything h room (sign token.semicolon)) (λ ts s a p. tt))
 ends-rule h assigned e rows room = absurd cc
 
 rests-rule : (h : ℕ) (s : Stands) → is_value s ≡ true → ValueRows h → Rests (suc h) s

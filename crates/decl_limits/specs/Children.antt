@@ -14,6 +14,7 @@ use Rattle.decl_grammar.specs.declared.written.Modifiers.{Modifiers}
 use Rattle.decl_grammar.specs.declared.written.ParamAt.{ParamAt}
 use Rattle.decl_grammar.specs.declared.written.TypeRest.{TypeRest}
 use Rattle.decl_grammar.specs.Symbols.{operator, word, at_interface}
+use Rattle.decl_grammar.specs.TokenNames as token
 use Rattle.decl_grammar.specs.Form.{Form, terminal, pair, turn, maybe, many, either}
 use Rattle.decl_grammar.specs.Types.{keyword, sign, behind, before, name, annotations, silently, type_form, type_param, optional_params, no_modifiers, type_modifiers}
 use Rattle.decl_grammar.specs.Grammar.{params_from, first_params, superclass, implemented, extended, constant, constants, joined_lists, member_form, modified_form, type_rest, ordinary, declaration_of, Ordinary}
@@ -41,17 +42,17 @@ pub record NextItem {A : Type 0} (opens : ℕ) (item : Form A) (ts : List Symbol
   pub items : List A
   pub parts : ts ≡ opening ∷ (front ++ next ∷ [])
   pub is_opening : opening.sort ≡ operator opens
-  pub whole : IsPhrase (many (before item (sign 7))) front items
+  pub whole : IsPhrase (many (before item (sign token.comma))) front items
   pub begins : OpensWith item next
   pub count : n ≡ length items
 
 -- a type parameter begins, behind so many
 abbrev pub NextTypeParam : List Symbol → ℕ → Type 0
-NextTypeParam ts n = NextItem 14 type_param ts n
+NextTypeParam ts n = NextItem token.less_than type_param ts n
 
 -- a constant of an enum
 abbrev pub NextConstant : List Symbol → ℕ → Type 0
-NextConstant ts n = NextItem 2 constant ts n
+NextConstant ts n = NextItem token.open_brace constant ts n
 
 -- A further parameter begins at the last symbol. Before the comma that stands there the parameters were whole, and the last of them is not of any number.
 pub record FurtherParam (ts : List Symbol) (n : ℕ) : Type 0 where
@@ -61,8 +62,8 @@ pub record FurtherParam (ts : List Symbol) (n : ℕ) : Type 0 where
   pub next : Symbol
   pub items : List ParamAt
   pub parts : ts ≡ opening ∷ (front ++ comma ∷ next ∷ [])
-  pub is_opening : opening.sort ≡ operator 0
-  pub is_comma : comma.sort ≡ operator 7
+  pub is_opening : opening.sort ≡ operator token.open_parenthesis
+  pub is_comma : comma.sort ≡ operator token.comma
   pub whole : IsPhrase first_params front (items, false)
   pub begins : OpensWith params_from next
   pub count : n ≡ length items
@@ -70,26 +71,27 @@ pub record FurtherParam (ts : List Symbol) (n : ℕ) : Type 0 where
 -- a parameter begins, behind so many: the first one directly behind the bracket
 abbrev pub NextParam : List Symbol → ℕ → Type 0
 NextParam ts n =
-    ((opening : Symbol) × (next : Symbol) × (ts ≡ opening ∷ next ∷ []) × (opening.sort ≡ operator 0) × OpensWith first_params next × (n ≡ 0)) ⊎ FurtherParam ts n
+    ((opening : Symbol) × (next : Symbol) × (ts ≡ opening ∷ next ∷ []) × (opening.sort ≡ operator token.open_parenthesis) × OpensWith first_params next × (n ≡ 0))
+    ⊎ FurtherParam ts n
 
 -- ---- types that are not closed yet
 
 -- of a class and of an interface up to the `{` (JLS 8.1, 9.1): how many type parameters it has
 unfoldable pub class_heading : Form ℕ
-class_heading = turn length (behind (keyword 8) (behind name (before optional_params (pair superclass (before implemented (sign 2))))))
+class_heading = turn length (behind (keyword token.class) (behind name (before optional_params (pair superclass (before implemented (sign token.open_brace))))))
 
 unfoldable pub interface_heading : Form ℕ
-interface_heading = turn length (behind (keyword 27) (behind name (before optional_params (before extended (sign 2)))))
+interface_heading = turn length (behind (keyword token.interface) (behind name (before optional_params (before extended (sign token.open_brace)))))
 
 abbrev pub no_children : {A : Type 0} → A → ℕ
 no_children x = 0
 
 unfoldable pub annotation_heading : Form ℕ
-annotation_heading = turn no_children (behind (terminal (at_interface ∷ [])) (behind (keyword 27) (before name (sign 2))))
+annotation_heading = turn no_children (behind (terminal (at_interface ∷ [])) (behind (keyword token.interface) (before name (sign token.open_brace))))
 
 -- of an enum up to what stands before its `{` (JLS 8.9)
 unfoldable pub enum_heading : Form (Unit {0})
-enum_heading = turn silently (behind (keyword 15) (behind name implemented))
+enum_heading = turn silently (behind (keyword token.enum) (behind name implemented))
 
 -- whole members of a type of this kind: how many there are
 abbrev pub members_there : List (List MemberAt) → ℕ
@@ -100,7 +102,7 @@ whole_members k = turn members_there (many (member_form k))
 
 -- the constants of an enum up to their `;`
 unfoldable pub whole_constants : Form ℕ
-whole_constants = turn length (behind enum_heading (behind (sign 2) (before constants (sign 6))))
+whole_constants = turn length (behind enum_heading (behind (sign token.open_brace) (before constants (sign token.semicolon))))
 
 abbrev pub both : ℕ × ℕ → ℕ
 both x = x.0 + x.1
@@ -114,11 +116,12 @@ open_type kind.Enum = turn both (pair whole_constants (whole_members kind.Enum))
 
 -- `class` or `interface` and a name
 unfoldable pub generic_name : Form (Unit {0})
-generic_name = turn silently (pair (terminal (word 8 ∷ word 27 ∷ [])) name)
+generic_name = turn silently (pair (terminal (word token.class ∷ word token.interface ∷ [])) name)
 
 -- a method or a constructor up to its parameters: how many type parameters it has (JLS 8.4, 8.8)
 unfoldable pub executable_heading : Form ℕ
-executable_heading = turn length (before optional_params (pair annotations (pair (maybe (either (turn silently (keyword 47)) (turn silently type_form))) name)))
+executable_heading =
+    turn length (before optional_params (pair annotations (pair (maybe (either (turn silently (keyword token.void)) (turn silently type_form))) name)))
 
 -- ---- full
 
@@ -148,7 +151,7 @@ member_children x = own_children (out-Member x.member)
 abbrev pub MemberFull : (List Symbol → Type 0) → TypeKind → ℕ → List Symbol → Type 0
 MemberFull inside k n ts =
     ((t : Symbol) × (ts ≡ t ∷ []) × OpensWith (modified_form k) t × (most ≤ n))
-    ⊎ (((ms : List MemberAt) × IsPhrase (member_form k) (ts ++ blank (operator 6) ∷ []) ms × (most < n + length ms))
+    ⊎ (((ms : List MemberAt) × IsPhrase (member_form k) (ts ++ blank (operator token.semicolon) ∷ []) ms × (most < n + length ms))
     ⊎ (((m : MemberAt) × IsPhrase (member_form k) ts (m ∷ []) × (most < member_children m))
     ⊎ Then type_modifiers (λ (m : Modifiers) us. inside us ⊎ ExecutableFull us) ts))
 

@@ -3,11 +3,12 @@ use Rattle.std.specs.Prelude.{ℕ, suc, Bool, List, [], ◌∷◌, if◌then◌e
 use Rattle.std.specs.List.{count_by}
 use Rattle.decl_grammar.specs.declared.symbol.Symbol.{Symbol}
 use Rattle.decl_grammar.specs.Symbols.{operator}
+use Rattle.decl_grammar.specs.TokenNames as token
 use Rattle.decl_grammar.specs.Reading.{has}
 
 -- `}`, `;` and `,`
 abbrev pub separating : List ℕ
-separating = operator 3 ∷ operator 6 ∷ operator 7 ∷ []
+separating = operator token.close_brace ∷ operator token.semicolon ∷ operator token.comma ∷ []
 
 abbrev pub separates : Symbol → Bool
 separates s = has separating s.sort
@@ -51,9 +52,9 @@ left_behind s = left_to s.around s.count s.most
 -- behind one symbol more
 abbrev pub scan_next : Scan → Symbol → Scan
 scan_next s t =
-    if has (operator 2 ∷ []) t.sort then entered s
-    else if has (operator 3 ∷ []) t.sort then left_behind s
-    else if has (operator 6 ∷ operator 7 ∷ []) t.sort then one_more s
+    if has (operator token.open_brace ∷ []) t.sort then entered s
+    else if has (operator token.close_brace ∷ []) t.sort then left_behind s
+    else if has (operator token.semicolon ∷ operator token.comma ∷ []) t.sort then one_more s
     else s
 
 -- behind some symbols more

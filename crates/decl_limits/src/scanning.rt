@@ -5,6 +5,7 @@ ghost use Rattle.decl_limits.specs.ScansShown.{shown_counts, IsWithin};
 
 use apt_base::NoMemory;
 use decl_grammar::Symbol;
+use decl_grammar::sorts::{CLOSE_BRACE, COMMA, OPEN_BRACE, SEMICOLON};
 use std::alloc::Global;
 
 /// What is counted between two symbols.
@@ -56,12 +57,12 @@ impl Counts {
         ensures { IfOk result (λ u. shown_counts self.new ≡ scan_next (shown_counts self.old) symbol.now) }
     {
         match symbol.sort {
-            63 => self.enter(),
-            64 => {
+            OPEN_BRACE => self.enter(),
+            CLOSE_BRACE => {
                 self.leave();
                 Ok(())
             }
-            67 | 68 => {
+            SEMICOLON | COMMA => {
                 self.one_more();
                 Ok(())
             }

@@ -11,6 +11,7 @@ use crate::names::read_chain;
 use crate::skipping::read_over;
 use crate::sorts::{is_at, starts_annotation, starts_type};
 use crate::steps::{begin, is_next};
+use decl_grammar::sorts::OPEN_PARENTHESIS;
 use decl_grammar::{ReadFault, Symbol};
 use std::alloc::Global;
 
@@ -43,8 +44,8 @@ fn annotation_over_of<'a, 's>(
 {
     let (_, rest) = read_at(symbols)?;
     let (_, rest) = read_chain(alloc, room, rest)?;
-    if is_next(rest, 61) {
-        return read_over(alloc, 61, rest);
+    if is_next(rest, OPEN_PARENTHESIS) {
+        return read_over(alloc, OPEN_PARENTHESIS, rest);
     }
     Ok(rest)
 }

@@ -10,6 +10,7 @@ ghost use Rattle.decl_grammar.specs.Rule.{reads, read_nest};
 use crate::names::{read_name, starts_name};
 use crate::steps::{begin, is_next, one};
 use apt_base::Name;
+use decl_grammar::sorts::{DOT, IMPORT, SEMICOLON, STAR, STATIC};
 use decl_grammar::{ReadFault, Symbol};
 use decl_tree::{Import, ImportKind};
 use std::alloc::Global;
@@ -22,12 +23,12 @@ fn import_step_of<'a, 's>(
 ) -> Result<(Option<&'a str>, &'s [Symbol<'a>]), ReadFault>
     ensures { Gives (λ x. (name_seen x.0, x.1.now)) result (reads room import_step symbols.now) }
 {
-    let (_, rest) = one(symbols, 69)?;
+    let (_, rest) = one(symbols, DOT)?;
     if starts_name(rest) {
         let (name, rest) = read_name(room, rest)?;
         return Ok((Some(name), rest));
     }
-    let (_, rest) = one(rest, 91)?;
+    let (_, rest) = one(rest, STAR)?;
     Ok((None, rest))
 }
 
@@ -42,7 +43,7 @@ fn import_rest_of<'a, 's>(
 {
     let mut text = front;
     let mut rest = begin(symbols)?;
-    'row: while is_next(rest, 69) {
+    'row: while is_next(rest, DOT) {
         let (next, after) = import_step_of(room, rest)?;
         match next {
             Some(name) => {
@@ -104,7 +105,7 @@ fn deeper_import_of<'a, 's>(
 ) -> Result<(Import, &'s [Symbol<'a>]), ReadFault>
     ensures { Gives (λ x. (x.0, x.1.now)) result (deeper_behind (string_bytes front) room symbols.now) }
 {
-    if is_next(symbols, 69) {
+    if is_next(symbols, DOT) {
         return import_rest_of(alloc, room, front, symbols);
     }
     Err(ReadFault::Bad(symbols.len()))
@@ -119,7 +120,7 @@ fn import_static_of<'a, 's>(
 ) -> Result<(Import, &'s [Symbol<'a>]), ReadFault>
     ensures { Gives (λ x. (x.0, x.1.now)) result (reads room import_static symbols.now) }
 {
-    let (_, rest) = one(symbols, 47)?;
+    let (_, rest) = one(symbols, STATIC)?;
     let (first, rest) = read_name(room, rest)?;
     let front = String::from_str(alloc, first)?;
     let (import, rest) = deeper_import_of(alloc, room, front, rest)?;
@@ -135,14 +136,14 @@ fn import_of<'a, 's>(
 ) -> Result<(Import, &'s [Symbol<'a>]), ReadFault>
     ensures { Gives (λ x. (x.0, x.1.now)) result (reads room import_form symbols.now) }
 {
-    let (_, rest) = one(symbols, 34)?;
+    let (_, rest) = one(symbols, IMPORT)?;
     if starts_name(rest) {
         let (import, rest) = import_named_of(alloc, room, rest)?;
-        let (_, rest) = one(rest, 67)?;
+        let (_, rest) = one(rest, SEMICOLON)?;
         return Ok((import, rest));
     }
     let (import, rest) = import_static_of(alloc, room, rest)?;
-    let (_, rest) = one(rest, 67)?;
+    let (_, rest) = one(rest, SEMICOLON)?;
     Ok((import, rest))
 }
 
@@ -157,7 +158,7 @@ fn more_imports_of<'a, 's>(
 {
     let mut all = front;
     let mut rest = begin(symbols)?;
-    'row: while is_next(rest, 34) {
+    'row: while is_next(rest, IMPORT) {
         let (next, after) = import_of(alloc, room, rest)?;
         all.push(next)?;
         rest = after;

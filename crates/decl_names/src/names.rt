@@ -9,6 +9,7 @@ ghost use Rattle.decl_grammar.specs.Rule.{reads};
 
 use crate::steps::{begin, is_next, one};
 use apt_base::Name;
+use decl_grammar::sorts::{DOT, IDENTIFIER, NAMED};
 use decl_grammar::{NameAt, ReadFault, Symbol};
 use std::alloc::Global;
 
@@ -16,7 +17,7 @@ use std::alloc::Global;
 pub fn is_name_sort(sort: u8) -> bool
     ensures { result ≡ has names sort }
 {
-    sort == 0 || sort == 1
+    sort == IDENTIFIER || sort == NAMED
 }
 
 /// Whether a name begins here.
@@ -25,7 +26,7 @@ pub fn starts_name(symbols: &[Symbol<'_>]) -> bool
 {
     match symbols {
         [] => false,
-        [symbol, ..] => symbol.sort == 0 || symbol.sort == 1,
+        [symbol, ..] => symbol.sort == IDENTIFIER || symbol.sort == NAMED,
     }
 }
 
@@ -40,7 +41,7 @@ pub fn read_name<'a, 's>(
     match symbols {
         [] => Err(ReadFault::Bad(0)),
         [symbol, rest @ ..] => {
-            if symbol.sort == 0 || symbol.sort == 1 {
+            if symbol.sort == IDENTIFIER || symbol.sort == NAMED {
                 Ok((symbol.text.as_str(), rest))
             } else {
                 Err(ReadFault::Bad(symbols.len()))
@@ -61,7 +62,7 @@ pub fn read_name_at<'a, 's>(
     match symbols {
         [] => Err(ReadFault::Bad(0)),
         [symbol, rest @ ..] => {
-            if symbol.sort == 0 || symbol.sort == 1 {
+            if symbol.sort == IDENTIFIER || symbol.sort == NAMED {
                 let name = Name::new(alloc, symbol.text.as_str())?;
                 let line = symbol.line;
                 Ok((NameAt { name, line }, rest))
@@ -80,7 +81,7 @@ fn read_dot_name<'a, 's>(
 ) -> Result<(&'a str, &'s [Symbol<'a>]), ReadFault>
     ensures { Gives (λ x. (x.0.now, x.1.now)) result (reads room dot_name symbols.now) }
 {
-    let (_, rest) = one(symbols, 69)?;
+    let (_, rest) = one(symbols, DOT)?;
     read_name(room, rest)
 }
 
@@ -109,7 +110,7 @@ fn more_names_of<'a, 's>(
 {
     let mut text = front;
     let mut rest = begin(symbols)?;
-    'row: while is_next(rest, 69) {
+    'row: while is_next(rest, DOT) {
         let (next, after) = read_dot_name(room, rest)?;
         text.push('.')?;
         text.push_str(next)?;

@@ -2,6 +2,9 @@
 ghost use Rattle.std.specs.Prelude.{◌≡◌, ◌<◌, ℕ, suc, [], ◌∷◌, List, length, IfOk, Ok, Some, None};
 ghost use Rattle.decl_grammar.specs.Reading.{Gives, has, starts, openers, closers, pass, skip, one_at};
 
+use decl_grammar::sorts::{
+    CLOSE_BRACE, CLOSE_BRACKET, CLOSE_PARENTHESIS, OPEN_BRACE, OPEN_BRACKET, OPEN_PARENTHESIS,
+};
 use decl_grammar::{ReadFault, Symbol};
 use std::alloc::Global;
 
@@ -9,14 +12,14 @@ use std::alloc::Global;
 pub fn is_opening(sort: u8) -> bool
     ensures { result ≡ has openers sort }
 {
-    sort == 61 || sort == 63 || sort == 65
+    sort == OPEN_PARENTHESIS || sort == OPEN_BRACE || sort == OPEN_BRACKET
 }
 
 // Whether a closing bracket has this sort.
 fn is_closing(sort: u8) -> bool
     ensures { result ≡ has closers sort }
 {
-    sort == 62 || sort == 64 || sort == 66
+    sort == CLOSE_PARENTHESIS || sort == CLOSE_BRACE || sort == CLOSE_BRACKET
 }
 
 /// The sort of the bracket that closes one of this sort.

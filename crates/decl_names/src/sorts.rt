@@ -1,12 +1,17 @@
 // What sorts of symbol stand in expressions (JLS 15).
 ghost use Rattle.std.specs.Prelude.{◌≡◌, ◌++◌, [], ◌∷◌, List};
-ghost use Rattle.decl_grammar.specs.Symbols.{numbers, operator, word};
+ghost use Rattle.decl_grammar.specs.Symbols.{numbers};
 ghost use Rattle.decl_grammar.specs.Reading.{has, starts};
 ghost use Rattle.decl_names.specs.Sorts.{plain_operators};
 ghost use Rattle.decl_grammar.specs.Form.{ats, constant_sorts, names, plain_expression_words, plain_sorts, primitive_sorts};
 
 use crate::names::is_name_sort;
 use decl_grammar::Symbol;
+use decl_grammar::sorts::{
+    ABSTRACT, AT, AT_INTERFACE, BOOLEAN, BYTE, CHAR, DOUBLE, DOUBLE_EQUALS, ELLIPSIS, EXCLAMATION,
+    FLOAT, INT, INTEGER, LONG, MINUS, OPEN_BRACE, OPEN_BRACKET, PACKAGE, SHORT, STATIC, TILDE,
+    VOID,
+};
 
 // Whether a sort is one of this many from one on.
 fn is_among(from: u8, count: u8, sort: u8) -> bool
@@ -20,17 +25,17 @@ fn is_among(from: u8, count: u8, sort: u8) -> bool
 
 /// Whether a literal has this sort (JLS 3.10).
 pub fn is_literal_sort(sort: u8) -> bool
-    ensures { result ≡ has (numbers 2 7) sort }
+    ensures { result ≡ has (numbers INTEGER 7) sort }
 {
-    is_among(2, 7, sort)
+    is_among(INTEGER, 7, sort)
 }
 
 // Whether a reserved word behind `instanceof` but `new` has this sort, in the order of their sorts.
 #[tactic(auto, using(decl_grammar::proofs::Ranges::has_then, decl_grammar::proofs::Ranges::has_else))]
 fn is_later_word(sort: u8) -> bool
-    ensures { result ≡ has (numbers (word 26) 4 ++ numbers (word 31) 20) sort }
+    ensures { result ≡ has (numbers INT 4 ++ numbers PACKAGE 20) sort }
 {
-    is_among(36, 4, sort) || is_among(41, 20, sort)
+    is_among(INT, 4, sort) || is_among(PACKAGE, 20, sort)
 }
 
 // Whether a reserved word but `instanceof` and `new` has this sort.
@@ -38,7 +43,7 @@ fn is_later_word(sort: u8) -> bool
 fn is_plain_word(sort: u8) -> bool
     ensures { result ≡ has plain_expression_words sort }
 {
-    is_among(10, 25, sort) || is_later_word(sort)
+    is_among(ABSTRACT, 25, sort) || is_later_word(sort)
 }
 
 // Whether an operator that tells nothing in an expression has this sort.
@@ -46,7 +51,7 @@ fn is_plain_word(sort: u8) -> bool
 fn is_plain_operator(sort: u8) -> bool
     ensures { result ≡ has plain_operators sort }
 {
-    sort == 70 || sort == 76 || sort == 77 || is_among(81, 30, sort)
+    sort == ELLIPSIS || sort == EXCLAMATION || sort == TILDE || is_among(DOUBLE_EQUALS, 30, sort)
 }
 
 // Whether a word or an operator that tells nothing in an expression has this sort.
@@ -69,14 +74,14 @@ pub fn is_plain(sort: u8) -> bool
 pub fn is_at(sort: u8) -> bool
     ensures { result ≡ has ats sort }
 {
-    sort == 71 || sort == 9
+    sort == AT || sort == AT_INTERFACE
 }
 
 /// Whether a pair of brackets begins with this sort, or an annotation before one.
 pub fn is_square_or_at(sort: u8) -> bool
-    ensures { result ≡ has (65 ∷ ats) sort }
+    ensures { result ≡ has (OPEN_BRACKET ∷ ats) sort }
 {
-    sort == 65 || is_at(sort)
+    sort == OPEN_BRACKET || is_at(sort)
 }
 
 /// Whether an annotation begins here.
@@ -93,14 +98,14 @@ pub fn starts_annotation(symbols: &[Symbol<'_>]) -> bool
 pub fn is_primitive(sort: u8) -> bool
     ensures { result ≡ has primitive_sorts sort }
 {
-    sort == 12
-        || sort == 14
-        || sort == 46
-        || sort == 36
-        || sort == 38
-        || sort == 17
-        || sort == 29
-        || sort == 23
+    sort == BOOLEAN
+        || sort == BYTE
+        || sort == SHORT
+        || sort == INT
+        || sort == LONG
+        || sort == CHAR
+        || sort == FLOAT
+        || sort == DOUBLE
 }
 
 /// Whether a primitive type begins here.
@@ -133,15 +138,15 @@ pub fn starts_type(symbols: &[Symbol<'_>]) -> bool
 
 // Whether `-`, `void` or a primitive type has this sort.
 fn is_minus_or_class(sort: u8) -> bool
-    ensures { result ≡ has (operator 29 ∷ word 47 ∷ primitive_sorts) sort }
+    ensures { result ≡ has (MINUS ∷ VOID ∷ primitive_sorts) sort }
 {
-    sort == 90 || sort == 57 || is_primitive(sort)
+    sort == MINUS || sort == VOID || is_primitive(sort)
 }
 
 // Whether a literal has this sort, or one of those.
 #[tactic(auto, using(decl_grammar::proofs::Ranges::has_then, decl_grammar::proofs::Ranges::has_else))]
 fn is_literal_or_more(sort: u8) -> bool
-    ensures { result ≡ has (numbers 2 7 ++ operator 29 ∷ word 47 ∷ primitive_sorts) sort }
+    ensures { result ≡ has (numbers INTEGER 7 ++ MINUS ∷ VOID ∷ primitive_sorts) sort }
 {
     is_literal_sort(sort) || is_minus_or_class(sort)
 }
@@ -149,7 +154,7 @@ fn is_literal_or_more(sort: u8) -> bool
 // Whether a name has this sort, or one of those.
 #[tactic(auto, using(decl_grammar::proofs::Ranges::has_then, decl_grammar::proofs::Ranges::has_else))]
 fn is_plain_constant(sort: u8) -> bool
-    ensures { result ≡ has (names ++ (numbers 2 7 ++ operator 29 ∷ word 47 ∷ primitive_sorts)) sort }
+    ensures { result ≡ has (names ++ (numbers INTEGER 7 ++ MINUS ∷ VOID ∷ primitive_sorts)) sort }
 {
     is_name_sort(sort) || is_literal_or_more(sort)
 }
@@ -157,7 +162,7 @@ fn is_plain_constant(sort: u8) -> bool
 // Whether an annotation begins with this sort, or it is one of those.
 #[tactic(auto, using(decl_grammar::proofs::Ranges::has_then, decl_grammar::proofs::Ranges::has_else))]
 fn is_unbraced_constant(sort: u8) -> bool
-    ensures { result ≡ has (ats ++ (names ++ (numbers 2 7 ++ operator 29 ∷ word 47 ∷ primitive_sorts))) sort }
+    ensures { result ≡ has (ats ++ (names ++ (numbers INTEGER 7 ++ MINUS ∷ VOID ∷ primitive_sorts))) sort }
 {
     is_at(sort) || is_plain_constant(sort)
 }
@@ -166,7 +171,7 @@ fn is_unbraced_constant(sort: u8) -> bool
 fn is_constant(sort: u8) -> bool
     ensures { result ≡ has constant_sorts sort }
 {
-    sort == 63 || is_unbraced_constant(sort)
+    sort == OPEN_BRACE || is_unbraced_constant(sort)
 }
 
 /// Whether a constant form begins here.
