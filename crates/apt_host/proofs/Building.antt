@@ -19,8 +19,9 @@ use Rattle.tree_store.proofs.Publishing.{absent_from_taken, Holds-written}
 use Rattle.round_engine.specs.declared.numbering.Made.{Made}
 use Rattle.round_engine.specs.Numbering.{AreLeast}
 use Rattle.round_engine.specs.declared.running.Finished.{Finished}
-use Rattle.round_engine.specs.Refusals.{Refusal, Tree, Sink, Children}
-use Rattle.round_engine.specs.Run.{files_among, frames_of, run_of}
+use Rattle.project_units.specs.Refusals.{Refusal, Tree, Sink, Children}
+use Rattle.project_units.specs.Creations.{files_among}
+use Rattle.round_engine.specs.Run.{frames_of, run_of}
 use Rattle.round_engine.specs.Shown.{ShowsNoMore}
 use Rattle.round_engine.specs.Clean.{AreNumbered, ShowsWhole, Talked, is_error, is_warning, count_of}
 use Rattle.round_engine.proofs.FrontsOfHellos.{shows_nothing}

@@ -9,8 +9,8 @@ use Rattle.element_table.specs.declared.part.Part.TheVariants.{Source, Stub}
 use Rattle.tree_store.specs.declared.sources.RawSource.{RawSource}
 use Rattle.tree_store.specs.Sources.{IsBefore, Ascend}
 use Rattle.tree_store.proofs.Ascending.{files_ascend}
-use Rattle.round_engine.specs.Refusals.{Refusal}
-use Rattle.round_engine.specs.Units.{and_then}
+use Rattle.project_units.specs.Refusals.{Refusal}
+use Rattle.project_units.specs.Units.{and_then}
 use Rattle.apt_host.specs.declared.sources.ReadSource.{ReadSource}
 use Rattle.apt_host.specs.Project.{read_source, read_from, IsRead, IsLeast, LeastIsRefused}
 

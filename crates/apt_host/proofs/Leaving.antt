@@ -4,7 +4,7 @@ use Rattle.apt_outside.specs.Files.{Files}
 use Rattle.apt_outside.specs.Child.{State}
 use Rattle.tree_store.specs.Output.{StoresStand}
 use Rattle.tree_store.specs.Storing.{AddsToStore}
-use Rattle.round_engine.specs.Refusals.{Refusal, Tree, Sink, Children}
+use Rattle.project_units.specs.Refusals.{Refusal, Tree, Sink, Children}
 use Rattle.apt_host.specs.Words.{Request, Build, Bad}
 use Rattle.apt_host.specs.Verdicts.{Verdict, Done, Errors, Refused, Failed, Memory, OrMemory}
 use Rattle.apt_host.specs.Project.{Read, read_of}

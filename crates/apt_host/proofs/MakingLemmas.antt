@@ -6,18 +6,19 @@ use Rattle.std.specs.Prelude.{not}
 use Rattle.apt_outside.specs.Count.{Told}
 use Rattle.apt_outside.specs.Child.{Try, State}
 use Rattle.round_engine.specs.declared.running.Finished.{Finished}
-use Rattle.round_engine.specs.declared.project.Key.{Key}
-use Rattle.round_engine.specs.declared.project.KeyProcessor.{KeyProcessor}
-use Rattle.round_engine.specs.declared.project.Project.{Project}
-use Rattle.round_engine.specs.declared.refusal.Refusal as engine
-use Rattle.round_engine.specs.declared.refusal.Refusal.TheVariants as run
-use Rattle.round_engine.specs.Refusals as stop
-use Rattle.round_engine.specs.Refusals.{Tree, Sink, Children, Stop, NamesAmong, is_failure, is_refusal}
-use Rattle.round_engine.specs.Faults.{stop_of, HasReason}
+use Rattle.project_units.specs.declared.project.Key.{Key}
+use Rattle.project_units.specs.declared.project.KeyProcessor.{KeyProcessor}
+use Rattle.project_units.specs.declared.project.Project.{Project}
+use Rattle.project_units.specs.declared.refusal.Refusal as engine
+use Rattle.project_units.specs.declared.refusal.Refusal.TheVariants as run
+use Rattle.project_units.specs.Refusals as stop
+use Rattle.project_units.specs.Refusals.{Tree, Sink, Children, Stop, NamesAmong, is_failure, is_refusal}
+use Rattle.project_units.specs.Faults.{stop_of, HasReason}
 use Rattle.round_engine.specs.Run.{Run, run_of, frames_of}
 use Rattle.round_engine.specs.Shown.{StopsAs, StartsUpTo, TriesInOrder, IsCounted, TellsMore, IsDueStop}
 use Rattle.round_engine.specs.Clean as clean
-use Rattle.round_engine.specs.Clean.{try_of, name_of, plan_of, tries_in, names_in, Talked}
+use Rattle.project_units.specs.Plans.{try_of, name_of, plan_of, tries_in, names_in}
+use Rattle.round_engine.specs.Clean.{Talked}
 use Rattle.apt_host.specs.declared.status.Status.{Status}
 use Rattle.apt_host.specs.Shown.{shown_project}
 use Rattle.apt_host.specs.CleanBuild.{outcome_of, outcome_of_run}

@@ -8,12 +8,11 @@ use Rattle.tree_store.specs.declared.fault.SourceReadFault.TheVariants as reads
 use Rattle.tree_store.specs.declared.sources.RawSources.{RawSources}
 use Rattle.tree_store.specs.Cause.{HasSourceCause}
 use Rattle.tree_store.specs.Sources.{sources_of, Gives}
-use Rattle.round_engine.specs.declared.project.Key.{Key}
-use Rattle.round_engine.specs.declared.project.Project.{Project}
-use Rattle.round_engine.specs.Refusals.{Refusal}
-use Rattle.round_engine.specs.Run.{Plan}
-use Rattle.round_engine.specs.Clean.{plan_of}
-use Rattle.round_engine.specs.Units.{and_then}
+use Rattle.project_units.specs.declared.project.Key.{Key}
+use Rattle.project_units.specs.declared.project.Project.{Project}
+use Rattle.project_units.specs.Refusals.{Refusal}
+use Rattle.project_units.specs.Plans.{Plan, plan_of}
+use Rattle.project_units.specs.Units.{and_then}
 use Rattle.apt_host.specs.declared.sources.Tables.{Tables}
 use Rattle.apt_host.specs.Words.{Options}
 use Rattle.apt_host.specs.Shown.{shown_project}

@@ -2,8 +2,8 @@
 use Rattle.std.proofs.Common.{◌≡◌, Result, Ok, inl, inr, refl, sym, ap, subst}
 use Rattle.tree_store.specs.declared.fault.StoreFault.{StoreFault}
 use Rattle.tree_store.specs.declared.fault.StoreFault.TheVariants as store
-use Rattle.round_engine.specs.Refusals.{Refusal}
-use Rattle.round_engine.specs.Units.{and_then}
+use Rattle.project_units.specs.Refusals.{Refusal}
+use Rattle.project_units.specs.Units.{and_then}
 use Rattle.apt_host.specs.declared.status.Status.{Status}
 use Rattle.apt_host.specs.Verdicts.{Verdict, Done, Errors, Refused, Failed, Memory, OrMemory, verdict}
 use Rattle.apt_host.specs.Endings.{of_store}

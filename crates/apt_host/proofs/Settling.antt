@@ -18,12 +18,11 @@ use Rattle.project_config.specs.declared.settings.Settings.{Settings}
 use Rattle.project_config.specs.Answers as reading
 use Rattle.project_config.specs.Discovery.{settings_of}
 use Rattle.project_config.specs.Settled.{IsSettled}
-use Rattle.round_engine.specs.declared.project.Key.{Key}
-use Rattle.round_engine.specs.declared.project.KeyProcessor.{KeyProcessor}
-use Rattle.round_engine.specs.Refusals.{past}
-use Rattle.round_engine.specs.Run.{Plan}
-use Rattle.round_engine.specs.Clean.{plan_of, try_of, inits_fit}
-use Rattle.round_engine.specs.Units.{and_then}
+use Rattle.project_units.specs.declared.project.Key.{Key}
+use Rattle.project_units.specs.declared.project.KeyProcessor.{KeyProcessor}
+use Rattle.project_units.specs.Refusals.{past}
+use Rattle.project_units.specs.Plans.{Plan, plan_of, try_of, inits_fit}
+use Rattle.project_units.specs.Units.{and_then}
 use Rattle.apt_host.specs.declared.status.Status.{Status}
 use Rattle.apt_host.specs.Words.{Options}
 use Rattle.apt_host.specs.Configuration.{Configuration, within, lists_in, with_lists, lists_behind, files_of, said, on_form, settings_in, try_in, plan_in, fitting, key_processor, key_in, IsKeyOf}

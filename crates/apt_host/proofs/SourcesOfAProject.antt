@@ -11,11 +11,11 @@ use Rattle.element_table.specs.declared.part.Part.TheVariants.{Source, Stub}
 use Rattle.element_table.specs.TypeTable.{TypeTable}
 use Rattle.tree_store.specs.declared.sources.RawSource.{RawSource}
 use Rattle.tree_store.specs.declared.sources.RawSources.{RawSources}
-use Rattle.round_engine.specs.declared.unit_fault.UnitFault.{UnitFault}
-use Rattle.round_engine.specs.declared.unit_fault.UnitFault.TheVariants as unit
-use Rattle.round_engine.specs.Refusals.{Refusal, BadStub, BadSource, past}
-use Rattle.round_engine.specs.Units.{Obstacle, Duplicate, Full, Entered, enter_units, and_then}
-use Rattle.round_engine.specs.Entering.{Obstructs}
+use Rattle.project_units.specs.declared.unit_fault.UnitFault.{UnitFault}
+use Rattle.project_units.specs.declared.unit_fault.UnitFault.TheVariants as unit
+use Rattle.project_units.specs.Refusals.{Refusal, BadStub, BadSource, past}
+use Rattle.project_units.specs.Units.{Obstacle, Duplicate, Full, Entered, enter_units, and_then}
+use Rattle.project_units.specs.Entering.{Obstructs}
 use Rattle.apt_host.specs.declared.sources.ReadSource.{ReadSource}
 use Rattle.apt_host.specs.declared.sources.ReadSources.{ReadSources}
 use Rattle.apt_host.specs.declared.sources.Tables.{Tables}

@@ -4,8 +4,8 @@ use Rattle.std.proofs.lemmas.Bool.{false≢true}
 use Rattle.apt_outside.specs.Count.{Told}
 use Rattle.apt_outside.specs.Files.{Files}
 use Rattle.apt_outside.specs.Child.{Try, State}
-use Rattle.round_engine.specs.declared.project.Key.{Key}
-use Rattle.round_engine.specs.Clean.{tries_in, names_in}
+use Rattle.project_units.specs.declared.project.Key.{Key}
+use Rattle.project_units.specs.Plans.{tries_in, names_in}
 use Rattle.apt_host.specs.Words.{Options, Request, Build, Bad}
 use Rattle.apt_host.specs.Verdicts.{Verdict, Done, has_run, named_in}
 use Rattle.apt_host.specs.Promises.{AreRead, Uses, Finishes, processors_of}

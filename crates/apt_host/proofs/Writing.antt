@@ -7,7 +7,7 @@ use Rattle.apt_outside.specs.declared.fault.Fault.{Fault}
 use Rattle.apt_outside.specs.declared.fault.Fault.TheVariants as outside
 use Rattle.apt_outside.specs.Stream.{Appends}
 use Rattle.apt_host.specs.Endings.{sink_verdict}
-use Rattle.round_engine.specs.Refusals.{Refusal, BadWords, Tree, Sink, Children}
+use Rattle.project_units.specs.Refusals.{Refusal, BadWords, Tree, Sink, Children}
 use Rattle.round_engine.specs.Clean.{Talked}
 use Rattle.apt_host.specs.Words.{Request, Build, Bad}
 use Rattle.apt_host.specs.Project.{Read, read_of}

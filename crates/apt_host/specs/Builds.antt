@@ -7,11 +7,12 @@ use Rattle.apt_outside.specs.Count.{Rose, Told}
 use Rattle.apt_outside.specs.Child.{State}
 use Rattle.tree_store.specs.RecordFormat.{record_form}
 use Rattle.round_engine.specs.declared.numbering.Made.{Made}
-use Rattle.round_engine.specs.declared.project.Key.{Key}
+use Rattle.project_units.specs.declared.project.Key.{Key}
 use Rattle.round_engine.specs.declared.running.Finished.{Finished}
-use Rattle.round_engine.specs.declared.project.Project.{Project}
+use Rattle.project_units.specs.declared.project.Project.{Project}
 use Rattle.round_engine.specs.Shown.{TriesInOrder, TellsMore}
-use Rattle.round_engine.specs.Clean.{Talked, names_in, tries_in}
+use Rattle.round_engine.specs.Clean.{Talked}
+use Rattle.project_units.specs.Plans.{names_in, tries_in}
 use Rattle.apt_host.specs.declared.build.Ending.{Ending}
 use Rattle.apt_host.specs.declared.publish.Written.{Written}
 use Rattle.apt_host.specs.declared.report.Summary as code

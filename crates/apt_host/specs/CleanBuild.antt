@@ -3,8 +3,10 @@ use Rattle.std.specs.Prelude.{ℕ, ◌+◌, List, length, map, Result, Ok, Err, 
 use Rattle.apt_outside.specs.Files.{Files}
 use Rattle.apt_outside.specs.Child.{Says, Try}
 use Rattle.round_engine.specs.declared.messages.Placed.{Placed}
-use Rattle.round_engine.specs.Refusals.{Refusal}
-use Rattle.round_engine.specs.Run.{Plan, Run, files_among, run_of}
+use Rattle.project_units.specs.Refusals.{Refusal}
+use Rattle.project_units.specs.Plans.{Plan}
+use Rattle.round_engine.specs.Run.{Run, run_of}
+use Rattle.project_units.specs.Creations.{files_among}
 use Rattle.round_engine.specs.Clean.{is_error, is_warning, count_of}
 use Rattle.apt_host.specs.Words.{Options}
 use Rattle.apt_host.specs.Project.{Read, read_of}

@@ -14,12 +14,11 @@ use Rattle.project_config.specs.declared.settings.Settings.{Settings}
 use Rattle.project_config.specs.Answers as reading
 use Rattle.project_config.specs.Reading.{has_order}
 use Rattle.project_config.specs.Discovery.{settings_of}
-use Rattle.round_engine.specs.declared.project.Key.{Key}
-use Rattle.round_engine.specs.declared.project.KeyProcessor.{KeyProcessor}
-use Rattle.round_engine.specs.Refusals.{Refusal, BadConfig, UnknownProcessor, BadStub, BadSource, DuplicateType, Place, Json, Item, Line, past}
-use Rattle.round_engine.specs.Units.{and_then}
-use Rattle.round_engine.specs.Run.{Plan}
-use Rattle.round_engine.specs.Clean.{inits_fit}
+use Rattle.project_units.specs.declared.project.Key.{Key}
+use Rattle.project_units.specs.declared.project.KeyProcessor.{KeyProcessor}
+use Rattle.project_units.specs.Refusals.{Refusal, BadConfig, UnknownProcessor, BadStub, BadSource, DuplicateType, Place, Json, Item, Line, past}
+use Rattle.project_units.specs.Units.{and_then}
+use Rattle.project_units.specs.Plans.{Plan, inits_fit}
 use Rattle.apt_host.specs.Words.{Options}
 
 -- ---- the bytes

@@ -4,8 +4,8 @@ use Rattle.apt_outside.specs.declared.fault.Fault.{Fault}
 use Rattle.apt_outside.specs.declared.fault.Fault.TheVariants as outside
 use Rattle.tree_store.specs.declared.fault.StoreFault.{StoreFault}
 use Rattle.tree_store.specs.declared.fault.StoreFault.TheVariants as store
-use Rattle.round_engine.specs.Refusals as refusal
-use Rattle.round_engine.specs.Refusals.{Object, Sink}
+use Rattle.project_units.specs.Refusals as refusal
+use Rattle.project_units.specs.Refusals.{Object, Sink}
 use Rattle.apt_host.specs.declared.build.Ending.{Ending}
 use Rattle.apt_host.specs.declared.build.Ending.TheVariants as endings
 use Rattle.apt_host.specs.declared.status.Status.{Status}

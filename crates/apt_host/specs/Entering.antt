@@ -15,11 +15,11 @@ use Rattle.tree_store.specs.Config.{AreLists, IsShort}
 use Rattle.project_config.specs.declared.fault.ConfigFault.{ConfigFault}
 use Rattle.project_config.specs.declared.fault.ConfigFault.TheVariants as wrong
 use Rattle.project_config.specs.Reading.{has_order}
-use Rattle.round_engine.specs.declared.unit_fault.UnitFault.{UnitFault}
-use Rattle.round_engine.specs.declared.unit_fault.UnitFault.TheVariants as unit
-use Rattle.round_engine.specs.Limits.{limit_of}
-use Rattle.round_engine.specs.Refusals as stop
-use Rattle.round_engine.specs.Refusals.{DuplicateType, Tree, past}
+use Rattle.project_units.specs.declared.unit_fault.UnitFault.{UnitFault}
+use Rattle.project_units.specs.declared.unit_fault.UnitFault.TheVariants as unit
+use Rattle.project_units.specs.Limits.{limit_of}
+use Rattle.project_units.specs.Refusals as stop
+use Rattle.project_units.specs.Refusals.{DuplicateType, Tree, past}
 use Rattle.apt_host.specs.declared.configuration.RawConfiguration.{RawConfiguration}
 use Rattle.apt_host.specs.declared.sources.ReadSource.{ReadSource}
 use Rattle.apt_host.specs.declared.sources.EnteredSource.{EnteredSource}

@@ -14,10 +14,10 @@ use Rattle.element_table.specs.TypeTable.{TypeTable, empty_table}
 use Rattle.tree_store.specs.declared.sources.RawSource.{RawSource}
 use Rattle.tree_store.specs.declared.sources.RawSources.{RawSources}
 use Rattle.tree_store.specs.Sources.{sources_of, IsBefore}
-use Rattle.round_engine.specs.declared.project.Project.{Project}
-use Rattle.round_engine.specs.Refusals.{Refusal, BadStub, BadSource, DuplicateType, past}
-use Rattle.round_engine.specs.Run.{Plan}
-use Rattle.round_engine.specs.Units.{Obstacle, Duplicate, Full, Entered, enter_units, and_then}
+use Rattle.project_units.specs.declared.project.Project.{Project}
+use Rattle.project_units.specs.Refusals.{Refusal, BadStub, BadSource, DuplicateType, past}
+use Rattle.project_units.specs.Plans.{Plan}
+use Rattle.project_units.specs.Units.{Obstacle, Duplicate, Full, Entered, enter_units, and_then}
 use Rattle.apt_host.specs.declared.sources.ReadSource.{ReadSource}
 use Rattle.apt_host.specs.declared.sources.ReadSources.{ReadSources}
 use Rattle.apt_host.specs.declared.sources.EnteredSource.{EnteredSource}

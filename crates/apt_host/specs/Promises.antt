@@ -8,10 +8,10 @@ use Rattle.tree_store.specs.declared.record.StoredFile.{StoredFile}
 use Rattle.tree_store.specs.RecordFormat.{record_form}
 use Rattle.tree_store.specs.Output.{store_path, output_of, record_path, StoresStand}
 use Rattle.tree_store.specs.Storing.{Numbered, AreTaken, AddsToStore, ChangesAmong, Holds}
-use Rattle.round_engine.specs.Limits.{limit_of}
+use Rattle.project_units.specs.Limits.{limit_of}
 use Rattle.round_engine.specs.Numbering.{AreLeast}
-use Rattle.round_engine.specs.Refusals as stop
-use Rattle.round_engine.specs.Refusals.{Refusal, BadWords, Object, Tree, Sink, Children}
+use Rattle.project_units.specs.Refusals as stop
+use Rattle.project_units.specs.Refusals.{Refusal, BadWords, Object, Tree, Sink, Children}
 use Rattle.round_engine.specs.Run.{run_of, frames_of}
 use Rattle.round_engine.specs.Shown.{TriesInOrder, TellsMore, ShowsNoMore, IsDueStop}
 use Rattle.round_engine.specs.Clean.{Talked, ShowsWhole}

@@ -1,8 +1,8 @@
 -- What the code has of the words of a call, and of a project.
 use Rattle.std.specs.Prelude.{List, String, map, string_bytes}
 use Rattle.std.specs.declared.alloc.Global.{Global}
-use Rattle.round_engine.specs.declared.project.Project.{Project}
-use Rattle.round_engine.specs.Clean.{plan_of}
+use Rattle.project_units.specs.declared.project.Project.{Project}
+use Rattle.project_units.specs.Plans.{plan_of}
 use Rattle.apt_host.specs.declared.words.Request as words
 use Rattle.apt_host.specs.declared.words.Request.TheVariants as code
 use Rattle.apt_host.specs.Words.{Request, Build, Bad, request_of}

@@ -2,7 +2,8 @@
 ghost use Rattle.std.specs.Prelude.{◌≡◌, ◌≢◌, ◌<◌, ◌≤◌, ◌^◌, All, IfOk, IfErr, length, map, true};
 ghost use Rattle.std.specs.List.Sorted.{IsStrictlyIncreasing};
 ghost use Rattle.apt_outside.specs.Count.{Told};
-ghost use Rattle.round_engine.specs.Clean.{names_in, AreNumbered};
+ghost use Rattle.project_units.specs.Plans.{names_in};
+ghost use Rattle.round_engine.specs.Clean.{AreNumbered};
 ghost use Rattle.tree_store.specs.Output.{StoresStand, SameOutside};
 ghost use Rattle.apt_base.specs.Fields.{is_text};
 ghost use Rattle.tree_store.specs.Storing.{AreDistinct, AreAbsent};
@@ -19,7 +20,8 @@ use crate::publish::{publish, spell, tell_errors};
 use crate::report::Summary;
 use apt_base::{List, Name, NoMemory};
 use apt_outside::{Children, Sink, Tree};
-use round_engine::{Finished, Key, Project, clean};
+use project_units::{Key, Project};
+use round_engine::{Finished, clean};
 use std::alloc::Global;
 use tree_store::taken_numbers;
 

@@ -2,7 +2,7 @@
 ghost use Rattle.std.specs.Prelude.{◌≡◌, ◌≤◌, map, string_bytes};
 ghost use Rattle.apt_outside.specs.Count.{Told};
 ghost use Rattle.tree_store.specs.Output.{StoresStand, SameOutside};
-ghost use Rattle.round_engine.specs.Refusals.{BadWords};
+ghost use Rattle.project_units.specs.Refusals.{BadWords};
 ghost use Rattle.apt_host.specs.Words.{cut_at};
 ghost use Rattle.apt_host.specs.Verdicts.{verdict, Refused, OrMemory, is_tree, is_sink, is_children, HasCause, is_finished};
 ghost use Rattle.apt_host.specs.Endings.{closed};

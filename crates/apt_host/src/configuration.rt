@@ -3,8 +3,8 @@ ghost use Rattle.std.specs.Prelude.{◌≡◌, ◌≤◌, [], length, map, IfOk,
 ghost use Rattle.apt_outside.specs.Count.{Told};
 ghost use Rattle.tree_store.specs.Config.{path_of};
 ghost use Rattle.project_config.specs.Settled.{IsSettled};
-ghost use Rattle.round_engine.specs.Refusals.{BadConfig, past};
-ghost use Rattle.round_engine.specs.Clean.{plan_of};
+ghost use Rattle.project_units.specs.Refusals.{BadConfig, past};
+ghost use Rattle.project_units.specs.Plans.{plan_of};
 ghost use Rattle.apt_host.specs.Configuration.{files_of, said, settings_in, plan_in, fitting, plan_by, key_processor, key_in, IsKeyOf};
 ghost use Rattle.apt_host.specs.Verdicts.{verdict, shown_place, named_in, Refused, OrMemory, is_tree, HasCause};
 ghost use Rattle.apt_host.specs.Endings.{ended, EndsEarly};
@@ -15,7 +15,7 @@ use crate::status::Place;
 use apt_base::{List, Name, NoMemory, What};
 use apt_outside::Tree;
 use project_config::{ConfigFault, Processor, Settings, has_order, read_settings};
-use round_engine::{Key, KeyProcessor, inits_fit, limit_of};
+use project_units::{Key, KeyProcessor, inits_fit, limit_of};
 use std::alloc::Global;
 use tree_store::{ConfigFile, ConfigReadFault, RawLists, read_config, read_lists};
 

@@ -13,7 +13,7 @@ use crate::configuration::{key_of, read_files};
 use crate::sources::{Tables, named_files, tables_of};
 use apt_base::{List, Name, NoMemory};
 use apt_outside::Tree;
-use round_engine::{Key, Project, limit_of};
+use project_units::{Key, Project, limit_of};
 use std::alloc::Global;
 use tree_store::{RawSources, SourceReadFault, read_sources};
 

@@ -2,7 +2,7 @@
 ghost use Rattle.std.specs.Prelude.{◌≡◌, ◌++◌, [], IfOk, OnOk, string_bytes, map, slice_index_or};
 ghost use Rattle.std.specs.List.{flat_map};
 ghost use Rattle.apt_host.specs.Report.{kind_text, escaped, message_text, message_line, message_lines, unread_line, first_lines, file_line, file_lines, errors_report};
-ghost use Rattle.round_engine.specs.Refusals.{BadConfig, BadStub, BadSource, DuplicateType, BadGenerated, ClaimBroken};
+ghost use Rattle.project_units.specs.Refusals.{BadConfig, BadStub, BadSource, DuplicateType, BadGenerated, ClaimBroken};
 ghost use Rattle.apt_host.specs.Verdicts.{IsLineOf, verdict, shown_place, what_text, claim_text, place_text, line_of, refusal_of};
 ghost use Rattle.apt_host.specs.Listed.{listed, summary_of, report_for};
 

@@ -12,7 +12,7 @@ use decl_parser::ParseFault;
 use decl_tree::Unit;
 use element_table::{Part, Table};
 use file_readings::read_declarations;
-use round_engine::{UnitFault, enter_units, limit_of};
+use project_units::{UnitFault, enter_units, limit_of};
 use std::alloc::Global;
 use tree_store::{RawSource, RawSources};
 

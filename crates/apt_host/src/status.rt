@@ -1,6 +1,6 @@
 // How a call of `run` ends.
 ghost use Rattle.std.specs.Prelude.{◌≡◌, IfOk};
-ghost use Rattle.round_engine.specs.Faults.{stop_of};
+ghost use Rattle.project_units.specs.Faults.{stop_of};
 ghost use Rattle.apt_host.specs.declared.status.Status.TheVariants as code;
 ghost use Rattle.apt_host.specs.Verdicts.{verdict, stopped, code_of};
 ghost use Rattle.apt_host.specs.Endings.{of_store};
@@ -142,17 +142,17 @@ pub enum Status {
     Memory,
 }
 
-impl From<round_engine::Refusal> for Status {
+impl From<project_units::Refusal> for Status {
     ghost from_gives = { λ refusal e. verdict e ≡ stopped (stop_of refusal) };
 
-    fn from(refusal: round_engine::Refusal) -> Status {
+    fn from(refusal: project_units::Refusal) -> Status {
         match refusal {
-            round_engine::Refusal::ChildFault { processor } => Status::ChildFault { processor },
-            round_engine::Refusal::UnbuiltTalk { processor } => Status::UnbuiltTalk { processor },
-            round_engine::Refusal::TooManyQuestions { processor, limit } => {
+            project_units::Refusal::ChildFault { processor } => Status::ChildFault { processor },
+            project_units::Refusal::UnbuiltTalk { processor } => Status::UnbuiltTalk { processor },
+            project_units::Refusal::TooManyQuestions { processor, limit } => {
                 Status::TooManyQuestions { processor, limit }
             }
-            round_engine::Refusal::ClaimBroken {
+            project_units::Refusal::ClaimBroken {
                 processor,
                 declared,
                 said,
@@ -161,15 +161,15 @@ impl From<round_engine::Refusal> for Status {
                 declared,
                 said,
             },
-            round_engine::Refusal::BadGenerated { path, place } => {
+            project_units::Refusal::BadGenerated { path, place } => {
                 Status::BadGenerated { path, place }
             }
-            round_engine::Refusal::GeneratedDuplicate { name } => {
+            project_units::Refusal::GeneratedDuplicate { name } => {
                 Status::GeneratedDuplicate { name }
             }
-            round_engine::Refusal::TooManyRounds => Status::TooManyRounds,
-            round_engine::Refusal::TooLarge { what, limit } => Status::TooLarge { what, limit },
-            round_engine::Refusal::Memory => Status::Memory,
+            project_units::Refusal::TooManyRounds => Status::TooManyRounds,
+            project_units::Refusal::TooLarge { what, limit } => Status::TooLarge { what, limit },
+            project_units::Refusal::Memory => Status::Memory,
         }
     }
 }

@@ -27,7 +27,7 @@ use apt_filer::Filer;
 use apt_outside::{MemorySink, MemorySource, MemoryTree, Script, ScriptChildren};
 use base::List;
 use case_lines::{Calls, CaseFault, run};
-use round_engine::{Files, Project};
+use project_units::{Files, Project};
 use std::alloc::Global;
 use std::process::ExitCode;
 

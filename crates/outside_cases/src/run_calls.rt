@@ -8,9 +8,8 @@ use case_lines::{CaseFault, escaped, hex_bytes, joined, name, text, text_bytes, 
 use decl_parser::ParseFault;
 use element_table::{Part, Table};
 use file_readings::read_declarations;
-use round_engine::{
-    Finished, Key, KeyProcessor, Placed, Project, Refusal, UnitFault, clean, enter_units,
-};
+use project_units::{Key, KeyProcessor, Project, Refusal, UnitFault, enter_units};
+use round_engine::{Finished, Placed, clean};
 use std::alloc::Global;
 use std::mem;
 

@@ -14,7 +14,7 @@ use Rattle.child_session.specs.Round.{act_of}
 use Rattle.round_engine.specs.declared.progress.Progress as code_progress
 use Rattle.round_engine.specs.declared.beginning.Discovered as code_discovered
 use Rattle.round_engine.specs.declared.rounds.Round.{Round}
-use Rattle.round_engine.specs.Refusals.{Stop, Refusal, UnbuiltTalk, TooManyQuestions, ClaimBroken, OrMemory}
+use Rattle.project_units.specs.Refusals.{Stop, Refusal, UnbuiltTalk, TooManyQuestions, ClaimBroken, OrMemory}
 use Rattle.round_engine.specs.Faults.{of_session}
 use Rattle.round_engine.specs.Run.{Frames, Course, Discovered, Progress, claim_at, sent_at, showing, act, place, with_act, after_act, show}
 use Rattle.round_engine.specs.Shown.{all_sent, EachOf, IsOf, Serves, Stands, shown_discovered, standing, StopsAs}

@@ -8,11 +8,12 @@ use Rattle.child_session.specs.declared.round.Answer.{Answer}
 use Rattle.child_session.specs.Round as session
 use Rattle.round_engine.specs.declared.beginning.Discovered as code_discovered
 use Rattle.round_engine.specs.declared.progress.Progress as code_progress
-use Rattle.round_engine.specs.declared.refusal.Refusal as declared
+use Rattle.project_units.specs.declared.refusal.Refusal as declared
 use Rattle.round_engine.specs.declared.rounds.Round.{Round}
-use Rattle.round_engine.specs.Refusals as stop
-use Rattle.round_engine.specs.Refusals.{Stop, Names, NamesAmong, OrMemory, named_by}
-use Rattle.round_engine.specs.Faults.{stop_of, of_session}
+use Rattle.project_units.specs.Refusals as stop
+use Rattle.project_units.specs.Refusals.{Stop, Names, NamesAmong, OrMemory, named_by}
+use Rattle.project_units.specs.Faults.{stop_of}
+use Rattle.round_engine.specs.Faults.{of_session}
 use Rattle.round_engine.specs.Run.{Frames, Course, Discovered, Progress, Finished, claim_at, showing, place, show, round_of, rounds_from}
 use Rattle.round_engine.specs.Shown.{EachOf, IsOf, Serves, Stands, AttendsAll, Goes, StopsAs, FrontsButOne, sent_by, sent_in_step, sent_in_progress, sent_in_finished, all_sent, standing, shown_discovered}
 use Rattle.round_engine.proofs.ChildrenOfARun.{outside-get, each-weaker}

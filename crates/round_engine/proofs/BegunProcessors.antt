@@ -10,10 +10,11 @@ use Rattle.child_session.specs.declared.fault.SessionFault.TheVariants as fault
 use Rattle.child_session.specs.Talk.{answer_to}
 use Rattle.child_session.specs.Beginning as session
 use Rattle.child_session.specs.Beginning.{hello_in, first_hello, IsBegun, HasBegun, IsUnheard}
-use Rattle.round_engine.specs.Refusals as stop
-use Rattle.round_engine.specs.Refusals.{Stop, UnbuiltTalk}
+use Rattle.project_units.specs.Refusals as stop
+use Rattle.project_units.specs.Refusals.{Stop, UnbuiltTalk}
 use Rattle.round_engine.specs.Faults.{of_session}
-use Rattle.round_engine.specs.Run.{Plan, init_frame, first_sent, supported_in, supported_by}
+use Rattle.project_units.specs.Plans.{Plan, init_frame}
+use Rattle.round_engine.specs.Run.{first_sent, supported_in, supported_by}
 use Rattle.round_engine.specs.Shown.{IsSame, SaysHello, SaysNone, StopsOne}
 use Rattle.round_engine.proofs.StoppedChildren.{same_one}
 

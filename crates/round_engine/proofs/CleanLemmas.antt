@@ -3,10 +3,7 @@ use Rattle.std.proofs.Common.{◌≡◌, ℕ, ◌+◌, ◌<◌, Bool, true, fals
 use Rattle.std.specs.Prelude.{replicate}
 use Rattle.std.proofs.Math.Seq.{take-length}
 use Rattle.std.proofs.lemmas.Bool.{false≢true}
-use Rattle.std.proofs.lemmas.List.{length-map, nil_from_length}
-use Rattle.std.specs.FinMap as fin
-use Rattle.std.specs.Ordering.{nat_cmp}
-use Rattle.std.specs.Cmp.Lexicographic.{slice_cmp}
+use Rattle.std.proofs.lemmas.List.{length-map}
 use Rattle.apt_outside.specs.Count.{Told}
 use Rattle.apt_outside.specs.Child.{Says, Try, State}
 use Rattle.apt_filer.specs.Filing.{Filings}
@@ -15,18 +12,20 @@ use Rattle.element_table.specs.TypeTable.{TypeTable}
 use Rattle.round_engine.specs.declared.beginning.Discovered as code_discovered
 use Rattle.round_engine.specs.declared.messages.Placed.{Placed}
 use Rattle.round_engine.specs.declared.progress.Progress as code_progress
-use Rattle.round_engine.specs.declared.project.Key.{Key}
-use Rattle.round_engine.specs.declared.project.KeyProcessor.{KeyProcessor}
-use Rattle.round_engine.specs.declared.refusal.Refusal as code
+use Rattle.project_units.specs.declared.project.Key.{Key}
+use Rattle.project_units.specs.declared.project.KeyProcessor.{KeyProcessor}
+use Rattle.project_units.specs.declared.refusal.Refusal as code
 use Rattle.round_engine.specs.declared.rounds.Rounds.{Rounds}
 use Rattle.round_engine.specs.declared.running.Finished as declared
-use Rattle.round_engine.specs.Refusals as stop
-use Rattle.round_engine.specs.Refusals.{Refusal, Stop, is_refusal}
-use Rattle.round_engine.specs.Faults.{stop_of}
-use Rattle.round_engine.specs.Names.{NameSet}
-use Rattle.round_engine.specs.Units.{all_of}
-use Rattle.round_engine.specs.Run.{Plan, Frames, Progress, Run, first_sent, hellos_from, discovered, start, new_filings, next_of, rounds_before_last, rounds_from, asks_from, run_of, frames_of, unread_among, ◌>>=◌}
-use Rattle.round_engine.specs.Clean.{try_of, tries_in, name_of, names_in, plan_of, Has, Closes, ShowsWhole, Cleans, Talked}
+use Rattle.project_units.specs.Refusals as stop
+use Rattle.project_units.specs.Refusals.{Refusal, Stop, is_refusal}
+use Rattle.project_units.specs.Faults.{stop_of}
+use Rattle.project_units.proofs.CreationLemmas.{unread_none}
+use Rattle.project_units.specs.Units.{all_of}
+use Rattle.project_units.specs.Plans.{Plan, try_of, tries_in, name_of, names_in, plan_of}
+use Rattle.round_engine.specs.Run.{Frames, Progress, Run, first_sent, hellos_from, discovered, start, new_filings, next_of, rounds_before_last, rounds_from, asks_from, run_of, frames_of, ◌>>=◌}
+use Rattle.project_units.specs.Creations.{unread_among}
+use Rattle.round_engine.specs.Clean.{Has, Closes, ShowsWhole, Cleans, Talked}
 use Rattle.round_engine.specs.Shown.{frames_to, all_sent, AreSent, Stands, standing, shown_discovered, shown_rounds, AttendsAll, StopsAs, FrontsButOne, hellos_sent, ShowsNoMore, sent_in_finished, Goes, EndsAll, TellsOf, TellsMore, StopsAll, AllSayHello, Begins}
 use Rattle.round_engine.proofs.FrontsOfFrames.{but_one_more}
 use Rattle.round_engine.proofs.FrontsOfHellos.{sent_to_each, sent_are, each_same, tells_no_more, shows_nothing, frames_by, run_fronts}
@@ -50,13 +49,6 @@ talked_told talks [] P some p = absurd (omega (arith, some))
 talked_told talks (processor ∷ others) P some p = p
 
 -- ---- no processor
-
-abbrev no_names : NameSet
-no_names = fin.empty
-
--- where nothing was made, nothing is unread
-unread_none : unread_among [] ≡ []
-unread_none = ap (map (λ (e : List ℕ × Unit {0}). e.0)) (nil_from_length (fin.entries no_names) (sym (fin.len-entries no_names) ∙ fin.len-empty (slice_cmp nat_cmp) (Unit {0})))
 
 run_empty : (says : Says) (level : ℕ) (options : List (List ℕ × List ℕ)) (table : TypeTable)
     → run_of says (record { level = level; options = options; processors = [] }) table ≡ ended_by [] 2 [] [] (unread_among [])

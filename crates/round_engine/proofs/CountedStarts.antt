@@ -7,10 +7,10 @@ use Rattle.child_session.specs.declared.fault.SessionFault.{SessionFault}
 use Rattle.child_session.specs.declared.fault.SessionFault.TheVariants as fault
 use Rattle.child_session.specs.Beginning as session
 use Rattle.child_session.specs.Beginning.{RefusesHello}
-use Rattle.round_engine.specs.Refusals as stop
-use Rattle.round_engine.specs.Refusals.{Stop, UnbuiltTalk, OrMemory, is_refusal, is_of_hello}
+use Rattle.project_units.specs.Refusals as stop
+use Rattle.project_units.specs.Refusals.{Stop, UnbuiltTalk, OrMemory, is_refusal, is_of_hello}
 use Rattle.round_engine.specs.Faults.{of_session}
-use Rattle.round_engine.specs.Run.{Plan}
+use Rattle.project_units.specs.Plans.{Plan}
 use Rattle.round_engine.specs.Shown.{StartsUpTo, IsDueStop, StopsOne, IsCounted, StopsCounted}
 
 -- ---- which refusals these are

@@ -5,8 +5,8 @@ use Rattle.child_session.specs.declared.fault.SessionFault.TheVariants as fault
 use Rattle.child_session.specs.declared.round.Answer.{Answer}
 use Rattle.child_session.specs.declared.round.Showing.{Showing}
 use Rattle.child_session.specs.Round.{IsDue}
-use Rattle.round_engine.specs.Refusals as stop
-use Rattle.round_engine.specs.Refusals.{Stop, OrMemory, named_by}
+use Rattle.project_units.specs.Refusals as stop
+use Rattle.project_units.specs.Refusals.{Stop, OrMemory, named_by}
 use Rattle.round_engine.specs.Faults.{of_session}
 use Rattle.round_engine.specs.Run.{limit}
 use Rattle.round_engine.specs.Shown.{IsDueStop}

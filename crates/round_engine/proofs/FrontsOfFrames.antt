@@ -13,9 +13,10 @@ use Rattle.child_session.specs.declared.round.Showing.{Showing}
 use Rattle.child_session.specs.Talk.{Stream, answer_to}
 use Rattle.child_session.specs.Round.{Act, Answered, Broken, Overasked, Differed, turn_at, after_turn, round_from, act_of, reply_frame, filed_after, printed_after}
 use Rattle.round_engine.specs.declared.rounds.Round.{Round}
-use Rattle.round_engine.specs.Refusals.{Refusal}
-use Rattle.round_engine.specs.Units.{Entered, enter_all}
-use Rattle.round_engine.specs.Run.{Frames, Course, Discovered, Progress, Run, claim_at, sent_at, processor_at, showing, act, after_act, show, ask, offered_names, next_asked, ask_next, asks_from, round_of, has_error, printed_since, new_since, creates_source, sources_among, last_of, next_of, finished, last_round, entering, after_round, rounds_from, ◌>>=◌}
+use Rattle.project_units.specs.Refusals.{Refusal}
+use Rattle.project_units.specs.Units.{Entered, enter_all}
+use Rattle.round_engine.specs.Run.{Frames, Course, Discovered, Progress, Run, claim_at, sent_at, processor_at, showing, act, after_act, show, ask, offered_names, next_asked, ask_next, asks_from, round_of, has_error, printed_since, new_since, last_of, next_of, finished, last_round, entering, after_round, rounds_from, ◌>>=◌}
+use Rattle.project_units.specs.Creations.{creates_source, sources_among}
 use Rattle.round_engine.specs.Shown.{IsFront, AreFronts, FrontsButOne, sent_by, sent_in_step, sent_in_progress, sent_in_finished}
 
 -- ---- fronts

@@ -4,8 +4,9 @@ use Rattle.std.proofs.lemmas.List.{map-append}
 use Rattle.apt_outside.specs.Child.{Says, Try, Child, Known, State, AllKept}
 use Rattle.processor_claims.specs.declared.supported.Supported.{Supported}
 use Rattle.element_table.specs.TypeTable.{TypeTable}
-use Rattle.round_engine.specs.Units.{all_of}
-use Rattle.round_engine.specs.Run.{Plan, Frames, Course, Run, first_sent, hello_of, greeting, hellos_from, discovered, start, next_of, rounds_before_last, rounds_from, run_of, frames_of, ◌>>=◌}
+use Rattle.project_units.specs.Units.{all_of}
+use Rattle.project_units.specs.Plans.{Plan}
+use Rattle.round_engine.specs.Run.{Frames, Course, Run, first_sent, hello_of, greeting, hellos_from, discovered, start, next_of, rounds_before_last, rounds_from, run_of, frames_of, ◌>>=◌}
 use Rattle.round_engine.specs.Shown.{frames_to, all_sent, EachOf, IsOf, IsSent, AreSent, IsSame, AllSame, IsFront, AreFronts, FrontsButOne, sent_by, sent_in_finished, sent_at_hello, hellos_sent, ShowsNoMore, TellsMore}
 use Rattle.round_engine.proofs.ChildrenOfARun.{frames_in}
 use Rattle.round_engine.proofs.FrontsOfFrames.{front_same, fronts_same, fronts_trans, but_none, rounds_fronts, then_fronts}

@@ -1,10 +1,5 @@
-pub mod NameSets
 pub mod NumberingLemmas
-pub mod EnteringLemmas
-pub mod AnnotationLemmas
 pub mod PlacedMessages
-pub mod Creations
-mod LentFiles
 pub mod AskedInTurn
 pub mod ChildrenOfARun
 pub mod FrontsOfFrames
@@ -22,4 +17,3 @@ pub mod AskedProcessors
 pub mod TurnsOfARound
 pub mod RoundsInTurn
 pub mod CleanLemmas
-pub mod FirstFrames

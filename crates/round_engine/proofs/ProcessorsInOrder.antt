@@ -7,14 +7,13 @@ use Rattle.std.proofs.lemmas.List.Elements.{Contains-get_or}
 use Rattle.apt_outside.specs.Child.{Says, Try, Child, State, Attends}
 use Rattle.processor_claims.specs.declared.supported.Supported.{Supported}
 use Rattle.child_session.specs.Beginning as session
-use Rattle.round_engine.specs.declared.project.Key.{Key}
-use Rattle.round_engine.specs.declared.project.KeyProcessor.{KeyProcessor}
-use Rattle.round_engine.specs.declared.refusal.Refusal as declared
-use Rattle.round_engine.specs.Refusals as stop
-use Rattle.round_engine.specs.Refusals.{Stop, Names, NamesAmong, named_by, is_refusal}
-use Rattle.round_engine.specs.Faults.{stop_of}
-use Rattle.round_engine.specs.Run.{Plan, init_frame}
-use Rattle.round_engine.specs.Clean.{try_of, tries_in, name_of, names_in}
+use Rattle.project_units.specs.declared.project.Key.{Key}
+use Rattle.project_units.specs.declared.project.KeyProcessor.{KeyProcessor}
+use Rattle.project_units.specs.declared.refusal.Refusal as declared
+use Rattle.project_units.specs.Refusals as stop
+use Rattle.project_units.specs.Refusals.{Stop, Names, NamesAmong, named_by, is_refusal}
+use Rattle.project_units.specs.Faults.{stop_of}
+use Rattle.project_units.specs.Plans.{Plan, init_frame, try_of, tries_in, name_of, names_in}
 use Rattle.round_engine.specs.Shown.{IsOf, TriesInOrder, SaysHello, SaysNone, StopsOne, BeginsOne, BeginsEach}
 use Rattle.round_engine.proofs.StartedChildren.{Begun, begun_one, begun_stops, begun_told, begun_untold, begun_refuses}
 

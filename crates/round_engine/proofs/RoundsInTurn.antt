@@ -8,16 +8,17 @@ use Rattle.element_table.specs.TypeTable.{TypeTable}
 use Rattle.round_engine.specs.declared.beginning.Discovered as code_discovered
 use Rattle.round_engine.specs.declared.messages.Placed.{Placed}
 use Rattle.round_engine.specs.declared.progress.Progress as code_progress
-use Rattle.round_engine.specs.declared.refusal.Refusal as declared
-use Rattle.round_engine.specs.declared.refusal.Refusal.TheVariants as code
+use Rattle.project_units.specs.declared.refusal.Refusal as declared
+use Rattle.project_units.specs.declared.refusal.Refusal.TheVariants as code
 use Rattle.round_engine.specs.declared.rounds.Round.{Round}
 use Rattle.round_engine.specs.declared.rounds.Rounds.{Rounds}
-use Rattle.round_engine.specs.Refusals as stop
-use Rattle.round_engine.specs.Refusals.{Refusal, Stop}
-use Rattle.round_engine.specs.Faults.{stop_of}
-use Rattle.round_engine.specs.Entering.{RefusesAs}
-use Rattle.round_engine.specs.Units.{Entered, enter_all, all_of}
-use Rattle.round_engine.specs.Run.{Discovered, Progress, Run, Finished, round_of, has_error, creates_source, sources_among, unread_among, last_of, next_of, last_round, rounds_before_last, rounds_from}
+use Rattle.project_units.specs.Refusals as stop
+use Rattle.project_units.specs.Refusals.{Refusal, Stop}
+use Rattle.project_units.specs.Faults.{stop_of}
+use Rattle.project_units.specs.Entering.{RefusesAs}
+use Rattle.project_units.specs.Units.{Entered, enter_all, all_of}
+use Rattle.round_engine.specs.Run.{Discovered, Progress, Run, Finished, round_of, has_error, last_of, next_of, last_round, rounds_before_last, rounds_from}
+use Rattle.project_units.specs.Creations.{creates_source, sources_among, unread_among}
 use Rattle.round_engine.specs.Shown.{Stands, Goes, StopsAs, AreFronts, FrontsButOne, sent_by, sent_in_progress, sent_in_finished, all_sent, standing, shown_discovered, shown_rounds}
 use Rattle.round_engine.proofs.FrontsOfFrames.{but_none, but_exact, but_one_more, last_fronts, later_fronts, round_then}
 use Rattle.round_engine.proofs.AskedProcessors.{still_theirs, goes_memory}

@@ -4,9 +4,10 @@ use Rattle.std.specs.Prelude.{◌||◌, not}
 use Rattle.std.specs.FinMap as fin
 use Rattle.element_table.specs.TypeTable.{TypeTable}
 use Rattle.round_engine.specs.declared.rounds.Round.{Round}
-use Rattle.round_engine.specs.Refusals.{Refusal, TooManyRounds}
-use Rattle.round_engine.specs.Units.{Entered, enter_all}
-use Rattle.round_engine.specs.Run.{Stopped, Discovered, Progress, Run, round_of, new_since, printed_since, has_error, creates_source, sources_among, last_of, next_of, finished, last_round, entering, after_round, rounds_from, ◌>>=◌}
+use Rattle.project_units.specs.Refusals.{Refusal, TooManyRounds}
+use Rattle.project_units.specs.Units.{Entered, enter_all}
+use Rattle.round_engine.specs.Run.{Stopped, Discovered, Progress, Run, round_of, new_since, printed_since, has_error, last_of, next_of, finished, last_round, entering, after_round, rounds_from, ◌>>=◌}
+use Rattle.project_units.specs.Creations.{creates_source, sources_among}
 
 -- ---- the last round
 

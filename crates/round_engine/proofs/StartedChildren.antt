@@ -5,9 +5,10 @@ use Rattle.std.specs.List.{AllByRecursion}
 use Rattle.apt_outside.specs.Child.{Says, Try, Child, Known, State, OthersKept, AllKept}
 use Rattle.processor_claims.specs.declared.supported.Supported.{Supported}
 use Rattle.child_session.specs.Beginning as session
-use Rattle.round_engine.specs.Refusals as stop
-use Rattle.round_engine.specs.Refusals.{Stop, UnbuiltTalk}
-use Rattle.round_engine.specs.Run.{Plan, Frames, Course, init_frame, first_sent, hello_of, greeting, hellos_from, ◌>>=◌}
+use Rattle.project_units.specs.Refusals as stop
+use Rattle.project_units.specs.Refusals.{Stop, UnbuiltTalk}
+use Rattle.project_units.specs.Plans.{Plan, init_frame}
+use Rattle.round_engine.specs.Run.{Frames, Course, first_sent, hello_of, greeting, hellos_from, ◌>>=◌}
 use Rattle.std.proofs.lemmas.List.{map-append}
 use Rattle.round_engine.specs.Shown.{EachOf, IsOf, Serves, IsOutside, AreDifferent, IsSent, AreSent, TellsOf, all_sent, frames_to, AreFronts, FrontsButOne, sent_at_hello, hellos_sent, ShowsFronts, ShowsBehind, StopsAs, SaysHello, SaysNone, StopsOne, AllSayHello, OneSaysNone}
 use Rattle.round_engine.proofs.ChildrenOfARun.{all_sent-outside, each-weaker}

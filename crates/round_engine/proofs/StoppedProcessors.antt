@@ -1,8 +1,9 @@
 -- Processors of which one said no Hello, so that the children before it are stopped: what is told then.
 use Rattle.std.proofs.Common.{◌≡◌, ◌+◌, ℕ, suc, List, [], ◌∷◌, ◌++◌, length, map, take, Option, None, Some, IfSome, IsSomeAnd, refl, sym, ap, subst, ◌∙◌, append-nil, length-append, arith}
 use Rattle.apt_outside.specs.Child.{Try, Child, Known, State}
-use Rattle.round_engine.specs.Refusals.{Stop}
-use Rattle.round_engine.specs.Run.{Plan, Frames, first_sent}
+use Rattle.project_units.specs.Refusals.{Stop}
+use Rattle.project_units.specs.Plans.{Plan}
+use Rattle.round_engine.specs.Run.{Frames, first_sent}
 use Rattle.round_engine.specs.Shown.{IsOutside, IsSent, AreSent, IsSame, AllSame, EachOf, IsOf, all_sent, FrontsButOne, ShowsNoMore, ShowsBehind, TriesInOrder, StopsAll, OneSaysNone, StopsAtHello}
 use Rattle.round_engine.proofs.FrontsOfHellos.{sent_to_each, sent_are, each_same}
 

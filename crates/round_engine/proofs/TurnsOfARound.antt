@@ -6,11 +6,11 @@ use Rattle.processor_claims.specs.Asked.{asked}
 use Rattle.processor_claims.specs.Turns.{offered, waiting_count, IsComing, Asks, AsksNobody}
 use Rattle.round_engine.specs.declared.beginning.Discovered as code_discovered
 use Rattle.round_engine.specs.declared.progress.Progress as code_progress
-use Rattle.round_engine.specs.declared.refusal.Refusal as declared
+use Rattle.project_units.specs.declared.refusal.Refusal as declared
 use Rattle.round_engine.specs.declared.rounds.Round.{Round}
-use Rattle.round_engine.specs.Refusals as stop
-use Rattle.round_engine.specs.Refusals.{Stop}
-use Rattle.round_engine.specs.Faults.{stop_of}
+use Rattle.project_units.specs.Refusals as stop
+use Rattle.project_units.specs.Refusals.{Stop}
+use Rattle.project_units.specs.Faults.{stop_of}
 use Rattle.round_engine.specs.Run.{Frames, Discovered, Progress, present_in, offered_names, next_asked, show, ask, round_of}
 use Rattle.round_engine.specs.Shown.{Stands, Goes, StopsAs, AreFronts, FrontsButOne, sent_by, sent_in_step, sent_in_progress, all_sent, standing, shown_discovered}
 use Rattle.round_engine.proofs.AskedInTurn.{Ahead, Underway, ahead_begins, ahead_next, ahead_nobody, ahead_answered, way_begins, step_opened, way_goes, way_stops, way_ends}

@@ -1,8 +1,6 @@
 -- The clean run over a project, from nothing.
-use Rattle.std.specs.Prelude.{◌≡◌, ℕ, ◌==◌, ◌+◌, ◌<◌, ◌^◌, ◌||◌, nat_le, Bool, true, List, [], ◌∷◌, ◌++◌, length, take, map, filter, All, Result, Ok, Err, IfErr}
-use Rattle.std.specs.List.{list_all}
+use Rattle.std.specs.Prelude.{◌≡◌, ℕ, ◌==◌, ◌+◌, ◌<◌, ◌^◌, ◌||◌, Bool, true, List, [], ◌∷◌, ◌++◌, length, take, map, filter, All, Result, Ok, Err, IfErr}
 use Rattle.std.specs.FinMap as fin
-use Rattle.apt_base.specs.declared.kinds.What.TheVariants as what
 use Rattle.apt_outside.specs.Count.{Told}
 use Rattle.apt_outside.specs.declared.children.Children as children
 use Rattle.apt_outside.specs.Files.{Files}
@@ -10,48 +8,21 @@ use Rattle.apt_outside.specs.Child.{Try, State}
 use Rattle.wire_frames.specs.declared.frame.Creation.{Creation}
 use Rattle.wire_frames.specs.declared.frame.Message.{Message}
 use Rattle.round_engine.specs.declared.messages.Placed.{Placed}
-use Rattle.round_engine.specs.declared.project.Key.{Key}
-use Rattle.round_engine.specs.declared.project.KeyProcessor.{KeyProcessor}
-use Rattle.round_engine.specs.declared.project.Project.{Project}
+use Rattle.project_units.specs.declared.project.Key.{Key}
+use Rattle.project_units.specs.declared.project.Project.{Project}
 use Rattle.round_engine.specs.declared.rounds.Rounds.{Rounds}
 use Rattle.round_engine.specs.declared.numbering.Made.{Made}
 use Rattle.round_engine.specs.declared.running.Finished as declared
-use Rattle.round_engine.specs.declared.refusal.Refusal as code
-use Rattle.round_engine.specs.Refusals.{NamesAmong}
-use Rattle.round_engine.specs.Faults.{stop_of, is_due}
+use Rattle.project_units.specs.declared.refusal.Refusal as code
+use Rattle.project_units.specs.Refusals.{NamesAmong}
+use Rattle.project_units.specs.Faults.{stop_of, is_due}
 use Rattle.element_table.specs.TypeTable.{TypeTable}
 use Rattle.round_engine.specs.Numbering.{AreLeast}
 use Rattle.round_engine.specs.Numbered.{shown_made, number_of, HasText, IsWritten, Fits}
-use Rattle.round_engine.specs.Limits.{limit_of}
-use Rattle.round_engine.specs.Run.{Plan, Run, Finished, files_among, init_frame, run_of, frames_of}
+use Rattle.project_units.specs.Plans.{Plan}
+use Rattle.round_engine.specs.Run.{Run, Finished, run_of, frames_of}
+use Rattle.project_units.specs.Creations.{files_among}
 use Rattle.round_engine.specs.Shown.{ShowsAll, TellsMore, ShowsNoMore, TriesInOrder, StartsAll, StopsAs}
-
--- ---- the run of a key
-
--- a processor's name and command
-abbrev pub try_of : KeyProcessor → Try
-try_of processor = (processor.name, processor.command)
-
-abbrev pub tries_in : Key → List Try
-tries_in key = map try_of key.processors
-
-abbrev pub name_of : KeyProcessor → List ℕ
-name_of processor = processor.name
-
-abbrev pub names_in : Key → List (List ℕ)
-names_in key = map name_of key.processors
-
--- what the run of a project with this key is told
-abbrev pub plan_of : Key → Plan
-plan_of key = record { level = key.level; options = key.options; processors = tries_in key }
-
--- the first frame to the processor with this name is within the limit of a frame
-abbrev pub init_fits : Plan → List ℕ → Bool
-init_fits plan name = nat_le (length (init_frame plan name)) (limit_of what.Frame)
-
--- so is that to each processor
-abbrev pub inits_fit : Plan → Bool
-inits_fit plan = list_all (λ (processor : Try). init_fits plan processor.0) plan.processors
 
 -- ---- what is counted
 

@@ -1,12 +1,5 @@
-pub mod Held
-pub mod Limits
-pub mod Names
-pub mod Refusals
-pub mod Annotations
-pub mod Units
 pub mod Run
 pub mod Faults
-pub mod Entering
 pub mod Shown
 pub mod Numbering
 pub mod Numbered

@@ -8,12 +8,12 @@ use Rattle.element_table.specs.TypeTable.{TypeTable}
 use Rattle.round_engine.specs.declared.asking.Asked.{Asked}
 use Rattle.round_engine.specs.declared.beginning.Discovered.{Discovered}
 use Rattle.round_engine.specs.declared.progress.Progress.{Progress}
-use Rattle.round_engine.specs.declared.project.Key.{Key}
-use Rattle.round_engine.specs.declared.project.KeyProcessor.{KeyProcessor}
-use Rattle.round_engine.specs.declared.refusal.Refusal.{Refusal}
+use Rattle.project_units.specs.declared.project.Key.{Key}
+use Rattle.project_units.specs.declared.project.KeyProcessor.{KeyProcessor}
+use Rattle.project_units.specs.declared.refusal.Refusal.{Refusal}
 use Rattle.round_engine.specs.declared.rounds.Round.{Round}
 use Rattle.round_engine.specs.declared.rounds.Rounds.{Rounds}
-use Rattle.round_engine.specs.Clean.{plan_of, try_of}
+use Rattle.project_units.specs.Plans.{plan_of, try_of}
 use Rattle.round_engine.specs.Shown as shown
 
 -- a relation of what they were and what they are, where they tell what they hold

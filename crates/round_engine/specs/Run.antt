@@ -3,7 +3,6 @@
 use Rattle.std.specs.Prelude.{ℕ, zero, suc, ◌==◌, ◌+◌, ◌*◌, ◌||◌, not, Bool, true, false, List, [], ◌∷◌, ◌++◌, length, drop, map, replicate, slice_get, slice_set, slice_index_or, Option, None, Some, if◌then◌else◌, Result, Ok, Err}
 use Rattle.std.specs.List.{list_any, list_all}
 use Rattle.std.specs.FinMap as fin
-use Rattle.apt_outside.specs.Files.{Files}
 use Rattle.apt_outside.specs.Child.{Says, Try}
 use Rattle.apt_base.specs.Identifiers.{is_pattern}
 use Rattle.apt_base.specs.declared.kinds.Claim.{Claim}
@@ -12,10 +11,9 @@ use Rattle.wire_frames.specs.declared.frame.Frame.{Frame}
 use Rattle.wire_frames.specs.declared.frame.Hello.{Hello}
 use Rattle.wire_frames.specs.declared.frame.Frame.TheVariants as frame
 use Rattle.wire_frames.specs.declared.frame.Creation.{Creation}
-use Rattle.wire_frames.specs.declared.frame.Creation.TheVariants as creation
 use Rattle.wire_frames.specs.declared.frame.Message.{Message}
 use Rattle.wire_frames.specs.Frames.{spelling}
-use Rattle.apt_filer.specs.Filing.{Filings, path_of, content_of}
+use Rattle.apt_filer.specs.Filing.{Filings}
 use Rattle.processor_claims.specs.declared.supported.Supported.{Supported}
 use Rattle.processor_claims.specs.Asked.{asked}
 use Rattle.child_session.specs.declared.round.Showing.{Showing}
@@ -23,18 +21,13 @@ use Rattle.child_session.specs.Talk.{answer_to}
 use Rattle.child_session.specs.Round.{Act, Answered, Broken, Overasked, Differed, act_of}
 use Rattle.round_engine.specs.declared.messages.Placed.{Placed}
 use Rattle.round_engine.specs.declared.rounds.Round.{Round}
-use Rattle.round_engine.specs.Names.{NameSet, with_name, names_in}
-use Rattle.round_engine.specs.Refusals.{Refusal, UnbuiltTalk, TooManyQuestions, ClaimBroken, TooManyRounds}
+use Rattle.project_units.specs.Refusals.{Refusal, UnbuiltTalk, TooManyQuestions, ClaimBroken, TooManyRounds}
 use Rattle.element_table.specs.TypeTable.{TypeTable}
-use Rattle.round_engine.specs.Units.{present_names, Entered, enter_all, all_of, unit_names}
+use Rattle.project_units.specs.Units.{present_names, Entered, enter_all, all_of, unit_names}
+use Rattle.project_units.specs.Creations.{sources_among, creates_source, unread_among}
+use Rattle.project_units.specs.Plans.{Plan, init_frame}
 
--- ---- what a run is told, and how far it comes
-
--- the source level, the options, and the processors in the order of discovery, each by its name and its command
-pub record Plan : Type 0 where
-  pub level : ℕ
-  pub options : List (List ℕ × List ℕ)
-  pub processors : List Try
+-- ---- how far a run comes
 
 -- the frames that one child was sent
 abbrev pub Frames : Type 0
@@ -56,10 +49,6 @@ abbrev pub ◌>>=◌ : {A B : Type 0} → Course A → (A → Course B) → Cour
 (Err stopped) >>= f = Err stopped
 
 -- ---- Hello
-
--- the first frame of the host
-abbrev pub init_frame : Plan → List ℕ → List ℕ
-init_frame plan name = spelling (frame.Init (record { name = name; level = plan.level; options = plan.options }))
 
 abbrev pub first_sent : Plan → Try → Frames
 first_sent plan processor = init_frame plan processor.0 ∷ []
@@ -211,39 +200,6 @@ printed_since before after = drop (length before) after
 abbrev pub has_error : List Placed → Bool
 has_error messages = list_any (λ placed. placed.message.kind == 0) messages
 
--- files, or names, to which each creation adds what it adds
-abbrev pub gathered : {A : Type 0} → (A → Creation → A) → A → List Creation → A
-gathered add all [] = all
-gathered add all (creation ∷ others) = gathered add (add all creation) others
-
-abbrev pub with_source : Files → Creation → Files
-with_source files (creation.Source name content origins) = fin.insert files (path_of (creation.Source name content origins)) content
-with_source files (creation.Resource location folder relative content origins) = files
-with_source files (creation.Class name content origins) = files
-
--- the sources among files that were made, by their paths
-abbrev pub sources_among : List Creation → Files
-sources_among made = gathered with_source fin.empty made
-
-abbrev pub is_source : Creation → Bool
-is_source (creation.Source name content origins) = true
-is_source (creation.Resource location folder relative content origins) = false
-is_source (creation.Class name content origins) = false
-
--- a source is among files that were made
-abbrev pub creates_source : List Creation → Bool
-creates_source made = list_any is_source made
-
--- a source by its name alone
-abbrev pub with_unread : NameSet → Creation → NameSet
-with_unread names (creation.Source name content origins) = with_name names name
-with_unread names (creation.Resource location folder relative content origins) = names
-with_unread names (creation.Class name content origins) = names
-
--- the names of the sources among files that were made, ascending
-abbrev pub unread_among : List Creation → List (List ℕ)
-unread_among made = names_in (gathered with_unread fin.empty made)
-
 -- ---- the run
 
 -- a run that was not refused: the frames that each child was sent, how many rounds there were, the files, the messages in order of round, processor and
@@ -331,12 +287,3 @@ run_of says plan table = do
 abbrev pub frames_of : Run → List Frames
 frames_of (Ok finished) = finished.sent
 frames_of (Err stopped) = stopped.sent
-
--- ---- what is published
-
-abbrev pub with_file : Files → Creation → Files
-with_file files creation = fin.insert files (path_of creation) (content_of creation)
-
--- the files of a run, by their paths
-abbrev pub files_among : List Creation → Files
-files_among made = gathered with_file fin.empty made

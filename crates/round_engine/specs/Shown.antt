@@ -11,18 +11,19 @@ use Rattle.child_session.specs.Talk.{HasAnswered}
 use Rattle.child_session.specs.Round.{keeps}
 use Rattle.child_session.specs.Beginning as session
 use Rattle.child_session.specs.Beginning.{IsBegun, HasBegun, IsUnheard, Untried, Unstarted}
-use Rattle.round_engine.specs.declared.refusal.Refusal as declared
+use Rattle.project_units.specs.declared.refusal.Refusal as declared
 use Rattle.round_engine.specs.declared.progress.Progress as code_progress
 use Rattle.round_engine.specs.declared.beginning.Discovered as code_discovered
 use Rattle.round_engine.specs.declared.asking.Asked.{Asked}
 use Rattle.round_engine.specs.declared.rounds.Round.{Round}
 use Rattle.round_engine.specs.declared.rounds.Rounds.{Rounds}
-use Rattle.round_engine.specs.Refusals as stop
-use Rattle.round_engine.specs.Refusals.{Stop, is_refusal, is_failure, is_of_hello}
-use Rattle.round_engine.specs.Faults.{stop_of, is_due}
+use Rattle.project_units.specs.Refusals as stop
+use Rattle.project_units.specs.Refusals.{Stop, is_refusal, is_failure, is_of_hello}
+use Rattle.project_units.specs.Faults.{stop_of, is_due}
 use Rattle.element_table.specs.TypeTable.{TypeTable}
-use Rattle.round_engine.specs.Units.{all_of}
-use Rattle.round_engine.specs.Run.{Plan, Frames, Course, init_frame, first_sent, hello_of, hellos_from, Discovered, Progress, limit, show, round_of, Finished, last_round, rounds_from, rounds_before_last, next_of}
+use Rattle.project_units.specs.Units.{all_of}
+use Rattle.project_units.specs.Plans.{Plan, init_frame}
+use Rattle.round_engine.specs.Run.{Frames, Course, first_sent, hello_of, hellos_from, Discovered, Progress, limit, show, round_of, Finished, last_round, rounds_from, rounds_before_last, next_of}
 
 -- ---- the children of a run at a moment
 

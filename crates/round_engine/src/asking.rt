@@ -1,24 +1,23 @@
 // The processors that are asked in a round, one after another.
 ghost use Rattle.std.specs.Prelude.{◌≡◌, ◌<◌, ◌^◌, length, map, slice_index_or, slice_set, true, [], IfOk, IfErr};
 ghost use Rattle.std.specs.List.{AllByRecursion};
-ghost use Rattle.round_engine.specs.Refusals.{NamesAmong};
-ghost use Rattle.round_engine.specs.Faults.{stop_of, HasReason};
+ghost use Rattle.project_units.specs.Refusals.{NamesAmong};
+ghost use Rattle.project_units.specs.Faults.{stop_of, HasReason};
 ghost use Rattle.round_engine.specs.Run.{limit, round_frame, showing};
 ghost use Rattle.processor_claims.specs.Turns.{IsWithin, waiting_count};
 ghost use Rattle.round_engine.specs.Shown.{AreListed, HasEach, AllLive, AttendsAll, IsDueStop, IsTurnOf};
 ghost use Rattle.round_engine.specs.Moments.{Over, AsksOne, Asks};
 
 use crate::beginning::Discovered;
-use crate::frames::bytes_of;
 use crate::messages::place;
 use crate::progress::Progress;
-use crate::refusal::{Refusal, refusal_of};
 use crate::rounds::Round;
-use crate::units::present_names;
+use crate::session_fault::refusal_of;
 use apt_base::{Claim, List, Name, NoMemory, copy_names};
 use apt_outside::Children;
 use child_session::{Showing, show_round};
 use processor_claims::Turn;
+use project_units::{Refusal, bytes_of, present_names};
 use std::alloc::Global;
 use wire_frames::Frame;
 

@@ -2,20 +2,19 @@
 ghost use Rattle.std.specs.Prelude.{◌≡◌, ◌∷◌, ◌++◌, ◌≤◌, true, [], length, map, string_bytes, Contains, IfOk, IfErr, OnOk, OnErr};
 ghost use Rattle.apt_outside.specs.Count.{Told};
 ghost use Rattle.apt_outside.specs.Child.{Attends, without};
-ghost use Rattle.round_engine.specs.Refusals.{Names, NamesAmong, is_of_hello};
-ghost use Rattle.round_engine.specs.Faults.{stop_of, HasReason};
+ghost use Rattle.project_units.specs.Refusals.{Names, NamesAmong, is_of_hello};
+ghost use Rattle.project_units.specs.Faults.{stop_of, HasReason};
 ghost use Rattle.round_engine.specs.Run.{supported_in};
-ghost use Rattle.round_engine.specs.Clean.{name_of, tries_in, names_in};
+ghost use Rattle.project_units.specs.Plans.{name_of, tries_in, names_in};
 ghost use Rattle.round_engine.specs.Shown.{AreListed, StartsOne, StartsAll, CountsTries, TriesInOrder, JoinsOne, JoinsAll, AreFresh, LiveInTurn, StopsAll, without_each};
 ghost use Rattle.round_engine.specs.Moments.{Over, BeginsOne, BeginsEach, Begins};
 
-use crate::frames::init_bytes;
-use crate::project::{Key, KeyProcessor};
-use crate::refusal::{Refusal, refusal_by};
+use crate::session_fault::refusal_by;
 use apt_base::{List, Name, NoMemory};
 use apt_outside::Children;
 use child_session::begin;
 use processor_claims::{Pattern, Supported};
+use project_units::{Key, KeyProcessor, Refusal, init_bytes};
 use std::alloc::Global;
 use wire_frames::Hello;
 

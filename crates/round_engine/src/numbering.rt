@@ -6,8 +6,8 @@ ghost use Rattle.std.specs.List.Sorted.{IsStrictlyIncreasing};
 ghost use Rattle.round_engine.specs.Numbering.{AreLeast, AreAhead, IsNextFree, SameFrom};
 ghost use Rattle.round_engine.specs.Numbered.{shown_made, number_of, made_with, HasText, IsWritten, BothFit, AllFit};
 
-use crate::files::Files;
 use apt_base::{List, Name, NoMemory};
+use project_units::Files;
 use std::alloc::Global;
 
 /// A file that a run made: where it is published, and the number of its file in the store.

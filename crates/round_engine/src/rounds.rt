@@ -1,23 +1,22 @@
 // The rounds of a run.
 ghost use Rattle.std.specs.Prelude.{◌≡◌, ◌||◌, not, IfOk, IfErr, drop, true, false, []};
-ghost use Rattle.round_engine.specs.Refusals.{NamesAmong};
-ghost use Rattle.round_engine.specs.Faults.{stop_of, HasReason};
-ghost use Rattle.round_engine.specs.Units.{all_of};
-ghost use Rattle.round_engine.specs.Run.{creates_source, next_of};
+ghost use Rattle.project_units.specs.Refusals.{NamesAmong};
+ghost use Rattle.project_units.specs.Faults.{stop_of, HasReason};
+ghost use Rattle.project_units.specs.Units.{all_of};
+ghost use Rattle.project_units.specs.Creations.{creates_source};
+ghost use Rattle.round_engine.specs.Run.{next_of};
 ghost use Rattle.round_engine.specs.Shown.{AreListed, HasEach, AllLive, AttendsAll, IsDueStop};
 ghost use Rattle.round_engine.specs.Moments.{Over, EndsLast, EndsAll};
 
 use crate::asking::ask_all;
 use crate::beginning::Discovered;
-use crate::entering::enter_all;
 use crate::messages::{Placed, has_error};
 use crate::progress::Progress;
-use crate::refusal::Refusal;
-use crate::sources::{creates_source, unread_among};
 use apt_base::{List, Name, NoMemory};
 use apt_filer::Filer;
 use apt_outside::Children;
 use element_table::{Part, Table};
+use project_units::{Refusal, creates_source, enter_all, unread_among};
 use std::alloc::Global;
 use wire_frames::Creation;
 

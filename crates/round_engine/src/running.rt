@@ -2,7 +2,7 @@
 ghost use Rattle.std.specs.Prelude.{◌≡◌, ◌≤◌, [], length, IfOk, IfErr};
 ghost use Rattle.std.specs.List.Sorted.{IsStrictlyIncreasing};
 ghost use Rattle.apt_outside.specs.Count.{Told};
-ghost use Rattle.round_engine.specs.Faults.{HasReason, stop_of};
+ghost use Rattle.project_units.specs.Faults.{HasReason, stop_of};
 ghost use Rattle.round_engine.specs.Clean.{AreNumbered, Closes, Has, NamesProcessor, Starts, Tries, CleansOver};
 ghost use Rattle.round_engine.specs.Shown.{AreListed, CountsTries, IsDueStop};
 ghost use Rattle.round_engine.specs.Moments.{Over};
@@ -11,14 +11,11 @@ use crate::beginning::{Discovered, begin_all, end_all};
 use crate::messages::{Placed, copy_messages, count_errors, count_warnings};
 use crate::numbering::{Made, copy_files, number_files};
 use crate::progress::Progress;
-use crate::project::Project;
-use crate::refusal::Refusal;
 use crate::rounds::{Rounds, show_rounds};
-use crate::sources::files_among;
-use crate::units::unit_names;
 use apt_base::{List, Name, NoMemory, copy_names};
 use apt_filer::Filer;
 use apt_outside::Children;
+use project_units::{Project, Refusal, files_among, unit_names};
 use std::alloc::Global;
 
 /// What a run came to that was not refused.

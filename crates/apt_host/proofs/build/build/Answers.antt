@@ -4,7 +4,7 @@ use Rattle.std.proofs.lemmas.Result.{err_from_is_err_and}
 use Rattle.apt_outside.specs.Count.{Rose, Told}
 use Rattle.tree_store.specs.Storing.{AreTaken}
 use Rattle.tree_store.specs.Output.{StoresStand}
-use Rattle.round_engine.specs.Clean.{names_in}
+use Rattle.project_units.specs.Plans.{names_in}
 use Rattle.apt_host.specs.Words.{Build}
 use Rattle.apt_host.specs.Shown.{shown_project}
 use Rattle.apt_host.specs.Verdicts.{Done, Memory, verdict, named_in, is_free, is_finished, has_run, is_tree, is_sink, is_children, fails}

@@ -1,5 +1,5 @@
 use Rattle.std.proofs.Common.{◌≡◌, refl, sym, subst}
-use Rattle.round_engine.specs.Refusals.{BadWords}
+use Rattle.project_units.specs.Refusals.{BadWords}
 use Rattle.apt_host.specs.Words.{Build, Bad}
 use Rattle.apt_host.specs.Shown.{asked}
 use Rattle.apt_host.specs.Verdicts.{Refused}

@@ -1,6 +1,6 @@
 use Rattle.std.proofs.Common.{◌≡◌, true, false, [], Ok, sym, ap, ◌∙◌, subst}
 use Rattle.apt_base.specs.declared.kinds.What.TheVariants as what
-use Rattle.round_engine.specs.Clean.{inits_fit}
+use Rattle.project_units.specs.Plans.{inits_fit}
 use Rattle.apt_host.specs.Configuration.{plan_in, fitting}
 use Rattle.apt_host.specs.Verdicts.{verdict}
 use Rattle.apt_host.specs.Entering.{RefusesAs}

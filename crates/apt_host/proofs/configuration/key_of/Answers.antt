@@ -1,6 +1,6 @@
 use Rattle.std.proofs.Common.{sym, ap, subst}
 use Rattle.std.proofs.lemmas.Result.{err_from_is_err_and}
-use Rattle.round_engine.specs.Clean.{plan_of}
+use Rattle.project_units.specs.Plans.{plan_of}
 use Rattle.apt_host.specs.Configuration.{settings_in, settings_fit, plan_by}
 use Rattle.apt_host.specs.Verdicts.{verdict}
 use Rattle.apt_host.specs.Entering.{ComesAs, RefusesAs, shown_configuration}

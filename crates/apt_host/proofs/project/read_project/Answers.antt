@@ -2,7 +2,7 @@ use Rattle.std.proofs.Common.{◌≡◌, Ok, Err, map, sym, ap, subst, ◌∙◌
 use Rattle.std.proofs.lemmas.Result.{err_from_is_err_and}
 use Rattle.apt_outside.specs.Files.{Files}
 use Rattle.tree_store.specs.Sources.{sources_of, Gives}
-use Rattle.round_engine.specs.Clean.{plan_of}
+use Rattle.project_units.specs.Plans.{plan_of}
 use Rattle.apt_host.specs.Shown.{shown_project}
 use Rattle.apt_host.specs.Project.{read_of, tables_of, named}
 use Rattle.apt_host.specs.Verdicts.{verdict}

@@ -1,5 +1,5 @@
 use Rattle.std.proofs.Common.{◌≡◌, [], ◌∷◌, ◌++◌, rules}
-use Rattle.round_engine.specs.Units.{enter_units}
+use Rattle.project_units.specs.Units.{enter_units}
 use Rattle.apt_host.specs.Verdicts.{verdict}
 use Rattle.apt_host.proofs.SourcesOfAProject.{fills, obstructed-as}
 use Rattle.apt_host.proofs.sources.enter_next.Goals as goal

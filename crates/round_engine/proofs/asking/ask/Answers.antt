@@ -4,8 +4,9 @@ use Rattle.std.proofs.lemmas.Result.{err_from_is_err_and}
 use Rattle.apt_outside.specs.Child.{Attends}
 use Rattle.processor_claims.specs.declared.supported.Supported.{Supported}
 use Rattle.child_session.specs.Round as session
-use Rattle.round_engine.specs.Refusals.{OrMemory}
-use Rattle.round_engine.specs.Faults.{stop_of, of_session}
+use Rattle.project_units.specs.Refusals.{OrMemory}
+use Rattle.project_units.specs.Faults.{stop_of}
+use Rattle.round_engine.specs.Faults.{of_session}
 use Rattle.child_session.specs.declared.round.Showing.{Showing}
 use Rattle.round_engine.specs.Run.{supports_nothing, limit, claim_at, showing}
 use Rattle.round_engine.specs.Shown.{shown_discovered}

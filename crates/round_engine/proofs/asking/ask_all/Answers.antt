@@ -1,7 +1,7 @@
 use Rattle.std.proofs.Common.{◌≡◌, ◌<◌, ℕ, List, [], Contains, length, map, get_or, refl, sym, ap, ◌∙◌, subst, arith}
 use Rattle.std.specs.List.{AllByRecursion}
 use Rattle.std.proofs.lemmas.Result.{err_from_is_err_and}
-use Rattle.round_engine.specs.Units.{present_names}
+use Rattle.project_units.specs.Units.{present_names}
 use Rattle.round_engine.specs.Run.{present_in, offered_names}
 use Rattle.processor_claims.specs.Turns.{offered, IsWithin}
 use Rattle.round_engine.proofs.AskedInTurn.{within_number, within_names, within_later}

@@ -2,9 +2,9 @@ use Rattle.std.proofs.Common.{◌≡◌, ◌≤◌, length, map, refl, sym, ap, 
 use Rattle.std.proofs.lemmas.Bool.{false≢true}
 use Rattle.std.proofs.lemmas.List.{length-map}
 use Rattle.std.proofs.lemmas.Result.{err_from_is_err_and}
-use Rattle.round_engine.specs.Refusals as stop
-use Rattle.round_engine.specs.Faults.{stop_of}
-use Rattle.round_engine.specs.Clean.{plan_of, tries_in, name_of, names_in}
+use Rattle.project_units.specs.Refusals as stop
+use Rattle.project_units.specs.Faults.{stop_of}
+use Rattle.project_units.specs.Plans.{plan_of, tries_in, name_of, names_in}
 use Rattle.round_engine.specs.Shown.{LiveInTurn, without_each, hellos_sent}
 use Rattle.round_engine.proofs.FrontsOfHellos.{shows_nothing}
 use Rattle.round_engine.proofs.StoppedChildren.{fresh_ends, fresh_live}

@@ -4,11 +4,11 @@ use Rattle.std.proofs.lemmas.Result.{err_from_is_err_and}
 use Rattle.std.proofs.lemmas.List.Elements.{Contains-append_right}
 use Rattle.apt_outside.specs.Child.{State, without}
 use Rattle.apt_outside.proofs.Live.{without_last}
-use Rattle.round_engine.specs.declared.project.KeyProcessor.{KeyProcessor}
-use Rattle.round_engine.specs.declared.refusal.Refusal.TheVariants as code
-use Rattle.round_engine.specs.Refusals as stop
-use Rattle.round_engine.specs.Faults.{stop_of}
-use Rattle.round_engine.specs.Clean.{plan_of, try_of, tries_in}
+use Rattle.project_units.specs.declared.project.KeyProcessor.{KeyProcessor}
+use Rattle.project_units.specs.declared.refusal.Refusal.TheVariants as code
+use Rattle.project_units.specs.Refusals as stop
+use Rattle.project_units.specs.Faults.{stop_of}
+use Rattle.project_units.specs.Plans.{plan_of, try_of, tries_in}
 use Rattle.round_engine.specs.Shown.{AreFresh, IsCounted, BeginsEach}
 use Rattle.round_engine.proofs.StoppedChildren.{fresh_more}
 use Rattle.round_engine.proofs.StartedChildren.{Begun, begun_none, begun_all}

@@ -1,6 +1,6 @@
 use Rattle.std.proofs.Common.{◌≡◌, ◌+◌, ◌≤◌, ◌++◌, length, take, drop}
 use Rattle.apt_outside.specs.Count.{Told}
-use Rattle.round_engine.specs.Clean.{plan_of, tries_in}
+use Rattle.project_units.specs.Plans.{plan_of, tries_in}
 use Rattle.round_engine.specs.Shown.{AreFresh}
 use Rattle.round_engine.proofs.StartedChildren.{Begun}
 use Rattle.round_engine.proofs.beginning.begin_each.Given as goal

@@ -4,11 +4,12 @@ use Rattle.std.proofs.lemmas.List.Elements.{Contains-append_right}
 use Rattle.apt_outside.specs.Child.{without}
 use Rattle.apt_outside.proofs.Live.{without_last}
 use Rattle.child_session.specs.Beginning as session
-use Rattle.round_engine.specs.Refusals as stop
-use Rattle.round_engine.specs.Refusals.{UnbuiltTalk, Names}
-use Rattle.round_engine.specs.Faults.{stop_of, of_session}
-use Rattle.round_engine.specs.Run.{init_frame, supported_in}
-use Rattle.round_engine.specs.Clean.{plan_of, try_of}
+use Rattle.project_units.specs.Refusals as stop
+use Rattle.project_units.specs.Refusals.{UnbuiltTalk, Names}
+use Rattle.project_units.specs.Faults.{stop_of}
+use Rattle.round_engine.specs.Faults.{of_session}
+use Rattle.project_units.specs.Plans.{init_frame, plan_of, try_of}
+use Rattle.round_engine.specs.Run.{supported_in}
 use Rattle.round_engine.specs.Shown.{StopsOne}
 use Rattle.round_engine.proofs.BegunProcessors.{untried, begins_err, stopped_memory, stopped_none}
 use Rattle.round_engine.proofs.CountedStarts.{counted_by, stops_counted, hello_err, starts_memory, starts_one, starts_err}

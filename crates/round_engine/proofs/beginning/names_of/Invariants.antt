@@ -1,5 +1,5 @@
 use Rattle.std.proofs.Common.{◌≡◌, take, map}
-use Rattle.round_engine.specs.Clean.{name_of}
+use Rattle.project_units.specs.Plans.{name_of}
 use Rattle.round_engine.proofs.beginning.names_of.Given as goal
 
 -- the names so far

@@ -1,6 +1,6 @@
 use Rattle.std.proofs.Common.{◌≡◌, drop, length, refl, rules}
 use Rattle.std.proofs.lemmas.Result.{err_from_is_err_and}
-use Rattle.round_engine.specs.Run.{unread_among}
+use Rattle.project_units.specs.Creations.{unread_among}
 use Rattle.round_engine.proofs.RoundsInTurn.{last_refused, last_memory, last_ends}
 use Rattle.round_engine.proofs.rounds.finish.Goals as goal
 

@@ -3,10 +3,11 @@ use Rattle.std.specs.Prelude.{◌||◌, not}
 use Rattle.std.specs.FinMap as fin
 use Rattle.std.proofs.lemmas.Result.{err_from_is_err_and}
 use Rattle.round_engine.specs.declared.rounds.Round.{Round}
-use Rattle.round_engine.specs.Faults.{stop_of}
-use Rattle.round_engine.specs.Entering.{RefusesAs}
-use Rattle.round_engine.specs.Units.{Entered, enter_all, all_of}
-use Rattle.round_engine.specs.Run.{has_error, creates_source, sources_among, next_of, rounds_before_last}
+use Rattle.project_units.specs.Faults.{stop_of}
+use Rattle.project_units.specs.Entering.{RefusesAs}
+use Rattle.project_units.specs.Units.{Entered, enter_all, all_of}
+use Rattle.round_engine.specs.Run.{has_error, next_of, rounds_before_last}
+use Rattle.project_units.specs.Creations.{creates_source, sources_among}
 use Rattle.round_engine.proofs.AskedProcessors.{attends_none, attends_more, rounds_unbegun}
 use Rattle.round_engine.proofs.RoundsInTurn.{AreUnderway, rounds_begin, rounds_many, rounds_stopped, rounds_last, rounds_unread, rounds_next}
 use Rattle.round_engine.proofs.rounds.show_rounds.Goals as goal

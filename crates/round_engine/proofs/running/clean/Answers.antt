@@ -4,11 +4,12 @@ use Rattle.std.proofs.lemmas.List.{length-map, nil_from_length}
 use Rattle.std.proofs.lemmas.Result.{err_from_is_err_and}
 use Rattle.round_engine.specs.declared.progress.Progress.{Progress}
 use Rattle.round_engine.specs.declared.rounds.Rounds.{Rounds}
-use Rattle.round_engine.specs.Refusals as stop
-use Rattle.round_engine.specs.Refusals.{NamesAmong}
-use Rattle.round_engine.specs.Faults.{stop_of}
+use Rattle.project_units.specs.Refusals as stop
+use Rattle.project_units.specs.Refusals.{NamesAmong}
+use Rattle.project_units.specs.Faults.{stop_of}
 use Rattle.round_engine.specs.Run.{new_filings, run_of, frames_of}
-use Rattle.round_engine.specs.Clean.{plan_of, try_of, tries_in, Has, Closes}
+use Rattle.project_units.specs.Plans.{plan_of, try_of, tries_in}
+use Rattle.round_engine.specs.Clean.{Has, Closes}
 use Rattle.round_engine.specs.Shown.{IsCounted, LiveInTurn, without_each}
 use Rattle.round_engine.proofs.StoppedChildren.{all_live, fresh_ends, fresh_live}
 use Rattle.round_engine.proofs.FrontsOfHellos.{shows_nothing}

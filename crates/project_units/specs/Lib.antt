@@ -1,0 +1,9 @@
+pub mod Held
+pub mod Limits
+pub mod Creations
+pub mod Plans
+pub mod Refusals
+pub mod Annotations
+pub mod Units
+pub mod Faults
+pub mod Entering

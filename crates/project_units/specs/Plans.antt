@@ -1,0 +1,47 @@
+-- What a run over a project is told: the level, the options, and the processors, each by its name and its command; and the first frame to each of them.
+use Rattle.std.specs.Prelude.{ℕ, nat_le, Bool, List, length, map}
+use Rattle.std.specs.List.{list_all}
+use Rattle.apt_base.specs.declared.kinds.What.TheVariants as what
+use Rattle.apt_outside.specs.Child.{Try}
+use Rattle.wire_frames.specs.declared.frame.Frame.TheVariants as frame
+use Rattle.wire_frames.specs.Frames.{spelling}
+use Rattle.project_units.specs.declared.project.Key.{Key}
+use Rattle.project_units.specs.declared.project.KeyProcessor.{KeyProcessor}
+use Rattle.project_units.specs.Limits.{limit_of}
+
+-- the source level, the options, and the processors in the order of discovery, each by its name and its command
+pub record Plan : Type 0 where
+  pub level : ℕ
+  pub options : List (List ℕ × List ℕ)
+  pub processors : List Try
+
+-- the first frame of the host
+abbrev pub init_frame : Plan → List ℕ → List ℕ
+init_frame plan name = spelling (frame.Init (record { name = name; level = plan.level; options = plan.options }))
+
+-- ---- the plan of a key
+
+-- a processor's name and command
+abbrev pub try_of : KeyProcessor → Try
+try_of processor = (processor.name, processor.command)
+
+abbrev pub tries_in : Key → List Try
+tries_in key = map try_of key.processors
+
+abbrev pub name_of : KeyProcessor → List ℕ
+name_of processor = processor.name
+
+abbrev pub names_in : Key → List (List ℕ)
+names_in key = map name_of key.processors
+
+-- what the run of a project with this key is told
+abbrev pub plan_of : Key → Plan
+plan_of key = record { level = key.level; options = key.options; processors = tries_in key }
+
+-- the first frame to the processor with this name is within the limit of a frame
+abbrev pub init_fits : Plan → List ℕ → Bool
+init_fits plan name = nat_le (length (init_frame plan name)) (limit_of what.Frame)
+
+-- so is that to each processor
+abbrev pub inits_fit : Plan → Bool
+inits_fit plan = list_all (λ (processor : Try). init_fits plan processor.0) plan.processors

@@ -1,0 +1,40 @@
+// Why units were not entered.
+ghost use Rattle.std.specs.Prelude.{◌≡◌, IfOk};
+ghost use Rattle.project_units.specs.declared.unit_fault.UnitFault.TheVariants.{Memory};
+
+use apt_base::{Name, NoMemory};
+
+/// Why units were not entered into a type table.
+#[derive(Drop)]
+pub enum UnitFault {
+    /// One has a name that is there.
+    Duplicate {
+        /// The canonical name of the unit.
+        name: Name,
+    },
+    /// With the types of one the table would have more than 50,000.
+    TooMany,
+    /// Want of memory.
+    Memory,
+}
+
+impl UnitFault {
+    /// An equal fault.
+    pub fn copy(&self) -> Result<UnitFault, NoMemory>
+        ensures { IfOk result (λ fault. fault ≡ self.now) }
+    {
+        match self {
+            UnitFault::Duplicate { name } => Ok(UnitFault::Duplicate { name: name.copy()? }),
+            UnitFault::TooMany => Ok(UnitFault::TooMany),
+            UnitFault::Memory => Ok(UnitFault::Memory),
+        }
+    }
+}
+
+impl From<NoMemory> for UnitFault {
+    ghost from_gives = { λ _ e. e ≡ Memory };
+
+    fn from(_: NoMemory) -> UnitFault {
+        UnitFault::Memory
+    }
+}

@@ -1,0 +1,38 @@
+// Why a run is refused whose session with a child failed.
+ghost use Rattle.std.specs.Prelude.{◌≡◌};
+ghost use Rattle.project_units.specs.Refusals.{Names, OrMemory};
+ghost use Rattle.project_units.specs.Faults.{stop_of};
+ghost use Rattle.round_engine.specs.Faults.{of_session};
+
+use apt_base::Name;
+use child_session::SessionFault;
+use project_units::Refusal;
+
+/// The refusal of a run whose session with this processor failed so.
+pub(crate) fn refusal_by(processor: Name, fault: SessionFault) -> Refusal
+    ensures is { stop_of result ≡ of_session processor fault }
+    ensures named { Names processor (stop_of result) }
+{
+    match fault {
+        SessionFault::Failed => Refusal::ChildFault { processor },
+        SessionFault::Unbuilt => Refusal::UnbuiltTalk { processor },
+        SessionFault::TooManyQuestions { limit } => Refusal::TooManyQuestions { processor, limit },
+        SessionFault::ClaimBroken { declared, said } => Refusal::ClaimBroken {
+            processor,
+            declared,
+            said,
+        },
+        SessionFault::Memory => Refusal::Memory,
+    }
+}
+
+/// The refusal of a run whose session with this processor failed so, or `Memory` where there is none for the name.
+pub fn refusal_of(processor: &Name, fault: SessionFault) -> Refusal
+    ensures is { OrMemory (of_session processor.now fault) (stop_of result) }
+    ensures named { Names processor.now (stop_of result) }
+{
+    let Ok(processor) = processor.copy() else {
+        return Refusal::Memory;
+    };
+    refusal_by(processor, fault)
+}
