@@ -6,7 +6,6 @@ ghost use Rattle.project_reading.specs.Verdicts.{verdict, stopped, code_of};
 ghost use Rattle.project_reading.specs.Endings.{of_store};
 
 use apt_base::{Claim, Name, NoMemory, What};
-use std::alloc::{AllocError, AllocFailed};
 use tree_store::StoreFault;
 
 /// Where a file of the configuration is off its form.
@@ -189,22 +188,6 @@ impl From<NoMemory> for Status {
     ghost from_gives = { λ _ e. e ≡ code.Memory };
 
     fn from(_: NoMemory) -> Status {
-        Status::Memory
-    }
-}
-
-impl From<AllocError> for Status {
-    ghost from_gives = { λ _ e. e ≡ code.Memory };
-
-    fn from(_: AllocError) -> Status {
-        Status::Memory
-    }
-}
-
-impl<T: Drop> From<AllocFailed<T>> for Status {
-    ghost from_gives = { λ _ e. e ≡ code.Memory };
-
-    fn from(_: AllocFailed<T>) -> Status {
         Status::Memory
     }
 }
