@@ -26,16 +26,17 @@ use Rattle.round_engine.specs.Shown.{ShowsNoMore}
 use Rattle.round_engine.specs.Clean.{AreNumbered, ShowsWhole, Talked, is_error, is_warning, count_of}
 use Rattle.round_engine.proofs.FrontsOfHellos.{shows_nothing}
 use Rattle.round_engine.proofs.NumberingLemmas.{All-from_AreLeast, AllPairs-from_AreLeast}
-use Rattle.apt_host.specs.declared.status.Status.{Status}
-use Rattle.apt_host.specs.Words.{Options, Build}
-use Rattle.apt_host.specs.Project.{Read, read_of}
-use Rattle.apt_host.specs.CleanBuild.{Summary, summary, Outcome, outcome_of, outcome_of_run, clean}
+use Rattle.project_reading.specs.declared.status.Status.{Status}
+use Rattle.project_reading.specs.Configuration.{Options}
+use Rattle.apt_host.specs.Words.{Build}
+use Rattle.project_reading.specs.Project.{Read, read_of}
+use Rattle.apt_host.specs.CleanBuild.{Summary, summary, Outcome, outcome_of, outcome_of_run, clean, verdict_of}
 use Rattle.apt_host.specs.CleanBuild as outcome
 use Rattle.apt_host.specs.Report.{report_of, errors_report, report_text}
-use Rattle.apt_host.specs.Verdicts.{Verdict, Done, Errors, Refused, Failed, Memory, is_free, is_finished, is_children, OrFree, verdict, verdict_of}
+use Rattle.project_reading.specs.Verdicts.{Verdict, Done, Errors, Refused, Failed, Memory, is_free, is_finished, is_children, OrFree, verdict}
 use Rattle.apt_host.specs.Listed.{listed, entry_of, numbered_of, file_of, Gains, GainsFirst, Places, FitsEntry}
-use Rattle.apt_host.specs.Endings.{of_store, EndsEarly}
-use Rattle.apt_host.specs.Entering.{RefusesAs}
+use Rattle.project_reading.specs.Endings.{of_store, EndsEarly}
+use Rattle.project_reading.specs.Entering.{RefusesAs}
 use Rattle.apt_host.specs.Making.{finished_summary, concluded, concluding_report, outcome_with, Makes}
 use Rattle.apt_host.specs.Promises.{TalkedOf, ToldOf, Answers, Stores, Publishes, PublishesOutcome, PublishesClean, Leaves, LeavesUndone, StoresBuilt, StoresOutcome, StoresFirst, IsFront, CountsStarts, Reports, Adds, ShowsBy, ShowsOver}
 use Rattle.apt_host.proofs.MakingLemmas.{talked_then}

@@ -4,9 +4,10 @@ use Rattle.std.proofs.lemmas.Bool.{false≢true}
 use Rattle.tree_store.specs.declared.fault.StoreFault.{StoreFault}
 use Rattle.tree_store.specs.declared.fault.StoreFault.TheVariants as store
 use Rattle.project_units.specs.Refusals.{BadWords, Object, Tree, Sink, Children}
-use Rattle.apt_host.specs.Verdicts.{Verdict, Done, Errors, Refused, Failed, Memory, verdict, is_free, is_finished, has_run, is_tree, is_sink, named_in, fails}
-use Rattle.apt_host.specs.Endings.{of_store, EndsEarly, IsConcluded}
-use Rattle.apt_host.specs.Entering.{IsDueRead}
+use Rattle.project_reading.specs.Verdicts.{Verdict, Done, Errors, Refused, Failed, Memory, verdict, is_free, is_finished, has_run, is_tree, is_sink, named_in, fails}
+use Rattle.project_reading.specs.Endings.{of_store, EndsEarly}
+use Rattle.apt_host.specs.BuildEndings.{IsConcluded}
+use Rattle.project_reading.specs.Entering.{IsDueRead}
 
 module _ (is : Object → Bool) where
   pub not_done_early : (v : Verdict) → EndsEarly is v → v ≢ Done

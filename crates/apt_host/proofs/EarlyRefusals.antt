@@ -7,12 +7,13 @@ use Rattle.apt_outside.specs.Child.{State}
 use Rattle.tree_store.specs.declared.fault.StoreFault.{StoreFault}
 use Rattle.tree_store.specs.declared.fault.StoreFault.TheVariants as store
 use Rattle.project_units.specs.Refusals.{Refusal, BadWords, BadConfig, UnknownProcessor, BadStub, BadSource, DuplicateType, BadGenerated, UnbuiltTalk, TooManyQuestions, ClaimBroken, GeneratedDuplicate, TooManyRounds, TooLarge}
-use Rattle.apt_host.specs.Words.{Options, Request, Build, Bad}
-use Rattle.apt_host.specs.Configuration.{is_of_project}
-use Rattle.apt_host.specs.Project.{read_of}
-use Rattle.apt_host.specs.Verdicts.{Verdict, Done, Errors, Refused, Failed, Memory, is_free, named_in, verdict}
-use Rattle.apt_host.specs.Endings.{of_store, IsConcluded}
-use Rattle.apt_host.specs.Entering.{RefusesAs, IsDueRead}
+use Rattle.project_reading.specs.Configuration.{Options, is_of_project}
+use Rattle.apt_host.specs.Words.{Request, Build, Bad}
+use Rattle.project_reading.specs.Project.{read_of}
+use Rattle.project_reading.specs.Verdicts.{Verdict, Done, Errors, Refused, Failed, Memory, is_free, named_in, verdict}
+use Rattle.project_reading.specs.Endings.{of_store}
+use Rattle.apt_host.specs.BuildEndings.{IsConcluded}
+use Rattle.project_reading.specs.Entering.{RefusesAs, IsDueRead}
 use Rattle.apt_host.specs.Making.{RefusesRun}
 use Rattle.apt_host.specs.Promises.{RefusesRead, IsDue, Finishes}
 use Rattle.apt_host.proofs.Writing.{memory_or_not}

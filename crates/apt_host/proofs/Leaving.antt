@@ -6,8 +6,8 @@ use Rattle.tree_store.specs.Output.{StoresStand}
 use Rattle.tree_store.specs.Storing.{AddsToStore}
 use Rattle.project_units.specs.Refusals.{Refusal, Tree, Sink, Children}
 use Rattle.apt_host.specs.Words.{Request, Build, Bad}
-use Rattle.apt_host.specs.Verdicts.{Verdict, Done, Errors, Refused, Failed, Memory, OrMemory}
-use Rattle.apt_host.specs.Project.{Read, read_of}
+use Rattle.project_reading.specs.Verdicts.{Verdict, Done, Errors, Refused, Failed, Memory, OrMemory}
+use Rattle.project_reading.specs.Project.{Read, read_of}
 use Rattle.apt_host.specs.Promises.{Leaves, KeepsOutput, Finishes, ShowsOver, ShowsRun}
 use Rattle.apt_host.proofs.Writing.{memory_or_not, not_done}
 

@@ -1,13 +1,8 @@
-pub mod Refusing
-pub mod SourcesOfAProject
-pub mod LeastPath
-pub mod ProjectLemmas
 pub mod Early
 pub mod Writing
 pub mod Leaving
 pub mod EarlyRefusals
 pub mod MakingLemmas
-pub mod Settling
 pub mod Using
 pub mod Building
 pub mod UnreadWords

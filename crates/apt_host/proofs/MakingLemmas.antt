@@ -19,11 +19,11 @@ use Rattle.round_engine.specs.Shown.{StopsAs, StartsUpTo, TriesInOrder, IsCounte
 use Rattle.round_engine.specs.Clean as clean
 use Rattle.project_units.specs.Plans.{try_of, name_of, plan_of, tries_in, names_in}
 use Rattle.round_engine.specs.Clean.{Talked}
-use Rattle.apt_host.specs.declared.status.Status.{Status}
-use Rattle.apt_host.specs.Shown.{shown_project}
-use Rattle.apt_host.specs.CleanBuild.{outcome_of, outcome_of_run}
-use Rattle.apt_host.specs.Verdicts.{Done, verdict, stopped, is_free, is_finished, is_children, named_in, fails, OrFree, HasCause, verdict_of}
-use Rattle.apt_host.specs.Endings.{EndsEarly}
+use Rattle.project_reading.specs.declared.status.Status.{Status}
+use Rattle.project_reading.specs.Project.{shown_project}
+use Rattle.apt_host.specs.CleanBuild.{outcome_of, outcome_of_run, verdict_of}
+use Rattle.project_reading.specs.Verdicts.{Done, verdict, stopped, is_free, is_finished, is_children, named_in, fails, OrFree, HasCause}
+use Rattle.project_reading.specs.Endings.{EndsEarly}
 use Rattle.apt_host.specs.Making.{Makes, RefusesRun}
 use Rattle.apt_host.specs.Promises.{IsDue}
 use Rattle.apt_host.specs.Builds.{UsesKey}

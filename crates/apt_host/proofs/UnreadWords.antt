@@ -4,8 +4,8 @@ use Rattle.std.proofs.Common.{◌≡◌, Bool, inr, refl, sym, subst}
 use Rattle.apt_outside.specs.Files.{Files}
 use Rattle.apt_outside.specs.Child.{Says, State}
 use Rattle.apt_host.specs.Words.{Request, Build, Bad}
-use Rattle.apt_host.specs.Project.{read_of}
-use Rattle.apt_host.specs.Verdicts.{Verdict, Done, Memory}
+use Rattle.project_reading.specs.Project.{read_of}
+use Rattle.project_reading.specs.Verdicts.{Verdict, Done, Memory}
 use Rattle.apt_host.specs.Promises.{Answers, Finishes, OffTable, PublishesClean, ShowsRun}
 use Rattle.apt_host.proofs.Writing.{memory_or_not, talked}
 use Rattle.apt_host.proofs.Building.{shows_memory}

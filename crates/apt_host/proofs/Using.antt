@@ -6,8 +6,9 @@ use Rattle.apt_outside.specs.Files.{Files}
 use Rattle.apt_outside.specs.Child.{Try, State}
 use Rattle.project_units.specs.declared.project.Key.{Key}
 use Rattle.project_units.specs.Plans.{tries_in, names_in}
-use Rattle.apt_host.specs.Words.{Options, Request, Build, Bad}
-use Rattle.apt_host.specs.Verdicts.{Verdict, Done, has_run, named_in}
+use Rattle.project_reading.specs.Configuration.{Options}
+use Rattle.apt_host.specs.Words.{Request, Build, Bad}
+use Rattle.project_reading.specs.Verdicts.{Verdict, Done, has_run, named_in}
 use Rattle.apt_host.specs.Promises.{AreRead, Uses, Finishes, processors_of}
 use Rattle.apt_host.specs.Builds.{UsesKey}
 use Rattle.apt_host.proofs.MakingLemmas.{names_are, count_tries}

@@ -6,14 +6,14 @@ use Rattle.apt_outside.specs.Child.{Try, State}
 use Rattle.apt_outside.specs.declared.fault.Fault.{Fault}
 use Rattle.apt_outside.specs.declared.fault.Fault.TheVariants as outside
 use Rattle.apt_outside.specs.Stream.{Appends}
-use Rattle.apt_host.specs.Endings.{sink_verdict}
+use Rattle.apt_host.specs.BuildEndings.{sink_verdict}
 use Rattle.project_units.specs.Refusals.{Refusal, BadWords, Tree, Sink, Children}
 use Rattle.round_engine.specs.Clean.{Talked}
 use Rattle.apt_host.specs.Words.{Request, Build, Bad}
-use Rattle.apt_host.specs.Project.{Read, read_of}
-use Rattle.apt_host.specs.CleanBuild.{Summary, Outcome, clean}
+use Rattle.project_reading.specs.Project.{Read, read_of}
+use Rattle.apt_host.specs.CleanBuild.{Summary, Outcome, clean, verdict_of}
 use Rattle.apt_host.specs.CleanBuild as outcome
-use Rattle.apt_host.specs.Verdicts.{Verdict, Done, Errors, Refused, Failed, Memory, is_finished, is_sink, fails, verdict_of}
+use Rattle.project_reading.specs.Verdicts.{Verdict, Done, Errors, Refused, Failed, Memory, is_finished, is_sink, fails}
 use Rattle.apt_host.specs.Promises.{TalkedOf, IsFront, IsLine, IsOutcome, StoresBuilt, StoresOutcome, Reports, Adds, Writes, Finishes}
 
 -- a status is want of memory, or it is not

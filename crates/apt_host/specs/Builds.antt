@@ -16,17 +16,19 @@ use Rattle.project_units.specs.Plans.{names_in, tries_in}
 use Rattle.apt_host.specs.declared.build.Ending.{Ending}
 use Rattle.apt_host.specs.declared.publish.Written.{Written}
 use Rattle.apt_host.specs.declared.report.Summary as code
-use Rattle.apt_host.specs.declared.status.Status.{Status}
-use Rattle.apt_host.specs.Words.{Options, Build}
-use Rattle.apt_host.specs.Shown.{shown_project}
+use Rattle.project_reading.specs.declared.status.Status.{Status}
+use Rattle.project_reading.specs.Configuration.{Options}
+use Rattle.apt_host.specs.Words.{Build}
+use Rattle.project_reading.specs.Project.{shown_project}
 use Rattle.apt_host.specs.CleanBuild.{Summary}
 use Rattle.apt_host.specs.Report.{errors_report}
 use Rattle.apt_host.specs.Listed as listed
 use Rattle.apt_host.specs.Listed.{entry_of, numbered_of, summary_of}
 use Rattle.apt_host.specs.Making as making
 use Rattle.apt_host.specs.Making.{concluding_report}
-use Rattle.apt_host.specs.Verdicts.{Verdict, Done, named_in}
-use Rattle.apt_host.specs.Endings.{ended, closed}
+use Rattle.project_reading.specs.Verdicts.{Verdict, Done, named_in}
+use Rattle.project_reading.specs.Endings.{ended}
+use Rattle.apt_host.specs.BuildEndings.{closed}
 use Rattle.apt_host.specs.Promises as promise
 
 -- ---- what is started

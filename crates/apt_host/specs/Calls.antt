@@ -5,9 +5,9 @@ use Rattle.apt_outside.specs.declared.tree.Tree as tree
 use Rattle.apt_outside.specs.declared.children.Children as children
 use Rattle.apt_outside.specs.declared.stream.Sink as sink
 use Rattle.apt_outside.specs.Count.{Rose, Told}
-use Rattle.apt_host.specs.declared.status.Status.{Status}
+use Rattle.project_reading.specs.declared.status.Status.{Status}
 use Rattle.apt_host.specs.Shown.{asked}
-use Rattle.apt_host.specs.Verdicts.{verdict}
+use Rattle.project_reading.specs.Verdicts.{verdict}
 use Rattle.apt_host.specs.Promises as promise
 
 -- ---- what is started

@@ -8,8 +8,10 @@ use Rattle.project_units.specs.Plans.{Plan}
 use Rattle.round_engine.specs.Run.{Run, run_of}
 use Rattle.project_units.specs.Creations.{files_among}
 use Rattle.round_engine.specs.Clean.{is_error, is_warning, count_of}
-use Rattle.apt_host.specs.Words.{Options}
-use Rattle.apt_host.specs.Project.{Read, read_of}
+use Rattle.project_reading.specs.Configuration.{Options}
+use Rattle.project_reading.specs.Verdicts as verdict
+use Rattle.project_reading.specs.Verdicts.{Verdict}
+use Rattle.project_reading.specs.Project.{Read, read_of}
 
 -- what a report says of a run, beside its files
 pub record Summary : Type 0 where
@@ -65,3 +67,9 @@ outcome_of says (Ok read) = outcome_of_run read.plan (run_of says read.plan read
 -- with these options of the words
 abbrev pub clean : Says → Options → Files → Outcome
 clean says options project = outcome_of says (read_of options project)
+
+-- what a build comes to, if nothing fails
+abbrev pub verdict_of : Outcome → Verdict
+verdict_of (Refused refusal) = verdict.Refused refusal
+verdict_of (Errors summary) = verdict.Errors summary.errors
+verdict_of (Built files summary) = verdict.Done

@@ -1,14 +1,11 @@
 pub mod Words
-pub mod Configuration
-pub mod Project
 pub mod Shown
 pub mod CleanBuild
 pub mod Report
-pub mod Verdicts
-pub mod Endings
-pub mod Entering
 pub mod Listed
 pub mod Promises
 pub mod Making
 pub mod Calls
 pub mod Builds
+pub mod RefusalLines
+pub mod BuildEndings

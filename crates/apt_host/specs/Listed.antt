@@ -8,7 +8,7 @@ use Rattle.tree_store.specs.Output.{record_path}
 use Rattle.tree_store.specs.Storing.{Numbered, AreWritten, ChangesAmong, paths_of}
 use Rattle.apt_host.specs.declared.report.Summary as code
 use Rattle.apt_host.specs.CleanBuild.{Summary}
-use Rattle.apt_host.specs.Verdicts.{Verdict, Done}
+use Rattle.project_reading.specs.Verdicts.{Verdict, Done}
 use Rattle.apt_host.specs.Report.{report_of}
 use Rattle.round_engine.specs.declared.numbering.Made.{Made}
 

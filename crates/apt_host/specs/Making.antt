@@ -6,14 +6,14 @@ use Rattle.round_engine.specs.declared.running.Finished.{Finished}
 use Rattle.round_engine.specs.Run.{run_of, frames_of}
 use Rattle.round_engine.specs.Shown.{TellsMore, ShowsNoMore}
 use Rattle.round_engine.specs.Clean.{FinishesAs, ShowsWhole}
-use Rattle.apt_host.specs.declared.status.Status.{Status}
-use Rattle.apt_host.specs.Configuration.{is_of_project}
-use Rattle.apt_host.specs.Project.{Read}
+use Rattle.project_reading.specs.declared.status.Status.{Status}
+use Rattle.project_reading.specs.Configuration.{is_of_project}
+use Rattle.project_reading.specs.Project.{Read}
 use Rattle.apt_host.specs.CleanBuild as outcome
-use Rattle.apt_host.specs.CleanBuild.{Summary, Outcome, outcome_of}
+use Rattle.apt_host.specs.CleanBuild.{Summary, Outcome, outcome_of, verdict_of}
 use Rattle.apt_host.specs.Report.{report_of, errors_report}
 use Rattle.apt_host.specs.Listed.{listed, entry_of}
-use Rattle.apt_host.specs.Verdicts.{Verdict, Done, Errors, Refused, OrFree, is_free, verdict, verdict_of}
+use Rattle.project_reading.specs.Verdicts.{Verdict, Done, Errors, Refused, OrFree, is_free, verdict}
 
 -- what was made is the run's, where it is due
 abbrev pub MakesOf : Says → Read → Result Finished Status → Type 0

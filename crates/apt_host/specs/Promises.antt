@@ -15,14 +15,15 @@ use Rattle.project_units.specs.Refusals.{Refusal, BadWords, Object, Tree, Sink, 
 use Rattle.round_engine.specs.Run.{run_of, frames_of}
 use Rattle.round_engine.specs.Shown.{TriesInOrder, TellsMore, ShowsNoMore, IsDueStop}
 use Rattle.round_engine.specs.Clean.{Talked, ShowsWhole}
-use Rattle.apt_host.specs.Words.{Options, Request, Build, Bad}
-use Rattle.apt_host.specs.Configuration.{IsPlaceOf, is_of_project}
-use Rattle.apt_host.specs.Project.{Read, read_of}
-use Rattle.apt_host.specs.CleanBuild.{Outcome, clean}
+use Rattle.project_reading.specs.Configuration.{Options, IsPlaceOf, is_of_project}
+use Rattle.apt_host.specs.Words.{Request, Build, Bad}
+use Rattle.project_reading.specs.Project.{Read, read_of}
+use Rattle.apt_host.specs.CleanBuild.{Outcome, clean, verdict_of}
 use Rattle.apt_host.specs.CleanBuild as outcome
 use Rattle.apt_host.specs.Report.{report_text}
 use Rattle.apt_host.specs.Listed.{GainsFirst}
-use Rattle.apt_host.specs.Verdicts.{Verdict, Done, Errors, Refused, Failed, Memory, OrFree, OrMemory, is_finished, has_run, named_in, verdict_of, refusal_of}
+use Rattle.project_reading.specs.Verdicts.{Verdict, Done, Errors, Refused, Failed, Memory, OrFree, OrMemory, is_finished, has_run, named_in}
+use Rattle.apt_host.specs.RefusalLines.{refusal_of}
 
 -- ---- what is told
 

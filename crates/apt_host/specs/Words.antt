@@ -1,10 +1,7 @@
 -- What the words of a call ask for.
 use Rattle.std.specs.Prelude.{ℕ, ◌+◌, Bool, true, false, List, [], ◌∷◌, ◌++◌, Option, None, Some, codes, bytes_eq, length, min, if◌then◌else◌}
 use Rattle.project_config.specs.Options.{option_in}
-
--- options as keys and their values, in the order in which they were given
-abbrev pub Options : Type 0
-Options = List (List ℕ × List ℕ)
+use Rattle.project_reading.specs.Configuration.{Options}
 
 pub data Request : Type 0 where
   -- one build with these options over those of the configuration; of one key the last counts

@@ -4,16 +4,16 @@ ghost use Rattle.apt_outside.specs.Count.{Told};
 ghost use Rattle.tree_store.specs.Output.{StoresStand, SameOutside};
 ghost use Rattle.project_units.specs.Refusals.{BadWords};
 ghost use Rattle.apt_host.specs.Words.{cut_at};
-ghost use Rattle.apt_host.specs.Verdicts.{verdict, Refused, OrMemory, is_tree, is_sink, is_children, HasCause, is_finished};
-ghost use Rattle.apt_host.specs.Endings.{closed};
+ghost use Rattle.project_reading.specs.Verdicts.{verdict, Refused, OrMemory, is_tree, is_sink, is_children, HasCause, is_finished};
+ghost use Rattle.apt_host.specs.BuildEndings.{closed};
 ghost use Rattle.apt_host.specs.Promises.{Leaves, KeepsOutput, Finishes, IsDue};
 ghost use Rattle.apt_host.specs.Calls.{Uses, Shows, OffTable, Answers, Refuses, Publishes, AddsLine, Reports, Writes};
 
-use crate::Status;
 use crate::build::{Ending, build};
 use crate::report::refusal;
 use crate::words::{Request, read_words};
 use apt_outside::{Children, Fault, Sink, Source, Tree};
+use project_reading::Status;
 use std::alloc::Global;
 
 fn status_of(outcome: Result<Ending, Status>) -> Status

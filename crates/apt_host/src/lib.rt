@@ -2,20 +2,15 @@
 //!
 //! So far it has one command, `build`, over the sources and the stubs of a project and with the processors of its configuration, which create
 //! sources and resources and print messages. `specs/CleanBuild.antt` says what a build gives from nothing, and `specs/Promises.antt`
-//! what `run` promises; nothing is promised of time, nor that a child ever answers.
+//! what `run` promises; what a project is that was read, and how a call ends, say the definitions of `project_reading`. Nothing is
+//! promised of time, nor that a child ever answers.
 #![tactic(auto)]
 
 mod build;
 mod call;
-mod configuration;
-mod laws;
-mod project;
 mod publish;
 mod report;
-mod sources;
-mod status;
 mod words;
 
 pub use call::{refuse_cut_words, run};
-pub use laws::least_path_is_refused;
-pub use status::{Place, Status};
+pub use project_reading::{Place, Status, least_path_is_refused};

@@ -3,12 +3,12 @@ ghost use Rattle.std.specs.Prelude.{◌≡◌, ◌++◌, [], IfOk, OnOk, string_
 ghost use Rattle.std.specs.List.{flat_map};
 ghost use Rattle.apt_host.specs.Report.{kind_text, escaped, message_text, message_line, message_lines, unread_line, first_lines, file_line, file_lines, errors_report};
 ghost use Rattle.project_units.specs.Refusals.{BadConfig, BadStub, BadSource, DuplicateType, BadGenerated, ClaimBroken};
-ghost use Rattle.apt_host.specs.Verdicts.{IsLineOf, verdict, shown_place, what_text, claim_text, place_text, line_of, refusal_of};
+ghost use Rattle.apt_host.specs.RefusalLines.{IsLineOf, what_text, claim_text, place_text, line_of, refusal_of};
+ghost use Rattle.project_reading.specs.Verdicts.{verdict, shown_place};
 ghost use Rattle.apt_host.specs.Listed.{listed, summary_of, report_for};
 
-use crate::Status;
-use crate::status::Place;
-use apt_base::{Claim, List, Name, What};
+use apt_base::{Claim, List, Name, NoMemory, What};
+use project_reading::{Place, Status};
 use round_engine::Placed;
 use std::alloc::{AllocError, Global};
 use tree_store::StoredFile;
@@ -177,7 +177,7 @@ pub fn report(
     processors: &List<Name>,
     summary: &Summary,
     files: &[StoredFile],
-) -> Result<Vec<u8>, AllocError>
+) -> Result<Vec<u8>, NoMemory>
     ensures { IfOk result (λ all. all.items ≡ report_for (summary_of processors.now summary.now) files.now) }
 {
     let mut report = told_lines(alloc, processors, summary)?;
@@ -198,7 +198,7 @@ pub fn errors_report(
     alloc: Global,
     processors: &List<Name>,
     summary: &Summary,
-) -> Result<Vec<u8>, AllocError>
+) -> Result<Vec<u8>, NoMemory>
     ensures { IfOk result (λ text. text.items ≡ errors_report (summary_of processors.now summary.now)) }
 {
     let mut report = told_lines(alloc, processors, summary)?;

@@ -6,13 +6,13 @@ use Rattle.tree_store.specs.Storing.{AreTaken}
 use Rattle.tree_store.specs.Output.{StoresStand}
 use Rattle.project_units.specs.Plans.{names_in}
 use Rattle.apt_host.specs.Words.{Build}
-use Rattle.apt_host.specs.Shown.{shown_project}
-use Rattle.apt_host.specs.Verdicts.{Done, Memory, verdict, named_in, is_free, is_finished, has_run, is_tree, is_sink, is_children, fails}
-use Rattle.apt_host.specs.Endings.{closed, of_store}
+use Rattle.project_reading.specs.Project.{shown_project, read_of}
+use Rattle.project_reading.specs.Verdicts.{Done, Memory, verdict, named_in, is_free, is_finished, has_run, is_tree, is_sink, is_children, fails}
+use Rattle.apt_host.specs.BuildEndings.{closed}
+use Rattle.project_reading.specs.Endings.{of_store}
 use Rattle.apt_host.specs.Making.{concluding_report}
 use Rattle.apt_host.specs.Listed.{numbered_of, GainsFirst}
-use Rattle.apt_host.specs.Project.{read_of}
-use Rattle.apt_host.specs.Entering.{IsDueRead}
+use Rattle.project_reading.specs.Entering.{IsDueRead}
 use Rattle.apt_host.specs.Promises.{Answers, RefusesRead, IsDue, Leaves, IsFront, Adds, ShowsOver, processors_in}
 use Rattle.apt_host.proofs.Early.{not_done_early, unfinished_early, not_run_early, no_sink_early, store_early, store_free, store_unnamed, unnamed_concluded}
 use Rattle.apt_host.proofs.EarlyRefusals.{refuses_read, refuses_free, refuses_concluded, refuses_after, due_project, due_store, due_concluded}

@@ -1,8 +1,8 @@
 use Rattle.std.proofs.Common.{◌≡◌, map, sym, ap, ◌∙◌, subst, arith}
 use Rattle.std.proofs.lemmas.Result.{err_from_is_err_and}
 use Rattle.tree_store.specs.Storing.{AreAbsent}
-use Rattle.apt_host.specs.Verdicts.{verdict, is_output}
-use Rattle.apt_host.specs.Endings.{closed}
+use Rattle.project_reading.specs.Verdicts.{verdict, is_output}
+use Rattle.apt_host.specs.BuildEndings.{closed}
 use Rattle.apt_host.specs.Making.{concluding_report}
 use Rattle.apt_host.specs.Listed.{numbered_of, Places, GainsFirst}
 use Rattle.apt_host.specs.Promises.{IsFront}

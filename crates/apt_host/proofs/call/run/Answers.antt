@@ -2,7 +2,7 @@ use Rattle.std.proofs.Common.{◌≤◌, ℕ, arith}
 use Rattle.std.proofs.lemmas.Grind.{common_steps}
 use Rattle.apt_outside.specs.Count.{Rose}
 use Rattle.apt_host.specs.Shown.{asked}
-use Rattle.apt_host.specs.Verdicts.{verdict}
+use Rattle.project_reading.specs.Verdicts.{verdict}
 use Rattle.apt_host.proofs.Using.{uses_after}
 use Rattle.apt_host.proofs.Writing.{written_all}
 use Rattle.apt_host.proofs.Leaving.{leaves_finish, shows_finish}

@@ -2,8 +2,8 @@ use Rattle.std.proofs.Common.{◌≡◌, refl, sym, subst}
 use Rattle.project_units.specs.Refusals.{BadWords}
 use Rattle.apt_host.specs.Words.{Build, Bad}
 use Rattle.apt_host.specs.Shown.{asked}
-use Rattle.apt_host.specs.Verdicts.{Refused}
-use Rattle.apt_host.specs.Endings.{closed}
+use Rattle.project_reading.specs.Verdicts.{Refused}
+use Rattle.apt_host.specs.BuildEndings.{closed}
 use Rattle.apt_host.specs.Promises.{Answers, RefusesRead, IsDue, PublishesClean}
 use Rattle.apt_host.proofs.Using.{uses_none}
 use Rattle.apt_host.proofs.Writing.{begins_with_nothing}

@@ -1,8 +1,8 @@
 use Rattle.std.proofs.Common.{◌≡◌, [], Err, sym, ap, ◌∙◌, subst, refl, append-nil, rules}
 use Rattle.apt_outside.specs.Stream.{Appends}
 use Rattle.std.proofs.lemmas.Result.{err_from_is_err_and}
-use Rattle.apt_host.specs.Verdicts.{verdict, is_finished, is_tree, is_sink, fails}
-use Rattle.apt_host.specs.Endings.{ended, of_store}
+use Rattle.project_reading.specs.Verdicts.{verdict, is_finished, is_tree, is_sink, fails}
+use Rattle.project_reading.specs.Endings.{ended, of_store}
 use Rattle.apt_host.specs.Promises.{IsFront}
 use Rattle.apt_host.proofs.Early.{unfinished_early, no_sink_early, store_early}
 use Rattle.apt_host.proofs.Writing.{nothing_yet, some_written}

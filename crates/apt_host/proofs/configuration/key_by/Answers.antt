@@ -1,5 +1,0 @@
-use Rattle.apt_host.proofs.Settling.{keys_same}
-use Rattle.apt_host.proofs.configuration.key_by.Goals as goal
-
-pub returns : goal.returns
-returns c = keys_same c.args.settings c.in_ok-list.list c.new.result c.in_ok-list.ensures c.new.ensures

@@ -1,8 +1,0 @@
-use Rattle.std.proofs.Common.{◌≡◌}
-use Rattle.apt_host.specs.Project.{enter_all}
-use Rattle.apt_host.specs.Entering.{filled}
-use Rattle.apt_host.proofs.sources.enter_each.Given as goal
-
--- the files that are left decide
-abbrev pub invariant-loop-source : goal.invariant-loop-source
-invariant-loop-source l = enter_all l.part (filled l.table l.before) l.source-iterator.rest.items ≡ enter_all l.part (filled l.fn.table l.fn.before) l.fn.sources

@@ -1,7 +1,0 @@
-use Rattle.std.proofs.Common.{◌≡◌, map}
-use Rattle.apt_host.specs.Project.{named}
-use Rattle.apt_host.proofs.sources.named_files.Given as goal
-
--- the files so far
-abbrev pub invariant-loop-source : goal.invariant-loop-source
-invariant-loop-source l = l.files ≡ map named l.yielded

@@ -1,0 +1,187 @@
+-- A project that is read: what its run is told, and its type table. All files are read before any is looked into: those of the configuration, the sources, and the stubs.
+-- Then the configuration is looked into, then each stub in order of path, then each source, and then their units enter the table in this order.
+use Rattle.std.specs.Prelude.{◌≡◌, ◌++◌, ℕ, Bool, bytes_eq, List, [], ◌∷◌, map, Result, Ok, Err, if◌then◌else◌}
+use Rattle.std.specs.List.{list_any, AllByRecursion}
+use Rattle.apt_base.specs.declared.kinds.What.{What}
+use Rattle.apt_base.specs.declared.kinds.What.TheVariants.{Types}
+use Rattle.apt_outside.specs.Count.{Told}
+use Rattle.apt_outside.specs.Files.{Files}
+use Rattle.file_answers.specs.Flaws.{Flaw, Bad, TooLarge, Reading}
+use Rattle.file_readings.specs.FileReadings.{reading_of}
+use Rattle.element_table.specs.declared.part.Part.{Part}
+use Rattle.element_table.specs.declared.part.Part.TheVariants.{Source, Stub}
+use Rattle.element_table.specs.TypeTable.{TypeTable, empty_table}
+use Rattle.tree_store.specs.declared.sources.RawSource.{RawSource}
+use Rattle.tree_store.specs.declared.sources.RawSources.{RawSources}
+use Rattle.tree_store.specs.Sources.{sources_of, IsBefore}
+use Rattle.project_units.specs.declared.project.Project.{Project}
+use Rattle.project_units.specs.Refusals.{Refusal, BadStub, BadSource, DuplicateType, past}
+use Rattle.project_units.specs.Plans.{Plan, plan_of}
+use Rattle.project_units.specs.Units.{Obstacle, Duplicate, Full, Entered, enter_units, and_then}
+use Rattle.project_reading.specs.declared.sources.ReadSource.{ReadSource}
+use Rattle.project_reading.specs.declared.sources.ReadSources.{ReadSources}
+use Rattle.project_reading.specs.declared.sources.EnteredSource.{EnteredSource}
+use Rattle.project_reading.specs.declared.sources.Tables.{Tables}
+use Rattle.project_reading.specs.Configuration.{Options, Configuration, files_of, plan_by, IsKeyOf}
+
+-- ---- the files are read
+
+-- the refusal of a project whose file at this path has no reading: a source, or a stub
+abbrev pub bad_at : Part → List ℕ → ℕ → Refusal
+bad_at Source path place = BadSource path place
+bad_at Stub path place = BadStub path place
+
+-- so, or by the limit that it passes
+abbrev pub unread_at : Part → List ℕ → Flaw → Refusal
+unread_at part path (Bad place) = bad_at part path place
+unread_at part path (TooLarge what) = past what
+
+abbrev pub read_by : Part → List ℕ → Reading → Result ReadSource Refusal
+read_by part path (Ok units) = Ok (record { path = path; units = units })
+read_by part path (Err flaw) = Err (unread_at part path flaw)
+
+abbrev pub read_source : Part → RawSource → Result ReadSource Refusal
+read_source part source = read_by part source.path (reading_of source.path source.bytes)
+
+-- files of one part behind those that were read, up to the first that is refused
+abbrev pub read_from : Part → List ReadSource → List RawSource → Result (List ReadSource) Refusal
+read_from part done [] = Ok done
+read_from part done (source ∷ sources) = and_then (read_source part source) (λ read. read_from part (done ++ read ∷ []) sources)
+
+abbrev pub read_all : Part → List RawSource → Result (List ReadSource) Refusal
+read_all part sources = read_from part [] sources
+
+-- the stubs that were read, with the sources
+abbrev pub read_beside : List RawSource → List ReadSource → Result ReadSources Refusal
+read_beside sources stubs = and_then (read_all Source sources) (λ read. Ok (record { stubs = stubs; sources = read }))
+
+-- all stubs and then all sources
+abbrev pub read_both : RawSources → Result ReadSources Refusal
+read_both files = and_then (read_all Stub files.stubs) (read_beside files.sources)
+
+-- ---- their units are entered
+
+-- a file gave a unit of this name
+abbrev pub gives : List ℕ → EnteredSource → Bool
+gives name source = list_any (bytes_eq name) source.names
+
+-- the path of the first of these files that gave a unit of this name, or else this one
+abbrev pub first_with : List ℕ → List EnteredSource → List ℕ → List ℕ
+first_with name [] path = path
+first_with name (source ∷ sources) path = if gives name source then source.path else first_with name sources path
+
+-- a table, and the files whose units are in it
+pub record Filled : Type 0 where
+  pub table : TypeTable
+  pub sources : List EnteredSource
+
+-- what comes of the units of the file at this path, behind these files
+abbrev pub enter_by : List EnteredSource → List ℕ → Result Entered Obstacle → Result Filled Refusal
+enter_by before path (Ok entered) = Ok (record { table = entered.table; sources = before ++ (record { path = path; names = entered.names }) ∷ [] })
+enter_by before path (Err (Duplicate name)) = Err (DuplicateType name (first_with name before path) path)
+enter_by before path (Err Full) = Err (past Types)
+
+abbrev pub enter_next : Part → Filled → ReadSource → Result Filled Refusal
+enter_next part filled source = enter_by filled.sources source.path (enter_units part filled.table source.units)
+
+-- files of one part are entered one after another, up to the first of which a unit can't be
+abbrev pub enter_all : Part → Filled → List ReadSource → Result Filled Refusal
+enter_all part filled [] = Ok filled
+enter_all part filled (source ∷ sources) = and_then (enter_next part filled source) (λ next. enter_all part next sources)
+
+abbrev pub nothing_entered : Filled
+nothing_entered = record { table = empty_table; sources = [] }
+
+-- the table of the stubs alone, and that of the stubs and the sources
+abbrev pub enter_behind : List ReadSource → Filled → Result Tables Refusal
+enter_behind sources stubs = and_then (enter_all Source stubs sources) (λ all. Ok (record { stubs = stubs.table; initial = all.table }))
+
+-- the stubs enter an empty table, and then the sources enter it
+abbrev pub enter_both : ReadSources → Result Tables Refusal
+enter_both read = and_then (enter_all Stub nothing_entered read.stubs) (enter_behind read.sources)
+
+-- the tables of these files: all are read before the first is entered
+abbrev pub tables_of : RawSources → Result Tables Refusal
+tables_of files = and_then (read_both files) enter_both
+
+-- ---- a project that was read
+
+-- what its run is told, and its type table
+pub record Read : Type 0 where
+  pub plan : Plan
+  pub table : TypeTable
+
+abbrev pub read_with : Plan → Result Tables Refusal → Result Read Refusal
+read_with plan entered = and_then entered (λ tables. Ok (record { plan = plan; table = tables.initial }))
+
+-- files within their limits: what they say, the configuration before the stubs and the sources
+abbrev pub look_into : Options → Configuration → RawSources → Result Read Refusal
+look_into options configuration files = and_then (plan_by options configuration) (λ plan. read_with plan (tables_of files))
+
+-- the sources and the stubs of a tree, or the limit that they pass
+abbrev pub within_limits : Result RawSources What → Result RawSources Refusal
+within_limits (Ok files) = Ok files
+within_limits (Err what) = Err (past what)
+
+abbrev pub read_behind : Options → Files → Configuration → Result Read Refusal
+read_behind options project configuration = and_then (within_limits (sources_of project)) (look_into options configuration)
+
+-- a project with these options of the words
+abbrev pub read_of : Options → Files → Result Read Refusal
+read_of options project = and_then (files_of project) (read_behind options project)
+
+-- ---- the least path
+
+-- Reading stops at the first file of its part, in order of path, that is refused: all before it were read.
+pub record StopsAt (part : Part) (sources : List RawSource) (refusal : Refusal) : Type 0 where
+  pub before : List RawSource
+  pub source : RawSource
+  pub after : List RawSource
+  pub split : sources ≡ before ++ source ∷ after
+  pub read : List ReadSource
+  pub others_read : read_all part before ≡ Ok read
+  pub refused : read_source part source ≡ Err refusal
+  pub path_is : (path : List ℕ) (place : ℕ) → refusal ≡ bad_at part path place → path ≡ source.path
+
+-- it was read
+abbrev pub IsRead : Part → RawSource → Type 0
+IsRead part source = (read : ReadSource) × (read_source part source ≡ Ok read)
+
+-- Of these files of one part one is refused, and all with a lesser path were read.
+pub record IsLeast (part : Part) (sources : List RawSource) (refusal : Refusal) : Type 0 where
+  pub before : List RawSource
+  pub source : RawSource
+  pub after : List RawSource
+  pub split : sources ≡ before ++ source ∷ after
+  pub refused : read_source part source ≡ Err refusal
+  pub lesser : AllByRecursion (λ (other : RawSource). IsBefore other.path source.path → IsRead part other) sources
+
+-- where the stubs of a project are refused, or its sources, it is for the least of them by its path that is
+pub record LeastIsRefused : Type 0 where
+  pub stubs : (files : Files) (raw : RawSources) (refusal : Refusal) → sources_of files ≡ Ok raw → read_all Stub raw.stubs ≡ Err refusal → IsLeast Stub raw.stubs refusal
+  pub sources : (files : Files) (raw : RawSources) (refusal : Refusal) → sources_of files ≡ Ok raw → read_all Source raw.sources ≡ Err refusal → IsLeast Source raw.sources refusal
+
+-- ---- the files that are kept
+
+-- a file by its path and its bytes
+abbrev pub named : RawSource → List ℕ × List ℕ
+named source = (source.path, source.bytes)
+
+-- A project has the key of its configuration, with these options of the words, and of its stubs; it keeps the sources and the stubs that were read, and has the units of the stubs alone
+-- beside all of them. The files are those of its tree, where that tells what it holds.
+pub record KeepsAll (tells : Bool) (options : Options) (files : Files) (project : Project) : Type 0 where
+  pub configuration : Configuration
+  pub is_configuration : Told tells (files_of files ≡ Ok configuration)
+  pub given : RawSources
+  pub are_given : Told tells (sources_of files ≡ Ok given)
+  pub sources : project.sources ≡ map named given.sources
+  pub key : IsKeyOf options configuration (map named given.stubs) project.key
+  pub tables : tables_of given ≡ Ok (record { stubs = project.stubs; initial = project.initial })
+
+-- the same, as a word that proofs above do not open
+unfoldable pub Keeps : Bool → Options → Files → Project → Type 0
+Keeps tells options files project = KeepsAll tells options files project
+
+-- a project that was read
+abbrev pub shown_project : Project → Read
+shown_project project = record { plan = plan_of project.key; table = project.initial }

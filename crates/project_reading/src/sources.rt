@@ -1,0 +1,289 @@
+// The sources and the stubs of a project: what they read as, and the type tables that their units make.
+ghost use Rattle.std.specs.Prelude.{◌≡◌, ◌≤◌, length, map, IfOk, IfErr, None, false};
+ghost use Rattle.tree_store.specs.Sources.{AreShort, AreAllShort};
+ghost use Rattle.project_reading.specs.Verdicts.{verdict, named_in, Refused, OrMemory};
+ghost use Rattle.project_reading.specs.Endings.{EndsEarly};
+ghost use Rattle.project_reading.specs.Project.{bad_at, read_source, read_all, read_both, gives, first_with, enter_next, enter_all, enter_both, tables_of, named};
+ghost use Rattle.project_reading.specs.Entering.{of_unread, given_again, of_units, filled, IsDueRead, ComesTo, Fills, StopsLeast};
+
+use crate::Status;
+use apt_base::{List, Name, NoMemory, What};
+use decl_parser::ParseFault;
+use decl_tree::Unit;
+use element_table::{Part, Table};
+use file_readings::read_declarations;
+use project_units::{UnitFault, enter_units, limit_of};
+use std::alloc::Global;
+use tree_store::{RawSource, RawSources};
+
+/// A file that was read, a source or a stub.
+#[derive(Drop)]
+pub struct ReadSource {
+    /// Its path in the tree.
+    pub path: Name,
+    /// Its units, in order.
+    pub units: List<Unit>,
+}
+
+/// All files of a project that were read.
+#[derive(Drop)]
+pub struct ReadSources {
+    /// The stubs, ascending by path.
+    pub stubs: List<ReadSource>,
+    /// The sources, ascending by path.
+    pub sources: List<ReadSource>,
+}
+
+/// A file whose units are in the type table.
+#[derive(Drop)]
+pub struct EnteredSource {
+    /// Its path in the tree.
+    pub path: Name,
+    /// The names of its units, in order.
+    pub names: List<Name>,
+}
+
+/// The type tables of a project.
+#[derive(Drop)]
+pub struct Tables {
+    /// That of its stubs alone.
+    pub stubs: Table,
+    /// That of its stubs and its sources.
+    pub initial: Table,
+}
+
+// ---- reading
+
+// The end of a call by a file of this part, at this path, whose first fault is at this place.
+fn bad(part: Part, path: Name, place: u32) -> Status
+    ensures is { verdict result ≡ Refused (bad_at part path place) }
+    ensures early { EndsEarly (λ _. false) (verdict result) }
+    ensures unnamed { named_in (verdict result) ≡ None }
+{
+    match part {
+        Part::Source => Status::BadSource { path, place },
+        Part::Stub => Status::BadStub { path, place },
+    }
+}
+
+// The end of a call by a file of this part, at this path, that has no reading, or passes a limit.
+fn unread(part: Part, path: Name, fault: ParseFault) -> Status
+    ensures is { verdict result ≡ of_unread part path fault }
+    ensures early { EndsEarly (λ _. false) (verdict result) }
+    ensures unnamed { named_in (verdict result) ≡ None }
+{
+    match fault {
+        ParseFault::Bad { place } => bad(part, path, place),
+        ParseFault::TooLarge { what } => Status::TooLarge {
+            what,
+            limit: limit_of(what),
+        },
+        ParseFault::Memory => Status::Memory,
+    }
+}
+
+fn read_source(alloc: Global, part: Part, source: &RawSource) -> Result<ReadSource, Status>
+    requires { length source.now.bytes ≤ 8_388_608 }
+    ensures read { ComesTo (read_source part source.now) result }
+    ensures early { IfErr result (λ status. EndsEarly (λ _. false) (verdict status)) }
+    ensures unnamed { IfErr result (λ status. named_in (verdict status) ≡ None) }
+{
+    let path = source.path.copy()?;
+    match read_declarations(alloc, path.as_str(), source.bytes.as_slice()) {
+        Ok(parsed) => Ok(ReadSource {
+            path,
+            units: parsed.units,
+        }),
+        Err(fault) => Err(unread(part, path, fault)),
+    }
+}
+
+// Reads files of one part one after another, up to the first that is refused.
+fn read_each(alloc: Global, part: Part, sources: &[RawSource]) -> Result<List<ReadSource>, Status>
+    requires { AreShort sources.now }
+    ensures read { ComesTo (read_all part sources.now) result }
+    ensures early { IfErr result (λ status. EndsEarly (λ _. false) (verdict status)) }
+    ensures unnamed { IfErr result (λ status. named_in (verdict status) ≡ None) }
+{
+    let mut read = List::new(alloc);
+    for source in sources {
+        read.push(read_source(alloc, part, source)?)?;
+    }
+    Ok(read)
+}
+
+// Reads all files of one part, or refuses the first that has no reading or passes a limit: all before it were read.
+fn read_all(alloc: Global, part: Part, sources: &[RawSource]) -> Result<List<ReadSource>, Status>
+    requires { AreShort sources.now }
+    ensures read { ComesTo (read_all part sources.now) result }
+    ensures early { IfErr result (λ status. EndsEarly (λ _. false) (verdict status)) }
+    ensures unnamed { IfErr result (λ status. named_in (verdict status) ≡ None) }
+    ensures due { IfErr result (λ status. IsDueRead (verdict status)) }
+    ensures least { StopsLeast part sources.now result }
+{
+    read_each(alloc, part, sources)
+}
+
+// Reads all stubs and then all sources, up to the first that is refused.
+fn read_both(alloc: Global, files: &RawSources) -> Result<ReadSources, Status>
+    requires { AreAllShort files.now }
+    ensures read { ComesTo (read_both files.now) result }
+    ensures early { IfErr result (λ status. EndsEarly (λ _. false) (verdict status)) }
+    ensures unnamed { IfErr result (λ status. named_in (verdict status) ≡ None) }
+    ensures due { IfErr result (λ status. IsDueRead (verdict status)) }
+{
+    let stubs = read_all(alloc, Part::Stub, files.stubs.as_slice())?;
+    let sources = read_all(alloc, Part::Source, files.sources.as_slice())?;
+    Ok(ReadSources { stubs, sources })
+}
+
+// ---- entering
+
+fn gives(source: &EnteredSource, name: &Name) -> bool
+    ensures { result ≡ gives name.now source.now }
+{
+    source
+        .names
+        .as_slice()
+        .iter()
+        .any(|each| name.as_str() == each.as_str())
+}
+
+// The path of the first of these files that gave a unit of this name, or else this one.
+fn first_with<'a>(before: &'a [EnteredSource], name: &Name, path: &'a Name) -> &'a Name
+    ensures { result.now ≡ first_with name.now before.now path.now }
+{
+    for source in before {
+        if gives(source, name) {
+            return &source.path;
+        }
+    }
+    path
+}
+
+// The end of a call by a name that a file at this path gives again, or `Memory` where there is none for the other path.
+fn given_again(before: &[EnteredSource], name: Name, path: Name) -> Status
+    ensures is { OrMemory (given_again before.now name path) (verdict result) }
+    ensures early { EndsEarly (λ _. false) (verdict result) }
+    ensures unnamed { named_in (verdict result) ≡ None }
+{
+    let first = first_with(before, &name, &path).copy();
+    match first {
+        Ok(first) => Status::DuplicateType {
+            name,
+            first,
+            second: path,
+        },
+        Err(_) => Status::Memory,
+    }
+}
+
+// The end of a call by a file at this path whose units are not entered behind those of these files.
+fn unentered(before: &[EnteredSource], path: Name, fault: UnitFault) -> Status
+    ensures is { OrMemory (of_units before.now path fault) (verdict result) }
+    ensures early { EndsEarly (λ _. false) (verdict result) }
+    ensures unnamed { named_in (verdict result) ≡ None }
+{
+    match fault {
+        UnitFault::Duplicate { name } => given_again(before, name, path),
+        UnitFault::TooMany => Status::TooLarge {
+            what: What::Types,
+            limit: limit_of(What::Types),
+        },
+        UnitFault::Memory => Status::Memory,
+    }
+}
+
+fn enter_next(
+    alloc: Global,
+    table: &mut Table,
+    before: &mut List<EnteredSource>,
+    part: Part,
+    source: ReadSource,
+) -> Result<(), Status>
+    ensures fills { Fills (enter_next part (filled table.old before.old) source) table.new before.new result }
+    ensures early { IfErr result (λ status. EndsEarly (λ _. false) (verdict status)) }
+    ensures unnamed { IfErr result (λ status. named_in (verdict status) ≡ None) }
+{
+    let ReadSource { path, units } = source;
+    match enter_units(alloc, table, part, units) {
+        Ok(names) => {
+            before.push(EnteredSource { path, names })?;
+            Ok(())
+        }
+        Err(fault) => Err(unentered(before.as_slice(), path, fault)),
+    }
+}
+
+// Enters the units of files of one part one after another, up to the first that has one which cannot be entered.
+fn enter_each(
+    alloc: Global,
+    table: &mut Table,
+    before: &mut List<EnteredSource>,
+    part: Part,
+    sources: List<ReadSource>,
+) -> Result<(), Status>
+    ensures fills { Fills (enter_all part (filled table.old before.old) sources) table.new before.new result }
+    ensures early { IfErr result (λ status. EndsEarly (λ _. false) (verdict status)) }
+    ensures unnamed { IfErr result (λ status. named_in (verdict status) ≡ None) }
+{
+    for source in sources.into_vec() {
+        enter_next(alloc, table, before, part, source)?;
+    }
+    Ok(())
+}
+
+// Enters the units of all stubs into an empty table and then those of all sources, or refuses the first file that has one which
+// cannot be entered: all before it were.
+fn enter_both(alloc: Global, read: ReadSources) -> Result<Tables, Status>
+    ensures units { ComesTo (enter_both read) result }
+    ensures early { IfErr result (λ status. EndsEarly (λ _. false) (verdict status)) }
+    ensures unnamed { IfErr result (λ status. named_in (verdict status) ≡ None) }
+{
+    let ReadSources { stubs, sources } = read;
+    let mut initial = Table::new(alloc);
+    let mut before = List::new(alloc);
+    enter_each(alloc, &mut initial, &mut before, Part::Stub, stubs)?;
+    let alone = initial.copy(alloc)?;
+    enter_each(alloc, &mut initial, &mut before, Part::Source, sources)?;
+    Ok(Tables {
+        stubs: alone,
+        initial,
+    })
+}
+
+/// The type tables of these files, or the first refusal: all files are read before the units of the first are entered, each time the
+/// stubs before the sources and each part in order of path.
+pub fn tables_of(alloc: Global, files: &RawSources) -> Result<Tables, Status>
+    requires { AreAllShort files.now }
+    ensures tables { ComesTo (tables_of files.now) result }
+    ensures early { IfErr result (λ status. EndsEarly (λ _. false) (verdict status)) }
+    ensures unnamed { IfErr result (λ status. named_in (verdict status) ≡ None) }
+    ensures due { IfErr result (λ status. IsDueRead (verdict status)) }
+{
+    let read = read_both(alloc, files)?;
+    enter_both(alloc, read)
+}
+
+// ---- keeping
+
+fn named_file(source: RawSource) -> (Name, List<u8>)
+    ensures { result ≡ named source }
+{
+    let RawSource { path, bytes } = source;
+    (path, bytes)
+}
+
+/// Files as their paths and their bytes. It fails only for want of memory.
+pub fn named_files(
+    alloc: Global,
+    sources: List<RawSource>,
+) -> Result<List<(Name, List<u8>)>, NoMemory>
+    ensures { IfOk result (λ files. files ≡ map named sources) }
+{
+    let mut files = List::new(alloc);
+    for source in sources.into_vec() {
+        files.push(named_file(source))?;
+    }
+    Ok(files)
+}

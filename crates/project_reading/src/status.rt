@@ -1,0 +1,291 @@
+// How a call of `run` ends.
+ghost use Rattle.std.specs.Prelude.{◌≡◌, IfOk};
+ghost use Rattle.project_units.specs.Faults.{stop_of};
+ghost use Rattle.project_reading.specs.declared.status.Status.TheVariants as code;
+ghost use Rattle.project_reading.specs.Verdicts.{verdict, stopped, code_of};
+ghost use Rattle.project_reading.specs.Endings.{of_store};
+
+use apt_base::{Claim, Name, NoMemory, What};
+use tree_store::StoreFault;
+
+/// Where a file of the configuration is off its form.
+#[derive(Drop)]
+pub enum Place {
+    /// `apt.json` is no JSON object.
+    Json,
+    /// An item of `apt.json` is, at this place, as `/level` or `/processors/NAME/command`.
+    Item(Name),
+    /// A line of one of the other files is, of this number, from 1.
+    Line(u32),
+}
+
+impl Place {
+    /// An equal place.
+    pub fn copy(&self) -> Result<Place, NoMemory>
+        ensures { IfOk result (λ place. place ≡ self.now) }
+    {
+        match self {
+            Place::Json => Ok(Place::Json),
+            Place::Item(item) => Ok(Place::Item(item.copy()?)),
+            Place::Line(line) => Ok(Place::Line(*line)),
+        }
+    }
+}
+
+/// How a call of `run` ends. A fault of the tree, the sink or the children comes only where its count rose in the call.
+#[derive(Drop)]
+pub enum Status {
+    /// The build is published.
+    Done,
+    /// A processor printed errors, and nothing is published.
+    Errors {
+        /// How many.
+        count: u64,
+    },
+    /// The words are none of the table's.
+    BadWords {
+        /// The position, from 0, of the first word that no line of the table has there, or the number of
+        /// words where one is missing.
+        at: u64,
+    },
+    /// A file of the configuration is not of its form: `apt.json`, or one of the two below `res/META-INF`.
+    BadConfig {
+        /// The path of the file, the first of the three that is off its form.
+        path: Name,
+        /// The first place in it that is.
+        place: Place,
+    },
+    /// `apt.json` has no row for a processor that is named, by its `order` or by the file of services.
+    UnknownProcessor {
+        /// The first such name, in the order of discovery.
+        name: Name,
+    },
+    /// A stub has no reading.
+    BadStub {
+        /// The least path of such a stub.
+        path: Name,
+        /// The offset of its first fault, in bytes.
+        place: u32,
+    },
+    /// A source has no reading.
+    BadSource {
+        /// The least path of such a source.
+        path: Name,
+        /// The offset of its first fault, in bytes.
+        place: u32,
+    },
+    /// Two places of the project give one name: two of its sources and stubs, or one of them twice.
+    DuplicateType {
+        /// The canonical name of the type, or that of the unit of its package, which ends in `package-info`.
+        name: Name,
+        /// The path of the file that gave it first: the stubs come before the sources, and each in the order of their paths.
+        first: Name,
+        /// The path of the one that gave it again.
+        second: Name,
+    },
+    /// A created source that is to be read has no reading.
+    BadGenerated {
+        /// Its path in the output.
+        path: Name,
+        /// The offset of its first fault, in bytes.
+        place: u32,
+    },
+    /// A child's bytes are not the frames that can be read so far, in their order, or it ended inside a frame.
+    UnbuiltTalk {
+        /// The processor's name.
+        processor: Name,
+    },
+    /// A child asked more often in one round than it may.
+    TooManyQuestions {
+        /// The processor's name.
+        processor: Name,
+        /// How often it may.
+        limit: u32,
+    },
+    /// A child was done with a round, and said another thing of the claim than its processor had declared (JSR 269,
+    /// `Processor.process`).
+    ClaimBroken {
+        /// The processor's name.
+        processor: Name,
+        /// What it declared: `Always` or `Never`.
+        declared: Claim,
+        /// What the child said.
+        said: bool,
+    },
+    /// A created source gives a type that is there (JSR 269, `Filer`).
+    GeneratedDuplicate {
+        /// The canonical name of the type.
+        name: Name,
+    },
+    /// Round 64 would not be the last.
+    TooManyRounds,
+    /// What is counted passes its limit: the bytes of a file of the configuration, the sources or the stubs, the bytes of one of them or
+    /// of all sources or all stubs, the processors, the bytes of a first frame to a processor, what is nested in a Java file, the children
+    /// of an element, the bytes of a canonical name, or the types of the table.
+    TooLarge {
+        /// Which limit.
+        what: What,
+        /// How much there may be.
+        limit: u32,
+    },
+    /// A call of the tree failed.
+    TreeFault,
+    /// A call of the sink failed.
+    SinkFault,
+    /// A call of the children failed.
+    ChildFault {
+        /// The processor's name.
+        processor: Name,
+    },
+    /// Want of memory.
+    Memory,
+}
+
+impl From<project_units::Refusal> for Status {
+    ghost from_gives = { λ refusal e. verdict e ≡ stopped (stop_of refusal) };
+
+    fn from(refusal: project_units::Refusal) -> Status {
+        match refusal {
+            project_units::Refusal::ChildFault { processor } => Status::ChildFault { processor },
+            project_units::Refusal::UnbuiltTalk { processor } => Status::UnbuiltTalk { processor },
+            project_units::Refusal::TooManyQuestions { processor, limit } => {
+                Status::TooManyQuestions { processor, limit }
+            }
+            project_units::Refusal::ClaimBroken {
+                processor,
+                declared,
+                said,
+            } => Status::ClaimBroken {
+                processor,
+                declared,
+                said,
+            },
+            project_units::Refusal::BadGenerated { path, place } => {
+                Status::BadGenerated { path, place }
+            }
+            project_units::Refusal::GeneratedDuplicate { name } => {
+                Status::GeneratedDuplicate { name }
+            }
+            project_units::Refusal::TooManyRounds => Status::TooManyRounds,
+            project_units::Refusal::TooLarge { what, limit } => Status::TooLarge { what, limit },
+            project_units::Refusal::Memory => Status::Memory,
+        }
+    }
+}
+
+impl From<StoreFault> for Status {
+    ghost from_gives = { λ fault e. e ≡ of_store fault };
+
+    fn from(fault: StoreFault) -> Status {
+        match fault {
+            StoreFault::Failed => Status::TreeFault,
+            StoreFault::Memory => Status::Memory,
+        }
+    }
+}
+
+impl From<NoMemory> for Status {
+    ghost from_gives = { λ _ e. e ≡ code.Memory };
+
+    fn from(_: NoMemory) -> Status {
+        Status::Memory
+    }
+}
+
+impl Status {
+    /// An equal status.
+    pub fn copy(&self) -> Result<Status, NoMemory>
+        ensures { IfOk result (λ status. status ≡ self.now) }
+    {
+        match self {
+            Status::Done => Ok(Status::Done),
+            Status::Errors { count } => Ok(Status::Errors { count: *count }),
+            Status::BadWords { at } => Ok(Status::BadWords { at: *at }),
+            Status::BadConfig { path, place } => Ok(Status::BadConfig {
+                path: path.copy()?,
+                place: place.copy()?,
+            }),
+            Status::UnknownProcessor { name } => Ok(Status::UnknownProcessor {
+                name: name.copy()?,
+            }),
+            Status::BadStub { path, place } => Ok(Status::BadStub {
+                path: path.copy()?,
+                place: *place,
+            }),
+            Status::BadSource { path, place } => Ok(Status::BadSource {
+                path: path.copy()?,
+                place: *place,
+            }),
+            Status::DuplicateType {
+                name,
+                first,
+                second,
+            } => Ok(Status::DuplicateType {
+                name: name.copy()?,
+                first: first.copy()?,
+                second: second.copy()?,
+            }),
+            Status::BadGenerated { path, place } => Ok(Status::BadGenerated {
+                path: path.copy()?,
+                place: *place,
+            }),
+            Status::UnbuiltTalk { processor } => Ok(Status::UnbuiltTalk {
+                processor: processor.copy()?,
+            }),
+            Status::TooManyQuestions { processor, limit } => Ok(Status::TooManyQuestions {
+                processor: processor.copy()?,
+                limit: *limit,
+            }),
+            Status::ClaimBroken {
+                processor,
+                declared,
+                said,
+            } => Ok(Status::ClaimBroken {
+                processor: processor.copy()?,
+                declared: *declared,
+                said: *said,
+            }),
+            Status::GeneratedDuplicate { name } => {
+                Ok(Status::GeneratedDuplicate { name: name.copy()? })
+            }
+            Status::TooManyRounds => Ok(Status::TooManyRounds),
+            Status::TooLarge { what, limit } => Ok(Status::TooLarge {
+                what: *what,
+                limit: *limit,
+            }),
+            Status::TreeFault => Ok(Status::TreeFault),
+            Status::SinkFault => Ok(Status::SinkFault),
+            Status::ChildFault { processor } => Ok(Status::ChildFault {
+                processor: processor.copy()?,
+            }),
+            Status::Memory => Ok(Status::Memory),
+        }
+    }
+
+    /// The exit status of a program that ends so.
+    pub fn code(&self) -> u8
+        ensures { result ≡ code_of (verdict self.now) }
+    {
+        match self {
+            Status::Done => 0,
+            Status::Errors { .. } => 1,
+            Status::BadWords { .. } => 2,
+            Status::Memory => 3,
+            Status::TreeFault => 4,
+            Status::SinkFault => 5,
+            Status::ChildFault { .. } => 7,
+            Status::TooManyQuestions { .. } => 11,
+            Status::ClaimBroken { .. } => 12,
+            Status::BadConfig { .. } => 13,
+            Status::BadStub { .. } => 14,
+            Status::BadSource { .. } => 15,
+            Status::DuplicateType { .. } => 16,
+            Status::UnknownProcessor { .. } => 17,
+            Status::BadGenerated { .. } => 18,
+            Status::GeneratedDuplicate { .. } => 19,
+            Status::TooManyRounds => 20,
+            Status::TooLarge { .. } => 21,
+            Status::UnbuiltTalk { .. } => 26,
+        }
+    }
+}
