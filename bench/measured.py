@@ -11,7 +11,6 @@ crates below kept it proves the program alone, which takes minutes; else it prov
 
 The built program is kept in bench/built until a file that it is made of changes.
 """
-import hashlib
 import os
 import shutil
 import subprocess
@@ -19,7 +18,10 @@ import sys
 import tempfile
 
 HERE = os.path.dirname(os.path.abspath(__file__))
-ROOT = os.path.dirname(HERE)
+sys.path.append(os.path.join(HERE, "..", "tools"))
+
+from laid_out import checksum, kept_checksum, lay_out  # noqa: E402
+
 SOURCES = os.path.join(HERE, "measured")
 BUILT = os.path.join(HERE, "built")
 NAME = "measured"
@@ -32,69 +34,6 @@ USED = [
 
 # The words with which `rt ci` runs the program, which is to print nothing then.
 PRINTS_NOTHING = ["files", "whole", os.devnull]
-
-
-def listed_crates():
-    """Each crate of the repository with its line and the crates and libraries that it uses."""
-    crates = {}
-    with open(os.path.join(ROOT, "crates.txt"), encoding="utf-8") as file:
-        for line in file:
-            line = line.partition("#")[0].strip()
-            if line:
-                called, _, uses = line.partition(":")
-                crates[called.split()[0]] = line, uses.split()
-    return crates
-
-
-def crates_below():
-    """The lines of the crates that the program stands on, by their names."""
-    listed, below, left = listed_crates(), {}, list(USED)
-    while left:
-        name = left.pop()
-        if name in listed and name not in below:
-            below[name], uses = listed[name]
-            left.extend(uses)
-    return below
-
-
-def lay_out(folder):
-    """Makes a repository of the program and the crates below it, and gives the folder of the program's crate."""
-    below = crates_below()
-    for name in below:
-        unused = shutil.ignore_patterns("out", "must-fail")
-        shutil.copytree(os.path.join(ROOT, "crates", name), os.path.join(folder, "crates", name), ignore=unused)
-    with open(os.path.join(folder, "crates.txt"), "w", encoding="utf-8") as file:
-        file.writelines(f"{line}\n" for line in [*below.values(), f"{NAME}: {' '.join(USED)}"])
-    shutil.copy(os.path.join(ROOT, "HANDLES"), folder)
-    crate = os.path.join(folder, "crates", NAME)
-    os.makedirs(os.path.join(crate, "src"))
-    for source in os.listdir(SOURCES):
-        called, _ = os.path.splitext(source)
-        shutil.copy(os.path.join(SOURCES, source), os.path.join(crate, "src", called + ".rt"))
-    with open(os.path.join(crate, "args"), "w", encoding="ascii") as file:
-        file.writelines(f"{word}\n" for word in PRINTS_NOTHING)
-    return crate
-
-
-def checksum(folder):
-    """A checksum of all files below a folder, with their paths."""
-    total = hashlib.sha256()
-    for where, folders, files in os.walk(folder):
-        folders.sort()
-        for name in sorted(files):
-            path = os.path.join(where, name)
-            with open(path, "rb") as file:
-                total.update(f"{os.path.relpath(path, folder)} {hashlib.sha256(file.read()).hexdigest()}\n".encode())
-    return total.hexdigest()
-
-
-def kept_checksum():
-    """The checksum of what the built program was made of; None where there is no such program."""
-    try:
-        with open(os.path.join(BUILT, NAME + ".checksum"), encoding="ascii") as file:
-            return file.read()
-    except FileNotFoundError:
-        return None
 
 
 def build(crate, made_of):
@@ -114,9 +53,11 @@ def build(crate, made_of):
 def program():
     """The path of the built program."""
     with tempfile.TemporaryDirectory(prefix="apt-bench-measured-") as folder:
-        crate = lay_out(folder)
+        crate = lay_out(folder, NAME, SOURCES, USED)
+        with open(os.path.join(crate, "args"), "w", encoding="ascii") as file:
+            file.writelines(f"{word}\n" for word in PRINTS_NOTHING)
         made_of = checksum(folder)
-        if made_of != kept_checksum():
+        if made_of != kept_checksum(os.path.join(BUILT, NAME + ".checksum")):
             build(crate, made_of)
     return os.path.join(BUILT, NAME)
 

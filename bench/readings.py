@@ -5,7 +5,7 @@
 
 COUNT compilation units (2,000 where it is left out) are made from SEED (1) by the grammar of declarations of JLS 11, ordinary
 ones and files package-info.java, and of each some texts in which one or two tokens are deleted, doubled, swapped, replaced,
-put in, or cut off with all behind them. Each is read by the program `shape_cases`, which is crates/shape_cases/out/shape_cases
+put in, or cut off with all behind them. Each is read by the table `shape_cases` of the program of cases, which is out/cases/cases
 unless another build of it is named, and by the parser (com.sun.source, `--release 11`).
 
 Bodies are passed over by the program, and initialisers and values mostly, so most bodies are empty and most values short. What the
@@ -27,7 +27,7 @@ import tempfile
 
 import jdk
 
-PROGRAM = os.path.join(jdk.HERE, "..", "crates", "shape_cases", "out", "shape_cases")
+PROGRAM = os.path.join(jdk.HERE, "..", "out", "cases", "cases")
 
 # How many texts are made of each unit, and how many that no rule names are printed.
 CHANGES, TOLD = 3, 20
@@ -227,7 +227,7 @@ def lines_of(command, lines):
 def readings_of_program(program, texts):
     readings = []
     calls = [f"{'info_limits' if info else 'limits'} {in_words(tokens)}" for info, tokens in texts]
-    for text, line in zip(texts, lines_of([program], calls)):
+    for text, line in zip(texts, lines_of([program, "shape_cases"], calls)):
         said = line.partition(" = ")[2]
         code, _, number = said.partition(" ")
         if code not in ("units", "bad"):
@@ -407,7 +407,7 @@ def main():
     parser.add_argument("seed", nargs="?", type=int, default=1)
     words = parser.parse_args()
     if not os.path.exists(words.program):
-        sys.exit(f"there is no program {words.program}: build it by 'rt run' in crates/shape_cases")
+        sys.exit(f"there is no program {words.program}: tests/cases.py builds it")
     if not jdk.is_there():
         sys.exit("there is no JDK")
     whole, others = make_texts(words.count, words.seed)

@@ -1,2 +1,0 @@
-// Names, lists, elements and fields.
-pub use apt_base::{ElementRef, FieldWriter, List, Name, NoMemory};

@@ -1,2 +1,0 @@
-// Names and lists.
-pub use apt_base::{Claim, Kind, List, Name, What};
