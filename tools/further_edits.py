@@ -46,7 +46,7 @@ IMPL = re.compile(r"(?:unsafe )?impl(?:<.*?>)?\s+(?=[A-Z(\[&])(.*?)\s*\{?\s*$")
 HEAD = re.compile(r"(\s*)(?:pub(?:\([a-z]+\))? )?(const )?fn (\w+)")
 TYPE = re.compile(r"(?:pub(?:\([a-z]+\))? )?(?:struct|enum) (\w+)")
 CYCLE = re.compile(r"\s*#\[cycle\((\w+)\)\]")
-CONSTANT = re.compile(r"\s*(?:pub(?:\([a-z]+\))? )?const ([A-Z]\w*)")
+CONSTANT = re.compile(r"(?:pub(?:\([a-z]+\))? )?(?:const|static) ([A-Z]\w*)")
 
 
 @dataclass(frozen=True)
@@ -248,6 +248,17 @@ def read_edit(file, source):
     return edit
 
 
+def read_edits(files, source):
+    """Reads edits, and gives those that fit and the verdicts on the others."""
+    edits, verdicts = [], {}
+    for file in files:
+        try:
+            edits.append(read_edit(file, source))
+        except BadEdit as why:
+            verdicts[file.stem] = BAD, str(why)
+    return edits, verdicts
+
+
 def functions_at(source, path, old):
     """The functions that a text stands in, or that name the constant that it stands in, with their files, by the folders of their proofs."""
     text = source.code[path]
@@ -359,12 +370,7 @@ class Trial:
 
     def tries(self, files):
         """Each edit with its verdict."""
-        edits, verdicts = [], {}
-        for file in files:
-            try:
-                edits.append(read_edit(file, self.source))
-            except BadEdit as why:
-                verdicts[file.stem] = BAD, str(why)
+        edits, verdicts = read_edits(files, self.source)
         groups = [[unedited(edits)]] if edits and self.bench.is_unedited else groups_of(edits, self.source)
         for group in groups:
             verdicts |= self.settled(group)
@@ -527,15 +533,34 @@ def wanted(asked):
     return found
 
 
+def files_of(folders):
+    """The edits in these folders."""
+    return sorted(file for folder in folders for file in folder.glob("*.edit"))
+
+
+def show(crate, verdicts):
+    """Prints the verdicts on edits of a crate."""
+    for name, (word, why) in sorted(verdicts.items()):
+        print(f"{crate}/{name}: {word}: {why}", flush=True)
+
+
 def tried(crate, folders, bench):
     """Tries the edits of a crate, prints each verdict, and gives the words and how many checks they took."""
     lane = bench.lanes.get()
     trial = Trial(crate, bench, lane)
-    verdicts = trial.tries(sorted(file for folder in folders for file in folder.glob("*.edit")))
+    verdicts = trial.tries(files_of(folders))
     bench.lanes.put(lane)
-    lines = [f"{crate}/{name}: {word}: {why}" for name, (word, why) in sorted(verdicts.items())]
-    print("\n".join(lines), flush=True)
+    show(crate, verdicts)
     return [word for word, _ in verdicts.values()], trial.checks
+
+
+def look(crates):
+    """Prints which edits do not fit the text, and gives the exit status."""
+    found = {crate: read_edits(files_of(folders), Source(CRATES / crate)) for crate, folders in crates.items()}
+    for crate, (_, misfits) in found.items():
+        show(crate, misfits)
+    print(f"{sum(len(edits) for edits, _ in found.values())} edits fit")
+    return 1 if any(misfits for _, misfits in found.values()) else 0
 
 
 def summary(found, checks):
@@ -553,6 +578,7 @@ def read_words():
     words.add_argument("--gate", action="store_true", help="a quick look at the edits of must-fail/, in place of the further ones")
     words.add_argument("--both", action="store_true", help="those of must-fail/ and the further ones together")
     words.add_argument("--unedited", action="store_true", help="check the functions that the edits change as they stand: all must be let through")
+    words.add_argument("--look", action="store_true", help="check nothing, and only say which edits do not fit the text as it stands")
     words.add_argument("--jobs", type=int, default=1, metavar="N", help="how many crates are tried at a time (1)")
     words.add_argument("--kept", type=Path, metavar="FOLDER", help="where what is read is kept for the next run; a new folder if it is left out")
     return words.parse_args()
@@ -561,6 +587,8 @@ def read_words():
 def main():
     asked = read_words()
     crates = wanted(asked)
+    if asked.look:
+        return look(crates)
     work = (asked.kept or Path(tempfile.mkdtemp(prefix="further-edits-"))).resolve()
     bench = Bench(work, asked.jobs, asked.unedited)
     with ThreadPoolExecutor(asked.jobs) as pool:
