@@ -5,6 +5,7 @@ use Rattle.decl_grammar.specs.declared.symbol.Symbol.{Symbol}
 use Rattle.decl_grammar.specs.declared.fault.ReadFault.{ReadFault}
 use Rattle.decl_grammar.specs.declared.fault.ReadFault.TheVariants as faults
 use Rattle.decl_grammar.specs.Symbols.{operator}
+use Rattle.decl_grammar.specs.TokenNames as token
 use Rattle.decl_grammar.specs.Reading.{has, starts, Outcome, done, Gives}
 use Rattle.decl_grammar.specs.Form.{Form, many, first, nullable}
 use Rattle.decl_grammar.specs.Types.{sign, before}
@@ -30,7 +31,7 @@ use Rattle.decl_children.specs.Fronts.{ReadOrNone}
 -- An item begins at the last symbol, and before it stand items with a comma behind each, with which there are too many behind so many.
 abbrev pub RowFull : {A : Type 0} → Form A → ℕ → List Symbol → Type 0
 RowFull {A} f n ts =
-    (front : List Symbol) × (next : Symbol) × (items : List A) × (ts ≡ front ++ next ∷ []) × IsPhrase (many (before f (sign 7))) front items × OpensWith f next × (most ≤ n + length items)
+    (front : List Symbol) × (next : Symbol) × (items : List A) × (ts ≡ front ++ next ∷ []) × IsPhrase (many (before f (sign token.comma))) front items × OpensWith f next × (most ≤ n + length items)
 
 abbrev pub RowCrowds : {A : Type 0} → Form A → ℕ → List Symbol → Type 0
 RowCrowds f n ts = SomeFront (RowFull f n) ts
@@ -83,13 +84,13 @@ record Parted {A : Type 0} (f : Form A) (n : ℕ) (ts : List Symbol) : Type 0 wh
   later : List Symbol
   value : A
   parts : ts ≡ item ++ comma ∷ later
-  is_comma : comma.sort ≡ operator 7
+  is_comma : comma.sort ≡ operator token.comma
   whole : IsPhrase f item value
   behind : RowCrowds f (suc n) later
 
 -- a row with a first item is parted
 parted : {A : Type 0} (f : Form A) (n : ℕ) (ts us vs : List Symbol) (x : A) (xs : List A) → ts ≡ us ++ vs → (front : List Symbol) (next : Symbol) → us ≡ front ++ next ∷ []
-    → IsPhrase (many (before f (sign 7))) front (x ∷ xs) → OpensWith f next → most ≤ n + suc (length xs) → Parted f n ts
+    → IsPhrase (many (before f (sign token.comma))) front (x ∷ xs) → OpensWith f next → most ≤ n + suc (length xs) → Parted f n ts
 parted f n ts us vs x xs all front next e is opens le =
     let each = is.1 in
     let one = each.3 in
@@ -103,7 +104,7 @@ parted f n ts us vs x xs all front next e is opens le =
       later = (each.1 ++ next ∷ []) ++ vs;
       value = one.0.0;
       parts = all ∙ ap (λ (ys : List Symbol). ys ++ vs) whole ∙ joined p.0 comma each.1 (next ∷ []) vs;
-      is_comma = eqb-true comma.sort (operator 7) p.4.1;
+      is_comma = eqb-true comma.sort (operator token.comma) p.4.1;
       whole = (is.0, p.3);
       behind = (each.1 ++ next ∷ [], vs, refl, (each.1, next, xs, refl, (is.0, each.4), opens, omega (arith, le)));
     }
@@ -112,7 +113,7 @@ parted f n ts us vs x xs all front next e is opens le =
 row-starts : {A : Type 0} (f : Form A) → nullable f ≡ false → (n : ℕ) (ts : List Symbol) → RowCrowds f n ts → starts (first f) ts ≡ true
 row-starts {A} f never n ts c = go c.3.2 c.3.4 c.3.6
   where
-    go : (items : List A) → IsPhrase (many (before f (sign 7))) c.3.0 items → most ≤ n + length items → starts (first f) ts ≡ true
+    go : (items : List A) → IsPhrase (many (before f (sign token.comma))) c.3.0 items → most ≤ n + length items → starts (first f) ts ≡ true
     go [] is le =
         let alone : ts ≡ c.3.1 ∷ c.1 = c.2 ∙ ap (λ (ys : List Symbol). ys ++ c.1) (c.3.3 ∙ ap (λ (ys : List Symbol). ys ++ c.3.1 ∷ []) is.1) in
         subst (λ (ys : List Symbol). starts (first f) ys ≡ true) (sym alone) (opens-has f c.3.1 c.3.5)
@@ -124,7 +125,7 @@ row-starts {A} f never n ts c = go c.3.2 c.3.4 c.3.6
 row-parted : {A : Type 0} (f : Form A) (n : ℕ) (ts : List Symbol) → n < most → RowCrowds f n ts → Parted f n ts
 row-parted {A} f n ts lt c = go c.3.2 c.3.4 c.3.6
   where
-    go : (items : List A) → IsPhrase (many (before f (sign 7))) c.3.0 items → most ≤ n + length items → Parted f n ts
+    go : (items : List A) → IsPhrase (many (before f (sign token.comma))) c.3.0 items → most ≤ n + length items → Parted f n ts
     go [] is le = absurd (omega (arith, lt, le))
     go (x ∷ xs) is le = parted f n ts c.0 c.1 x xs c.2 c.3.0 c.3.1 c.3.3 is c.3.5 le
 
@@ -134,11 +135,11 @@ row-parted {A} f n ts lt c = go c.3.2 c.3.4 c.3.6
 pub record IsItem {A : Type 0} (f : Form A) : Type 0 where
   pub sound : IsSound f
   pub never : nullable f ≡ false
-  pub ends : has (more f) (operator 7) ≡ false
+  pub ends : has (more f) (operator token.comma) ≡ false
 
 -- the first item is read, its comma stands behind it, and the row behind both is full
 pub row-reads : {A : Type 0} (f : Form A) → IsItem f → (room n : ℕ) (ts : List Symbol) → 3 * length ts ≤ room → n < most → RowCrowds f n ts
-    → (x : A) × (c : Symbol) × (later : List Symbol) × (reads room f ts ≡ done x (c ∷ later)) × (c.sort ≡ operator 7) × RowCrowds f (suc n) later
+    → (x : A) × (c : Symbol) × (later : List Symbol) × (reads room f ts ≡ done x (c ∷ later)) × (c.sort ≡ operator token.comma) × RowCrowds f (suc n) later
 row-reads f item room n ts fits lt crowds =
     let p = row-parted f n ts lt crowds in
     let stops : starts (more f) (p.comma ∷ p.later) ≡ false = ap (λ (k : ℕ). has (more f) k) p.is_comma ∙ item.ends in
@@ -146,7 +147,7 @@ row-reads f item room n ts fits lt crowds =
     (p.value, p.comma, p.later, ap (λ (ys : List Symbol). reads room f ys) p.parts ∙ read_there, p.is_comma, p.behind)
 
 -- and the other way round
-row-back : {A : Type 0} (f : Form A) (room n : ℕ) (ts : List Symbol) (x : A) (c : Symbol) (later : List Symbol) → reads room f ts ≡ done x (c ∷ later) → c.sort ≡ operator 7 → RowCrowds f (suc n) later → RowCrowds f n ts
+row-back : {A : Type 0} (f : Form A) (room n : ℕ) (ts : List Symbol) (x : A) (c : Symbol) (later : List Symbol) → reads room f ts ≡ done x (c ∷ later) → c.sort ≡ operator token.comma → RowCrowds f (suc n) later → RowCrowds f n ts
 row-back f room n ts x c later e is_comma crowds =
     let r = read-phrase f room ts x (c ∷ later) e in
     let us = r.0 in
@@ -154,8 +155,8 @@ row-back f room n ts x c later e is_comma crowds =
     let h = r.2.0 in
     let k = g.4.0 in
     let one = Is-up (WholeAt h) (WholeAt (above h k)) (whole-first h k) f us x r.2.1 in
-    let rest = Is-up (WholeAt k) (WholeAt (above h k)) (whole-second h k) (many (before f (sign 7))) g.0 g.2 g.4.1 in
-    let sign_there : has (operator 7 ∷ []) c.sort ≡ true = ap (λ (j : ℕ). has (operator 7 ∷ []) j) is_comma in
+    let rest = Is-up (WholeAt k) (WholeAt (above h k)) (whole-second h k) (many (before f (sign token.comma))) g.0 g.2 g.4.1 in
+    let sign_there : has (operator token.comma ∷ []) c.sort ≡ true = ap (λ (j : ℕ). has (operator token.comma ∷ []) j) is_comma in
     let behind_it : later ≡ (g.0 ++ g.1 ∷ []) ++ crowds.1 = crowds.2 ∙ ap (λ (ys : List Symbol). ys ++ crowds.1) g.3 in
     let all : ts ≡ (((us ++ c ∷ []) ++ g.0) ++ g.1 ∷ []) ++ crowds.1 = r.1 ∙ ap (λ (ys : List Symbol). us ++ c ∷ ys) behind_it ∙ sym (joined us c g.0 (g.1 ∷ []) crowds.1) in (
       ((us ++ c ∷ []) ++ g.0) ++ g.1 ∷ [],

@@ -5,6 +5,7 @@ use Rattle.std.proofs.lemmas.List.Folds.{list_any-append}
 use Rattle.decl_tree.specs.Legal.{constructs}
 use Rattle.decl_tree.specs.declared.declaration.Member.{Member, out-Member}
 use Rattle.decl_tree.specs.declared.declaration.TypeKind.TheVariants as kind
+use Rattle.decl_grammar.specs.TokenNames as token
 use Rattle.decl_tree.specs.declared.type_text.TypeText.{TypeText}
 use Rattle.decl_grammar.specs.declared.symbol.Symbol.{Symbol}
 use Rattle.decl_grammar.specs.declared.written.MemberAt.{MemberAt}
@@ -61,7 +62,7 @@ list-none : (us : List Symbol) (ms : List MemberAt) → Phrase constant_list us 
 unfolding constant_list
 list-none us ms p =
     ⊎_elim (λ (q : Phrase some_constants us ms). row-none q.is.0 us ms q.is.1)
-    (λ (q : Phrase (turn no_values (sign 7)) us ms). let t = un-turn q in subst (λ (ys : List MemberAt). NoConstructor ys) (sym t.is_value) refl)
+    (λ (q : Phrase (turn no_values (sign token.comma)) us ms). let t = un-turn q in subst (λ (ys : List MemberAt). NoConstructor ys) (sym t.is_value) refl)
     (un-either p)
 
 pub constants-none : (us : List Symbol) (ms : List MemberAt) → Phrase constants us ms → NoConstructor ms
@@ -151,7 +152,7 @@ tail-out us ms p =
       parts = b.parts ∙ (ap (λ (zs : List Symbol). zs ++ b.back) z.1 ∙ b.second.is.1.0);
       none = t.is_value ∙ ap list_or_none z.0;
     }))
-    (λ (z : (xs : List MemberAt) × (t.value ≡ Some xs) × Phrase (behind (sign 6) (turn joined_lists (many (member_form kind.Enum)))) b.front xs).
+    (λ (z : (xs : List MemberAt) × (t.value ≡ Some xs) × Phrase (behind (sign token.semicolon) (turn joined_lists (many (member_form kind.Enum)))) b.front xs).
     let c = un-behind z.2 in
     inr (record {
       semicolon = c.value;
@@ -165,14 +166,14 @@ tail-out us ms p =
 pub tail-closed : (s : Symbol) → has (64 ∷ []) s.sort ≡ true → Phrase enum_tail (s ∷ []) []
 unfolding enum_members
 tail-closed s e =
-    let brace : Phrase (sign 3) (s ∷ []) s = record { is = (0, (refl, e)) } in
-    put-before (turned list_or_none (none-there (behind (sign 6) (turn joined_lists (many (member_form kind.Enum)))))) brace
+    let brace : Phrase (sign token.close_brace) (s ∷ []) s = record { is = (0, (refl, e)) } in
+    put-before (turned list_or_none (none-there (behind (sign token.semicolon) (turn joined_lists (many (member_form kind.Enum)))))) brace
 
 pub tail-members : (s : Symbol) (us : List Symbol) (ms : List MemberAt) → has (67 ∷ []) s.sort ≡ true → Phrase (closed_members kind.Enum) us ms → Phrase enum_tail (s ∷ us) ms
 unfolding enum_members
 tail-members s us ms e p =
     let b = un-before p in
-    let semicolon : Phrase (sign 6) (s ∷ []) s = record { is = (0, (refl, e)) } in
+    let semicolon : Phrase (sign token.semicolon) (s ∷ []) s = record { is = (0, (refl, e)) } in
     moved (s ∷ us) (ap (λ (zs : List Symbol). s ∷ zs) (sym b.parts)) (put-before (turned list_or_none (some-there (put-behind semicolon b.first))) b.second)
 
 -- ---- the heading up to the `;`
@@ -205,7 +206,7 @@ constants-in us s n e p =
     let t = un-turn p in
     let a = un-behind t.whole in
     let b = un-behind a.second in
-    let semicolon : Phrase (sign 6) (s ∷ []) s = record { is = (0, (refl, e)) } in
+    let semicolon : Phrase (sign token.semicolon) (s ∷ []) s = record { is = (0, (refl, e)) } in
     let whole = turned length (put-behind a.first (put-behind b.first (put-before b.second semicolon))) in
     let parts : us ++ s ∷ [] ≡ a.front ++ (b.front ++ (b.back ++ s ∷ [])) = under a.front _ (s ∷ []) refl a.parts ∙ ap (λ (zs : List Symbol). a.front ++ zs) (under b.front _ (s ∷ []) refl b.parts) in
     means n (sym t.is_value) (moved (us ++ s ∷ []) (sym parts) whole)

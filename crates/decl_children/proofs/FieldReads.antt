@@ -5,6 +5,7 @@ use Rattle.decl_tree.specs.declared.declaration.TypeKind.{TypeKind}
 use Rattle.decl_grammar.specs.declared.symbol.Symbol.{Symbol}
 use Rattle.decl_grammar.specs.declared.written.Declarator.{Declarator}
 use Rattle.decl_grammar.specs.Symbols.{numbers, operator}
+use Rattle.decl_grammar.specs.TokenNames as token
 use Rattle.decl_grammar.specs.Reading.{has, starts, done}
 use Rattle.decl_grammar.specs.Form.{first, nullable, nest, turn, initialiser, value_end, assigned}
 use Rattle.decl_grammar.specs.Types.{behind, sign, name, named_text, dot_name, name_chain, first_pair, next_pair, pairs_or_value, annotation_arguments, annotation_body, annotation, annotations, primitive_type, named_part, next_part, class_type, dim, base_type, type_form}
@@ -53,27 +54,27 @@ not-sort s t us n m e w h f =
     first_sort [] = 0
     first_sort (x ∷ xs) = x.sort
 
-end-alone : (s : Symbol) (v : Option ValueText × List Declarator) → s.sort ≡ operator 6 → Phrase value_or_end (s ∷ []) v → v.1 ≡ []
+end-alone : (s : Symbol) (v : Option ValueText × List Declarator) → s.sort ≡ operator token.semicolon → Phrase value_or_end (s ∷ []) v → v.1 ≡ []
 unfolding value_or_end assigned_end
 end-alone s v w p =
     ⊎_elim
-    (λ (q : Phrase (behind (sign 12) (nest initialiser)) (s ∷ []) v).
+    (λ (q : Phrase (behind (sign token.equals) (nest initialiser)) (s ∷ []) v).
     let b = un-behind q in
-    absurd (not-sort s b.value b.back (operator 6) (operator 12) (b.parts ∙ ap (λ (zs : List Symbol). zs ++ b.back) b.first.is.1.0) w b.first.is.1.1 refl))
+    absurd (not-sort s b.value b.back (operator token.semicolon) (operator token.equals) (b.parts ∙ ap (λ (zs : List Symbol). zs ++ b.back) b.first.is.1.0) w b.first.is.1.1 refl))
     (λ (q : Phrase (turn without_value (nest (value_end assigned))) (s ∷ []) v).
     let t = un-turn q in
     ap (λ (x : Option ValueText × List Declarator). x.1) t.is_value
     ∙ ⊎_elim
-    (λ (r : Phrase (turn no_declarators (sign 6)) (s ∷ []) t.value). (un-turn r).is_value)
+    (λ (r : Phrase (turn no_declarators (sign token.semicolon)) (s ∷ []) t.value). (un-turn r).is_value)
     (λ r.
     let b = un-behind r in
-    absurd (not-sort s b.value b.back (operator 6) (operator 7) (b.parts ∙ ap (λ (zs : List Symbol). zs ++ b.back) b.first.is.1.0) w b.first.is.1.1 refl))
+    absurd (not-sort s b.value b.back (operator token.semicolon) (operator token.comma) (b.parts ∙ ap (λ (zs : List Symbol). zs ++ b.back) b.first.is.1.0) w b.first.is.1.1 refl))
     (un-either (un-nest (value_end assigned) t.whole)))
     (un-either p)
 
 -- the `;` that closes what is not closed yet
 abbrev stop : Symbol
-stop = blank (operator 6)
+stop = blank (operator token.semicolon)
 
 -- what is in front is read, and behind it more fields than so many begin
 pub record FieldsRead (left room : ℕ) (ts : List Symbol) : Type 0 where

@@ -1,6 +1,7 @@
 -- Type parameters and the constants of enums as items of lists.
 use Rattle.std.proofs.Common.{◌≡◌, true, false, ◌++◌, refl}
 use Rattle.decl_grammar.specs.Symbols.{operator, numbers}
+use Rattle.decl_grammar.specs.TokenNames as token
 use Rattle.decl_grammar.specs.Reading.{has}
 use Rattle.decl_grammar.specs.Types.{name, named_text, dot_name, name_chain, first_pair, next_pair, pairs_or_value, annotation_arguments, annotation_body, annotation, annotations, named_part, next_part, class_type, annotated_class, next_bound, bounds, type_param}
 use Rattle.decl_grammar.specs.Grammar.{optional_over, constant_part, constant}
@@ -28,7 +29,7 @@ pub type_param_first : first type_param ≡ ats ++ names
 unfolding type_param annotations annotation name
 type_param_first = refl
 
-type-param-ends : has (more type_param) (operator 7) ≡ false
+type-param-ends : has (more type_param) (operator token.comma) ≡ false
 unfolding numbers name named_text dot_name name_chain first_pair next_pair pairs_or_value annotation_arguments annotation_body annotation annotations named_part next_part class_type annotated_class next_bound bounds type_param
 type-param-ends = refl
 
@@ -43,7 +44,7 @@ constant-plain : plain constant ≡ true
 unfolding numbers name named_text dot_name name_chain first_pair next_pair pairs_or_value annotation_arguments annotation_body annotation annotations optional_over constant_part constant
 constant-plain = refl
 
-constant-ends : has (more constant) (operator 7) ≡ false
+constant-ends : has (more constant) (operator token.comma) ≡ false
 unfolding numbers name named_text dot_name name_chain first_pair next_pair pairs_or_value annotation_arguments annotation_body annotation annotations optional_over constant_part constant
 constant-ends = refl
 

@@ -7,6 +7,7 @@ use Rattle.decl_grammar.specs.declared.symbol.Symbol.{Symbol}
 use Rattle.decl_grammar.specs.declared.written.MemberAt.{MemberAt}
 use Rattle.decl_grammar.specs.declared.written.Modifiers.{Modifiers}
 use Rattle.decl_grammar.specs.Symbols.{numbers, operator}
+use Rattle.decl_grammar.specs.TokenNames as token
 use Rattle.decl_grammar.specs.Reading.{has, starts, done}
 use Rattle.decl_grammar.specs.Form.{many, nullable, first}
 use Rattle.decl_grammar.specs.Types.{type_form, name, named_text, dot_name, name_chain, first_pair, next_pair, pairs_or_value, annotation_arguments, annotation_body, annotation, modifier_annotation, annotations, primitive_type, named_part, next_part, class_type, dim, base_type, class_array, primitive_array, reference, annotated_reference, wildcard_bound, wildcard, type_argument, next_argument, arguments_form, annotated_class, next_bound, bounds, type_param, next_type_param, type_params, optional_params, next_class, classes, modifier, plain_modifier, optional_modifiers, type_modifiers, sign}
@@ -74,7 +75,7 @@ modified-brace kind.Interface = refl
 
 -- ---- members up to the `}`
 
-pub brace-phrase : (t : Symbol) → has (64 ∷ []) t.sort ≡ true → Phrase (sign 3) (t ∷ []) t
+pub brace-phrase : (t : Symbol) → has (64 ∷ []) t.sort ≡ true → Phrase (sign token.close_brace) (t ∷ []) t
 brace-phrase t s = record { is = (0, (refl, s)) }
 
 pub closed-here : (k : TypeKind) (room : ℕ) (ts : List Symbol) → 3 * length ts ≤ room → starts (64 ∷ []) ts ≡ true → reads room (closed_members k) ts ≡ done [] (drop 1 ts)
@@ -118,7 +119,7 @@ closed-cases k room ts all rest fits e =
     let t = un-turn b.first in
     go p.0 p.1 b.front b.back b.value b.parts b.second t.value t.whole t.is_value
   where
-    go : (us : List Symbol) → ts ≡ us ++ rest → (front back : List Symbol) (c : Symbol) → us ≡ front ++ back → Phrase (sign 3) back c → (mss : List (List MemberAt)) → Phrase (many (member_form k)) front mss → all ≡ joined_lists mss
+    go : (us : List Symbol) → ts ≡ us ++ rest → (front back : List Symbol) (c : Symbol) → us ≡ front ++ back → Phrase (sign token.close_brace) back c → (mss : List (List MemberAt)) → Phrase (many (member_form k)) front mss → all ≡ joined_lists mss
         → ((starts (64 ∷ []) ts ≡ true) × (all ≡ []) × (rest ≡ drop 1 ts)) ⊎ NextMember k room ts all rest
     go us cut front back c parts brace [] row is =
         let here : ts ≡ c ∷ rest = cut ∙ ap (λ (zs : List Symbol). zs ++ rest) (parts ∙ (ap (λ (zs : List Symbol). zs ++ back) (un-nil row) ∙ brace.is.1.0)) in
@@ -188,10 +189,10 @@ inner-begins us vs (inl full) = starts-within type_words inner_words type-within
 inner-begins us vs (inr full) = starts-within exec_words inner_words exec-within (us ++ vs) (exec-begins us vs full)
 
 -- a `;` is a member that gives nothing
-no-items : (k : TypeKind) (t : Symbol) (ms : List MemberAt) → t.sort ≡ operator 6 → Phrase (member_form k) (t ∷ []) ms → ms ≡ []
+no-items : (k : TypeKind) (t : Symbol) (ms : List MemberAt) → t.sort ≡ operator token.semicolon → Phrase (member_form k) (t ∷ []) ms → ms ≡ []
 unfolding member_form
 no-items k t ms e p =
-    let semi : Phrase (sign 6) (t ∷ []) t = record { is = (0, (refl, ap (λ (n : ℕ). has (67 ∷ []) n) e)) } in
+    let semi : Phrase (sign token.semicolon) (t ∷ []) t = record { is = (0, (refl, ap (λ (n : ℕ). has (67 ∷ []) n) e)) } in
     let none : Phrase (member_form k) (t ∷ []) [] = at-left (or_block k (member_from (modified_form k))) (turned no_member semi) in
     same ms [] (sym (member-reads k 3 (t ∷ []) [] ms (omega arith) p) ∙ member-reads k 3 (t ∷ []) [] [] (omega arith) none)
   where
@@ -200,9 +201,9 @@ no-items k t ms e p =
 
 pub brace-member : (k : TypeKind) (n : ℕ) (ts : List Symbol) → n ≤ most → starts (64 ∷ []) ts ≡ true → MemberCase k n ts → ⊥
 brace-member k n ts le b (one_more m s) = not-brace (first (modified_form k)) (modified-brace k) ts b s
-brace-member k n ts le b (by_fields ([], vs, e, (ms, is, lt))) = omega (arith, le, lt, ap length (no-items k (blank (operator 6)) ms refl (record { is = is })))
+brace-member k n ts le b (by_fields ([], vs, e, (ms, is, lt))) = omega (arith, le, lt, ap length (no-items k (blank (operator token.semicolon)) ms refl (record { is = is })))
 brace-member k n ts le b (by_fields (u ∷ us, vs, e, (ms, is, lt))) =
-    let begun = item-starts (member_form k) (member-never k) (u ∷ us ++ blank (operator 6) ∷ []) [] ms is in
+    let begun = item-starts (member_form k) (member-never k) (u ∷ us ++ blank (operator token.semicolon) ∷ []) [] ms is in
     not-brace (first (member_form k)) (member-brace k) ts b (ap (λ (zs : List Symbol). starts (first (member_form k)) zs) e ∙ begun)
 brace-member k n ts le b (by_own (us, vs, e, (m, is, lt))) =
     not-brace (first (member_form k)) (member-brace k) ts b (ap (λ (zs : List Symbol). starts (first (member_form k)) zs) e ∙ item-starts (member_form k) (member-never k) us vs (m ∷ []) is)

@@ -13,6 +13,7 @@ use Rattle.decl_grammar.specs.declared.written.TypeRest.{TypeRest}
 use Rattle.decl_grammar.specs.declared.written.Unmodified.{Unmodified}
 use Rattle.decl_grammar.specs.declared.written.Unmodified.TheVariants as unmodified
 use Rattle.decl_grammar.specs.Symbols.{numbers, operator}
+use Rattle.decl_grammar.specs.TokenNames as token
 use Rattle.decl_grammar.specs.Reading.{has, starts, done}
 use Rattle.decl_grammar.specs.Form.{Form, first, first_of, nullable, either, turn, nested_type}
 use Rattle.decl_grammar.specs.Types.{name, named_text, dot_name, name_chain, first_pair, next_pair, pairs_or_value, annotation_arguments, annotation_body, modifier_annotation, modifier, type_modifiers, optional_modifiers, primitive_type, named_part, class_type, base_type, type_form, type_params, sign}
@@ -100,7 +101,7 @@ unmodified-semicolon kind.Interface = refl
 
 -- the `;` that closes what is not closed yet
 abbrev stop : Symbol
-stop = blank (operator 6)
+stop = blank (operator token.semicolon)
 
 -- in what a member is full, behind its modifiers
 pub data BehindCase (k : TypeKind) (n : ℕ) (ts : List Symbol) : Type 0 where
@@ -129,7 +130,7 @@ no-member k u p =
     let begun : starts (first (unmodified_form k)) [] ≡ true = item-starts (unmodified_form k) (unmodified-never k) [] [] u p.is in
     absurd cc
 
-no-semicolon : (k : TypeKind) (s : Symbol) (u : Unmodified) → s.sort ≡ operator 6 → Phrase (unmodified_form k) (s ∷ []) u → ⊥
+no-semicolon : (k : TypeKind) (s : Symbol) (u : Unmodified) → s.sort ≡ operator token.semicolon → Phrase (unmodified_form k) (s ∷ []) u → ⊥
 no-semicolon k s u e p =
     let begun : starts (first (unmodified_form k)) (s ∷ []) ≡ true = item-starts (unmodified_form k) (unmodified-never k) (s ∷ []) [] u p.is in
     not_both (has (first (unmodified_form k)) s.sort) begun (ap (λ (j : ℕ). has (first (unmodified_form k)) j) e ∙ unmodified-semicolon k)
@@ -212,7 +213,7 @@ block-starts f never us ms lt p =
 some-starts : (k : TypeKind) (us : List Symbol) (ms : List MemberAt) → 0 < length ms → Phrase (member_form k) us ms → starts (first (modified_form k)) us ≡ true
 unfolding member_form
 some-starts k us ms lt p =
-    ⊎_elim (λ (q : Phrase (turn no_member (sign 6)) us ms). let t = un-turn q in absurd (omega (arith, lt, ap length t.is_value))) (λ (q : Phrase (or_block k (member_from (modified_form k))) us ms). go k q) (un-either p)
+    ⊎_elim (λ (q : Phrase (turn no_member (sign token.semicolon)) us ms). let t = un-turn q in absurd (omega (arith, lt, ap length t.is_value))) (λ (q : Phrase (or_block k (member_from (modified_form k))) us ms). go k q) (un-either p)
   where
     go : (j : TypeKind) → Phrase (or_block j (member_from (modified_form j))) us ms → starts (first (modified_form j)) us ≡ true
     go kind.Enum q = block-starts (modified_form kind.Enum) (modified-never kind.Enum) us ms lt q
@@ -224,7 +225,7 @@ fields-start : (k : TypeKind) (n : ℕ) (ts : List Symbol) → n ≤ most → So
 fields-start k n ts le (us, vs, e, (ms, is, lt)) = at us e (some-starts k (us ++ stop ∷ []) ms (omega (arith, le, lt)) (record { is = is }))
   where
     at : (ws : List Symbol) → ts ≡ ws ++ vs → starts (first (modified_form k)) (ws ++ stop ∷ []) ≡ true → starts (first (modified_form k)) ts ≡ true
-    at [] d b = not_both (has (first (modified_form k)) (operator 6)) b (modified-semicolon k)
+    at [] d b = not_both (has (first (modified_form k)) (operator token.semicolon)) b (modified-semicolon k)
     at (w ∷ ws) d b = ap (λ (zs : List Symbol). starts (first (modified_form k)) zs) d ∙ b
 
 -- a member is full since it begins one too many, or its modifiers are read and it is full behind them
@@ -412,5 +413,5 @@ no-fields k n ts lt s (us, vs, e, (u, is, more_than)) =
     (fields-out k (us ++ stop ∷ []) u (record { is = is }))
   where
     at : (ws : List Symbol) → ts ≡ ws ++ vs → starts (first field_front) (ws ++ stop ∷ []) ≡ true → ⊥
-    at [] d b = not_both (has (first field_front) (operator 6)) b front-semicolon
+    at [] d b = not_both (has (first field_front) (operator token.semicolon)) b front-semicolon
     at (w ∷ ws) d b = not_both (has (first_of nested_type) w.sort) (ap (λ (zs : List Symbol). starts (first_of nested_type) zs) (sym d) ∙ s) (disjoint-has (first field_front) (first_of nested_type) w.sort front-words b)

@@ -5,6 +5,7 @@ use Rattle.decl_tree.specs.declared.declaration.TypeKind.{TypeKind}
 use Rattle.decl_grammar.specs.declared.symbol.Symbol.{Symbol}
 use Rattle.decl_grammar.specs.declared.written.MemberAt.{MemberAt}
 use Rattle.decl_grammar.specs.Symbols.{operator}
+use Rattle.decl_grammar.specs.TokenNames as token
 use Rattle.decl_grammar.specs.Reading.{starts, done}
 use Rattle.decl_grammar.specs.Form.{first}
 use Rattle.decl_grammar.specs.Types.{sign}
@@ -38,8 +39,8 @@ or-false false = refl
 pub most-full : (k : TypeKind) (n : ℕ) (ts : List Symbol) → most < n → MemberCrowds k n ts
 unfolding member_form
 most-full k n ts lt =
-    let stop : Symbol = blank (operator 6) in
-    let semi : Phrase (sign 6) (stop ∷ []) stop = record { is = (0, (refl, refl)) } in
+    let stop : Symbol = blank (operator token.semicolon) in
+    let semi : Phrase (sign token.semicolon) (stop ∷ []) stop = record { is = (0, (refl, refl)) } in
     let whole : Phrase (member_form k) (stop ∷ []) [] = at-left (or_block k (member_from (modified_form k))) (turned no_member semi) in
     case-member k n ts (by_fields ([], ts, refl, ([], whole.is, omega (arith, lt))))
 

@@ -8,6 +8,7 @@ use Rattle.decl_grammar.specs.declared.written.MemberAt.{MemberAt}
 use Rattle.decl_grammar.specs.declared.written.Modifiers.{Modifiers}
 use Rattle.decl_grammar.specs.declared.written.Unmodified.{Unmodified}
 use Rattle.decl_grammar.specs.declared.written.Unmodified.TheVariants as unmodified
+use Rattle.decl_grammar.specs.TokenNames as token
 use Rattle.decl_grammar.specs.Reading.{has}
 use Rattle.decl_grammar.specs.Form.{Form, terminal, pair, turn, maybe, many, either, seen, nest, modifiers, plain_modifiers, static_word, plain_words, modifier_words}
 use Rattle.decl_grammar.specs.Types.{Mark, bit_mark, marked, marks_of, with_marks, no_modifiers, modifiers_or_none, keyword, sign, behind, silently, modifier_annotation, modifier, plain_modifier, modifiers_form, optional_modifiers, type_modifiers}
@@ -74,26 +75,26 @@ plain-out f us x p =
     }
 
 -- a first `static` is a modifier
-static-mark : (us : List Symbol) (s : Symbol) → Phrase (keyword 37) us s → Phrase modifier us (bit_mark s)
+static-mark : (us : List Symbol) (s : Symbol) → Phrase (keyword token.static) us s → Phrase modifier us (bit_mark s)
 unfolding modifier
 static-mark us s p =
     let one : Phrase (terminal modifier_words) us s = record { is = (0, (p.is.1.0, within-has (47 ∷ []) modifier_words s.sort refl p.is.1.1)) } in
     at-left (turn marked modifier_annotation) (turned bit_mark one)
 
 -- nothing, or modifiers and a member behind them
-class-out : (f : Form Unmodified) (us : List Symbol) (x : Modified) → Phrase (class_modified f) us x → (Phrase (behind (keyword 37) block) us tt × (x ≡ nothing_here tt)) ⊎ Parted f us x.1
+class-out : (f : Form Unmodified) (us : List Symbol) (x : Modified) → Phrase (class_modified f) us x → (Phrase (behind (keyword token.static) block) us tt × (x ≡ nothing_here tt)) ⊎ Parted f us x.1
 unfolding static_rest plain_modified
 class-out f us x p = ⊎_elim first_way (λ (q : Phrase (either (plain_modified f) (behind (nest static_word) (static_rest f))) us x). ⊎_elim second_way third_way (un-either q)) (un-either p)
   where
-    first_way : Phrase (turn bare f) us x → (Phrase (behind (keyword 37) block) us tt × (x ≡ nothing_here tt)) ⊎ Parted f us x.1
+    first_way : Phrase (turn bare f) us x → (Phrase (behind (keyword token.static) block) us tt × (x ≡ nothing_here tt)) ⊎ Parted f us x.1
     first_way q =
         let t = un-turn q in
         inr (record { front = []; back = us; marks = []; parts = refl; row = row-nil modifier; member = means x.1 (sym (ap (λ (y : Modified). y.1) t.is_value)) t.whole })
 
-    second_way : Phrase (plain_modified f) us x → (Phrase (behind (keyword 37) block) us tt × (x ≡ nothing_here tt)) ⊎ Parted f us x.1
+    second_way : Phrase (plain_modified f) us x → (Phrase (behind (keyword token.static) block) us tt × (x ≡ nothing_here tt)) ⊎ Parted f us x.1
     second_way q = inr (plain-out f us x q)
 
-    third_way : Phrase (behind (nest static_word) (static_rest f)) us x → (Phrase (behind (keyword 37) block) us tt × (x ≡ nothing_here tt)) ⊎ Parted f us x.1
+    third_way : Phrase (behind (nest static_word) (static_rest f)) us x → (Phrase (behind (keyword token.static) block) us tt × (x ≡ nothing_here tt)) ⊎ Parted f us x.1
     third_way q =
         let a = un-behind q in
         let word_there = un-nest static_word a.first in
@@ -136,7 +137,7 @@ with-word f one more back s xs u e h r q = ⊎_elim static_way plain_way (one_or
   where
     static_way : eqb s.sort 47 ≡ true → ClassMade f ((one ++ more) ++ back) u
     static_way w =
-        let word_there : Phrase (keyword 37) one s = record { is = (0, (e, w)) } in
+        let word_there : Phrase (keyword token.static) one s = record { is = (0, (e, w)) } in
         let o = optional-in more xs r in (
           (with_static (o.0, u)).0,
           moved ((one ++ more) ++ back) (sym (append_assoc one more back))
@@ -181,10 +182,10 @@ abbrev pub NothingAt : TypeKind → List Symbol → List MemberAt → Type 0
 NothingAt k us ms = Phrase (nothing_form k) us tt × (ms ≡ [])
 
 abbrev class_member : Form Unmodified → Form (List MemberAt)
-class_member f = either (turn no_member (sign 6)) (either (turn no_member block) (member_from (class_modified f)))
+class_member f = either (turn no_member (sign token.semicolon)) (either (turn no_member block) (member_from (class_modified f)))
 
 abbrev other_member : Form Unmodified → Form (List MemberAt)
-other_member f = either (turn no_member (sign 6)) (member_from (modified f))
+other_member f = either (turn no_member (sign token.semicolon)) (member_from (modified f))
 
 record Made (f : Form Unmodified) (us : List Symbol) (ms : List MemberAt) : Type 0 where
   value : Unmodified
@@ -196,28 +197,28 @@ record Made (f : Form Unmodified) (us : List Symbol) (ms : List MemberAt) : Type
 abbrev NoMember : Form (Unit {0}) → List Symbol → List MemberAt → Type 0
 NoMember g us ms = Phrase g us tt × (ms ≡ [])
 
-class-member-out : (f : Form Unmodified) (us : List Symbol) (ms : List MemberAt) → Phrase (class_member f) us ms → NoMember (either (turn silently (sign 6)) initialiser_block) us ms ⊎ Made f us ms
+class-member-out : (f : Form Unmodified) (us : List Symbol) (ms : List MemberAt) → Phrase (class_member f) us ms → NoMember (either (turn silently (sign token.semicolon)) initialiser_block) us ms ⊎ Made f us ms
 class-member-out f us ms p =
     ⊎_elim
-    (λ (q : Phrase (turn no_member (sign 6)) us ms). let t = un-turn q in inl (at-left initialiser_block (turned silently t.whole), t.is_value))
+    (λ (q : Phrase (turn no_member (sign token.semicolon)) us ms). let t = un-turn q in inl (at-left initialiser_block (turned silently t.whole), t.is_value))
     (λ (q : Phrase (either (turn no_member block) (member_from (class_modified f))) us ms).
     ⊎_elim
-    (λ (r : Phrase (turn no_member block) us ms). let t = un-turn r in inl (at-right (turn silently (sign 6)) (at-left (behind (keyword 37) block) t.whole), t.is_value))
+    (λ (r : Phrase (turn no_member block) us ms). let t = un-turn r in inl (at-right (turn silently (sign token.semicolon)) (at-left (behind (keyword token.static) block) t.whole), t.is_value))
     (λ (r : Phrase (member_from (class_modified f)) us ms).
     let t = un-turn r in
     let s = un-seen t.whole in
     ⊎_elim
-    (λ (z : Phrase (behind (keyword 37) block) us tt × (t.value.1 ≡ nothing_here tt)).
-    inl (at-right (turn silently (sign 6)) (at-right block z.0), t.is_value ∙ ap (λ (y : Modified). documented_members (t.value.0, y)) z.1))
+    (λ (z : Phrase (behind (keyword token.static) block) us tt × (t.value.1 ≡ nothing_here tt)).
+    inl (at-right (turn silently (sign token.semicolon)) (at-right block z.0), t.is_value ∙ ap (λ (y : Modified). documented_members (t.value.0, y)) z.1))
     (λ (z : Parted f us t.value.1.1). inr (record { value = t.value.1.1; parted = z; doc = t.value.0; marks = t.value.1.0; items = t.is_value }))
     (class-out f us t.value.1 s.whole))
     (un-either q))
     (un-either p)
 
-other-member-out : (f : Form Unmodified) (us : List Symbol) (ms : List MemberAt) → Phrase (other_member f) us ms → NoMember (turn silently (sign 6)) us ms ⊎ Made f us ms
+other-member-out : (f : Form Unmodified) (us : List Symbol) (ms : List MemberAt) → Phrase (other_member f) us ms → NoMember (turn silently (sign token.semicolon)) us ms ⊎ Made f us ms
 other-member-out f us ms p =
     ⊎_elim
-    (λ (q : Phrase (turn no_member (sign 6)) us ms). let t = un-turn q in inl (turned silently t.whole, t.is_value))
+    (λ (q : Phrase (turn no_member (sign token.semicolon)) us ms). let t = un-turn q in inl (turned silently t.whole, t.is_value))
     (λ (r : Phrase (member_from (modified f)) us ms).
     let t = un-turn r in
     let s = un-seen t.whole in
@@ -252,19 +253,19 @@ member-out kind.AnnotationType us ms p = either-made kind.AnnotationType us ms (
 member-out kind.Interface us ms p = either-made kind.Interface us ms (other-member-out (unmodified_form kind.Interface) us ms p)
 
 -- nothing is a member that gives none
-class-nothing : (f : Form Unmodified) (us : List Symbol) → Phrase (either (turn silently (sign 6)) initialiser_block) us tt → Phrase (class_member f) us []
+class-nothing : (f : Form Unmodified) (us : List Symbol) → Phrase (either (turn silently (sign token.semicolon)) initialiser_block) us tt → Phrase (class_member f) us []
 unfolding static_rest
 class-nothing f us p =
     ⊎_elim
-    (λ (q : Phrase (turn silently (sign 6)) us tt). let t = un-turn q in at-left (either (turn no_member block) (member_from (class_modified f))) (turned no_member t.whole))
+    (λ (q : Phrase (turn silently (sign token.semicolon)) us tt). let t = un-turn q in at-left (either (turn no_member block) (member_from (class_modified f))) (turned no_member t.whole))
     (λ (q : Phrase initialiser_block us tt).
     ⊎_elim
-    (λ (r : Phrase block us tt). at-right (turn no_member (sign 6)) (at-left (member_from (class_modified f)) (turned no_member r)))
-    (λ (r : Phrase (behind (keyword 37) block) us tt).
+    (λ (r : Phrase block us tt). at-right (turn no_member (sign token.semicolon)) (at-left (member_from (class_modified f)) (turned no_member r)))
+    (λ (r : Phrase (behind (keyword token.static) block) us tt).
     let b = un-behind r in
     let inner : Phrase (class_modified f) (b.front ++ b.back) (nothing_here tt) =
     at-right (turn bare f) (at-right (plain_modified f) (put-behind (nested static_word b.first) (at-left (turn with_static (pair optional_modifiers f)) (turned nothing_here b.second)))) in
-    moved us (sym b.parts) (at-right (turn no_member (sign 6)) (at-right (turn no_member block) (turned documented_members (seen-there first_doc inner)))))
+    moved us (sym b.parts) (at-right (turn no_member (sign token.semicolon)) (at-right (turn no_member block) (turned documented_members (seen-there first_doc inner)))))
     (un-either q))
     (un-either p)
 
@@ -287,13 +288,13 @@ class-made : (f : Form Unmodified) (front back : List Symbol) (marks : List Mark
     → (doc : Option (List ℕ)) × (m : Modifiers) × Phrase (class_member f) (front ++ back) (members_of doc m u)
 class-made f front back marks u p q =
     let c = class-in f front back marks u p q in
-    (first_doc (front ++ back), c.0, at-right (turn no_member (sign 6)) (at-right (turn no_member block) (turned documented_members (seen-there first_doc c.1))))
+    (first_doc (front ++ back), c.0, at-right (turn no_member (sign token.semicolon)) (at-right (turn no_member block) (turned documented_members (seen-there first_doc c.1))))
 
 other-made : (f : Form Unmodified) (front back : List Symbol) (marks : List Mark) (u : Unmodified) → Phrase (many modifier) front marks → Phrase f back u
     → (doc : Option (List ℕ)) × (m : Modifiers) × Phrase (other_member f) (front ++ back) (members_of doc m u)
 other-made f front back marks u p q =
     let o = optional-in front marks p in
-    (first_doc (front ++ back), o.0, at-right (turn no_member (sign 6)) (turned documented_members (seen-there first_doc (paired o.1 q))))
+    (first_doc (front ++ back), o.0, at-right (turn no_member (sign token.semicolon)) (turned documented_members (seen-there first_doc (paired o.1 q))))
 
 pub member-in : (k : TypeKind) (front back : List Symbol) (m : Modifiers) (u : Unmodified) → Phrase type_modifiers front m → Phrase (unmodified_form k) back u → MadeOf k (front ++ back) u
 unfolding member_form modified_form type_modifiers

@@ -5,6 +5,7 @@ use Rattle.decl_grammar.specs.declared.symbol.Symbol.{Symbol}
 use Rattle.decl_grammar.specs.declared.written.ParamAt.{ParamAt}
 use Rattle.decl_grammar.specs.declared.written.ParamEnd.{ParamEnd}
 use Rattle.decl_grammar.specs.Symbols.{operator}
+use Rattle.decl_grammar.specs.TokenNames as token
 use Rattle.decl_grammar.specs.Reading.{has, starts}
 use Rattle.decl_grammar.specs.Form.{ats, names, primitive_sorts, nullable, first}
 use Rattle.decl_grammar.specs.Types.{sign, annotation, annotations, base_type, class_type, named_part, name, primitive_type}
@@ -80,11 +81,11 @@ comma-of ts ps p =
 of-comma : (t : Symbol) (ts : List Symbol) (ps : List ParamAt × Bool) → has (68 ∷ []) t.sort ≡ true → Phrase params_from ts ps → Phrase next_params (t ∷ ts) ps
 unfolding next_params
 of-comma t ts ps s p =
-    let there : Phrase (sign 7) (t ∷ []) t = record { is = (0, (refl, s)) } in
+    let there : Phrase (sign token.comma) (t ∷ []) t = record { is = (0, (refl, s)) } in
     put-behind there p
 
 -- what is left of a front that is full
-tail-left : (n k : ℕ) (back : List Symbol) (later items : List ParamAt) (c t : Symbol) (vs : List Symbol) → TailWhole back later → c.sort ≡ operator 7 → OpensWith params_from t → most ≤ n + length items → length items ≡ k + length later → TailCrowds (n + k) (back ++ (c ∷ t ∷ vs))
+tail-left : (n k : ℕ) (back : List Symbol) (later items : List ParamAt) (c t : Symbol) (vs : List Symbol) → TailWhole back later → c.sort ≡ operator token.comma → OpensWith params_from t → most ≤ n + length items → length items ≡ k + length later → TailCrowds (n + k) (back ++ (c ∷ t ∷ vs))
 tail-left n k back later items c t vs whole is begins le count = (
   back ++ c ∷ t ∷ [],
   vs,

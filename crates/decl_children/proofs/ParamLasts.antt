@@ -7,6 +7,7 @@ use Rattle.decl_grammar.specs.declared.written.NameAt.{NameAt}
 use Rattle.decl_grammar.specs.declared.written.ParamAt.{ParamAt}
 use Rattle.decl_grammar.specs.declared.written.ParamEnd.{ParamEnd}
 use Rattle.decl_grammar.specs.Symbols.{operator}
+use Rattle.decl_grammar.specs.TokenNames as token
 use Rattle.decl_grammar.specs.Reading.{has, starts}
 use Rattle.decl_grammar.specs.Form.{Form, ParamRest, pair, turn, maybe, either, first, nullable}
 use Rattle.decl_grammar.specs.Types.{name_at}
@@ -38,7 +39,7 @@ next-never : nullable next_params ≡ false
 unfolding next_params
 next-never = refl
 
-pub tail-starts : (ts : List Symbol) (ps : List ParamAt × Bool) → Tail ts ps → (c : Symbol) (ws : List Symbol) → c.sort ≡ operator 7 → starts (68 ∷ []) (ts ++ c ∷ ws) ≡ true
+pub tail-starts : (ts : List Symbol) (ps : List ParamAt × Bool) → Tail ts ps → (c : Symbol) (ws : List Symbol) → c.sort ≡ operator token.comma → starts (68 ∷ []) (ts ++ c ∷ ws) ≡ true
 tail-starts ts ps (inl e) c ws is = ap (λ (zs : List Symbol). starts (68 ∷ []) (zs ++ c ∷ ws)) e.0 ∙ ap (λ (n : ℕ). has (68 ∷ []) n) is
 tail-starts ts ps (inr p) c ws is = ap (λ (ks : List ℕ). starts ks (ts ++ c ∷ ws)) (sym next-first) ∙ item-starts next_params next-never ts (c ∷ ws) ps p.is
 

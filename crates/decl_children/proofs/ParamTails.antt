@@ -9,6 +9,7 @@ use Rattle.decl_grammar.specs.declared.written.ParamAt.{ParamAt}
 use Rattle.decl_grammar.specs.declared.written.ParamEnd.{ParamEnd}
 use Rattle.decl_grammar.specs.declared.written.ParamEnd.TheVariants as param_end
 use Rattle.decl_grammar.specs.Symbols.{operator, numbers}
+use Rattle.decl_grammar.specs.TokenNames as token
 use Rattle.decl_grammar.specs.Reading.{has, starts}
 use Rattle.decl_grammar.specs.Form.{Form, ParamRest, pair, turn, many, nullable, first}
 use Rattle.decl_grammar.specs.Types.{keyword, behind, with_marks, no_modifiers, name, annotation, annotations, annotation_body, annotation_arguments, pairs_or_value, first_pair, next_pair, named_text, dot_name, name_chain, primitive_type, base_type, class_type, named_part, next_part}
@@ -151,7 +152,7 @@ pub record Apart (R : List Symbol → ParamEnd → List Symbol → Type 0) (us w
   pub count : length items ≡ arguments_of end + length later
 
 abbrev Followed : List Symbol → Type 0
-Followed ws = (c : Symbol) × (vs : List Symbol) × (ws ≡ c ∷ vs) × (c.sort ≡ operator 7)
+Followed ws = (c : Symbol) × (vs : List Symbol) × (ws ≡ c ∷ vs) × (c.sort ≡ operator token.comma)
 
 followed-starts : (ws : List Symbol) → Followed ws → starts (68 ∷ []) ws ≡ true
 followed-starts ws f = ap (λ (ts : List Symbol). starts (68 ∷ []) ts) f.2 ∙ ap (λ (n : ℕ). has (68 ∷ []) n) f.3
@@ -209,7 +210,7 @@ behind-apart-of : (room : ℕ) (us ws : List Symbol) (found : List AnnotationTex
 unfolding behind_annotations param_modifiers
 behind-apart-of room us ws found f items fits followed p e =
     ⊎_elim
-    (λ (l : Phrase (turn final_first (behind (keyword 17) (pair (many param_modifier) (based (rest_form false))))) us f).
+    (λ (l : Phrase (turn final_first (behind (keyword token.final) (pair (many param_modifier) (based (rest_form false))))) us f).
     let t = un-turn l in
     let b = un-behind t.whole in
     let q = un-pair b.second in
@@ -306,7 +307,7 @@ final-together room found (t ∷ ts) e rest vs later s r one tail =
     let marks : Phrase param_modifiers p.0 r.0 = record { is = p.2 } in
     let k = un-turn marks in
     let z = ended-so e (with_marks (final_and found) k.value) g.of g.around later one in
-    let word_there : Phrase (keyword 17) (t ∷ []) t = record { is = (0, (refl, s)) } in
+    let word_there : Phrase (keyword token.final) (t ∷ []) t = record { is = (0, (refl, s)) } in
     let rest_there = put-behind word_there (paired k.whole g.whole) in
     record {
       front = t ∷ (p.0 ++ g.front);
@@ -328,7 +329,7 @@ plain-together room found ts e rest vs later r one tail =
       value = plain_first (g.of, (g.around, (e, (later, false))));
       items = z.items;
       parts = g.parts;
-      whole = at-right (turn final_first (behind (keyword 17) (pair (many param_modifier) (based (rest_form false))))) (turned plain_first g.whole);
+      whole = at-right (turn final_first (behind (keyword token.final) (pair (many param_modifier) (based (rest_form false))))) (turned plain_first g.whole);
       is = z.is;
       count = z.count;
     }

@@ -7,6 +7,7 @@ use Rattle.decl_tree.specs.declared.type_text.BaseType.TheVariants as base
 use Rattle.decl_tree.specs.declared.type_text.TypeText.{TypeText}
 use Rattle.decl_grammar.specs.declared.symbol.Symbol.{Symbol}
 use Rattle.decl_grammar.specs.Symbols.{numbers}
+use Rattle.decl_grammar.specs.TokenNames as token
 use Rattle.decl_grammar.specs.Reading.{has, starts, done, ◌>>=◌}
 use Rattle.decl_grammar.specs.Form.{names, pair, turn, many, either, nest, type_arguments, nullable, first}
 use Rattle.decl_grammar.specs.Types.{keyword, silently, name, named_part, next_part, class_type, primitive_type, base_type, dim, annotations, annotation, annotation_body, annotation_arguments, pairs_or_value, first_pair, next_pair, named_text, dot_name, name_chain, first_and_rest, text_of, type_in, type_form}
@@ -154,9 +155,9 @@ named-reads room us ws x fits p b =
     named-moved room (us ++ ws) (q.front ++ (n.0 ∷ ws)) ws all
     (⊎_elim
     (λ (z : (x.0 ≡ None) × (q.front ≡ [])). named-moved room (q.front ++ (n.0 ∷ ws)) (n.0 ∷ ws) ws (ap (λ (zs : List Symbol). zs ++ (n.0 ∷ ws)) z.1) (named-alone room n.0 ws n.2 b))
-    (λ (z : (y : Unit {0}) × (x.0 ≡ Some y) × Phrase (either (turn silently (keyword 47)) (turn silently type_form)) q.front y).
+    (λ (z : (y : Unit {0}) × (x.0 ≡ Some y) × Phrase (either (turn silently (keyword token.void)) (turn silently type_form)) q.front y).
     ⊎_elim
-    (λ (v : Phrase (turn silently (keyword 47)) q.front z.0).
+    (λ (v : Phrase (turn silently (keyword token.void)) q.front z.0).
     let t = un-turn v in
     let word : q.front ≡ t.value ∷ [] = t.whole.is.1.0 in
     named-moved room (q.front ++ (n.0 ∷ ws)) (t.value ∷ n.0 ∷ ws) ws (ap (λ (zs : List Symbol). zs ++ (n.0 ∷ ws)) word) (named-void room t.value n.0 ws t.whole.is.1.1 n.2 b))
@@ -182,7 +183,7 @@ heading-of room ts [] r h = absurd cc
 heading-of room [] (u ∷ ws) (inl v) h = absurd (let s = v.0 in cc)
 heading-of room (t ∷ ts) (u ∷ ws) (inl v) h =
     let s = both (has names u.sort) (starts (61 ∷ []) ws) h in
-    let void_there : Phrase (keyword 47) (t ∷ []) t = record { is = (0, (refl, v.0)) } in
+    let void_there : Phrase (keyword token.void) (t ∷ []) t = record { is = (0, (refl, v.0)) } in
     record {
       front = t ∷ u ∷ [];
       value = (Some tt, text_of u);
@@ -191,7 +192,7 @@ heading-of room (t ∷ ts) (u ∷ ws) (inl v) h =
     }
 heading-of room ts (u ∷ ws) (inr (n, inl v)) h =
     let s = both (has names u.sort) (starts (61 ∷ []) ws) h in
-    record { front = u ∷ []; value = (None, text_of u); parts = sym v.1; whole = paired (none-there (either (turn silently (keyword 47)) (turn silently type_form))) (name-phrase u s.0) }
+    record { front = u ∷ []; value = (None, text_of u); parts = sym v.1; whole = paired (none-there (either (turn silently (keyword token.void)) (turn silently type_form))) (name-phrase u s.0) }
 heading-of room ts (u ∷ ws) (inr (n, inr (c, r))) h =
     let s = both (has names u.sort) (starts (61 ∷ []) ws) h in
     let p = read-phrase type_form room ts (type_in (r.0, r.2)) (u ∷ ws) (type-read room ts (u ∷ ws) r.1 r.0 r.2 r.3 r.4) in
@@ -200,7 +201,7 @@ heading-of room ts (u ∷ ws) (inr (n, inr (c, r))) h =
       front = p.0 ++ u ∷ [];
       value = (Some tt, text_of u);
       parts = p.1 ∙ sym (append_assoc p.0 (u ∷ []) ws);
-      whole = paired (some-there (at-right (turn silently (keyword 47)) (turned silently there))) (name-phrase u s.0);
+      whole = paired (some-there (at-right (turn silently (keyword token.void)) (turned silently there))) (name-phrase u s.0);
     }
 
 -- what stands there is one thing

@@ -4,6 +4,7 @@ use Rattle.std.proofs.lemmas.Bool.{eqb-true}
 use Rattle.decl_grammar.specs.declared.symbol.Symbol.{Symbol}
 use Rattle.decl_grammar.specs.declared.written.Modifiers.{Modifiers}
 use Rattle.decl_grammar.specs.Symbols.{numbers}
+use Rattle.decl_grammar.specs.TokenNames as token
 use Rattle.decl_grammar.specs.Reading.{has, starts, done}
 use Rattle.decl_grammar.specs.Form.{first, first_of, nested_type, nullable, turn, seen}
 use Rattle.decl_grammar.specs.Types.{sign, name, named_text, dot_name, name_chain, first_pair, next_pair, pairs_or_value, annotation_arguments, annotation_body, modifier_annotation, modifier, type_modifiers}
@@ -61,7 +62,7 @@ pub semicolon-end : (ts : List Symbol) → starts (67 ∷ []) ts ≡ true → To
 unfolding top_type
 semicolon-end [] s = absurd cc
 semicolon-end (t ∷ ts) s =
-    let one : Phrase (sign 6) (t ∷ []) t = record { is = (0, (refl, s)) } in
+    let one : Phrase (sign token.semicolon) (t ∷ []) t = record { is = (0, (refl, s)) } in
     let whole = at-left (turn top_declared (seen first_doc modified_type)) (turned no_type one) in
     (None, (t ∷ [], refl, whole.is))
 
@@ -91,7 +92,7 @@ unfolding top_type modified_type
 top-read room ts rest fits s (x, (us, e, is)) =
     let whole : Phrase top_type us x = record { is = is } in
     ⊎_elim
-    (λ (q : Phrase (turn no_type (sign 6)) us x).
+    (λ (q : Phrase (turn no_type (sign token.semicolon)) us x).
     let t = un-turn q in
     absurd (not_both (starts (67 ∷ []) ts) (ap (λ (zs : List Symbol). starts (67 ∷ []) zs) (e ∙ ap (λ (zs : List Symbol). zs ++ rest) t.whole.is.1.0) ∙ t.whole.is.1.1) s))
     (λ (q : Phrase (turn top_declared (seen first_doc modified_type)) us x).
@@ -114,7 +115,7 @@ top-ends room ts mid rest m there (x, (us, e, is)) =
     let p = read-phrase type_modifiers room ts m mid there in
     let marks : Phrase type_modifiers p.0 m = record { is = p.2 } in
     let type_there : Phrase type_rest us x = record { is = is } in
-    let whole = at-right (turn no_type (sign 6)) (turned top_declared (seen-there first_doc (paired marks type_there))) in
+    let whole = at-right (turn no_type (sign token.semicolon)) (turned top_declared (seen-there first_doc (paired marks type_there))) in
     (_, (p.0 ++ us, p.1 ∙ (ap (λ (zs : List Symbol). p.0 ++ zs) e ∙ sym (append_assoc p.0 us rest)), whole.is))
 
 pub top-mid : (room : ℕ) (ts mid rest : List Symbol) (m : Modifiers) → reads room type_modifiers ts ≡ done m mid → TopRead room ts rest → TypeEnds mid rest

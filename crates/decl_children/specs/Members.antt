@@ -8,6 +8,7 @@ use Rattle.decl_grammar.specs.declared.written.MemberAt.{MemberAt}
 use Rattle.decl_grammar.specs.declared.written.TypeAt.{TypeAt}
 use Rattle.decl_grammar.specs.declared.written.TypeRest.{TypeRest}
 use Rattle.decl_grammar.specs.Symbols.{operator}
+use Rattle.decl_grammar.specs.TokenNames as token
 use Rattle.decl_grammar.specs.Form.{Form, turn, many}
 use Rattle.decl_grammar.specs.Types.{sign, before, type_modifiers}
 use Rattle.decl_grammar.specs.Grammar.{joined_lists, member_form, type_rest, top_type}
@@ -57,7 +58,7 @@ TooLong us = (x : TypeRest) × IsPhrase type_rest us x × (most < declared_child
 
 -- The fields of one declaration are too many: with a `;` behind some front it is a whole member of so many fields.
 abbrev pub FieldsFull : TypeKind → ℕ → List Symbol → Type 0
-FieldsFull k n us = (ms : List MemberAt) × IsPhrase (member_form k) (us ++ blank (operator 6) ∷ []) ms × (most < n + length ms)
+FieldsFull k n us = (ms : List MemberAt) × IsPhrase (member_form k) (us ++ blank (operator token.semicolon) ∷ []) ms × (most < n + length ms)
 
 -- a whole member has too many children of its own
 abbrev pub OwnFull : TypeKind → List Symbol → Type 0
@@ -69,4 +70,4 @@ InnerFull us = InType us ⊎ ExecutableFull us
 
 -- the members of a type up to its `}`
 abbrev pub closed_members : TypeKind → Form (List MemberAt)
-closed_members k = before (turn joined_lists (many (member_form k))) (sign 3)
+closed_members k = before (turn joined_lists (many (member_form k))) (sign token.close_brace)

@@ -9,7 +9,8 @@ use Rattle.decl_grammar.specs.declared.written.Modifiers.{Modifiers}
 use Rattle.decl_grammar.specs.declared.written.ParamAt.{ParamAt}
 use Rattle.decl_grammar.specs.declared.written.ParamEnd.{ParamEnd}
 use Rattle.decl_grammar.specs.declared.written.ParamEnd.TheVariants as param_end
-use Rattle.decl_grammar.specs.Symbols.{operator}
+use Rattle.decl_grammar.specs.Symbols.{operator, word}
+use Rattle.decl_grammar.specs.TokenNames as token
 use Rattle.decl_grammar.specs.Reading.{starts, Outcome, done, fault, ◌>>=◌}
 use Rattle.decl_grammar.specs.Form.{Form}
 use Rattle.decl_grammar.specs.Types.{annotations, base_type}
@@ -48,7 +49,9 @@ ParamRead room ts e rest = (m : Modifiers) × (at : List Symbol) × (reads room 
 
 -- of a first parameter, behind its annotations: a `final` makes it one that is no receiver
 abbrev pub FirstBehind : ℕ → List Symbol → ParamEnd → List Symbol → Type 0
-FirstBehind room ts e rest = ((starts (27 ∷ []) ts ≡ true) × ParamRead room (drop 1 ts) e rest) ⊎ ((starts (27 ∷ []) ts ≡ false) × BasedRead room true ts e rest)
+FirstBehind room ts e rest =
+    ((starts (word token.final ∷ []) ts ≡ true) × ParamRead room (drop 1 ts) e rest)
+    ⊎ ((starts (word token.final ∷ []) ts ≡ false) × BasedRead room true ts e rest)
 
 abbrev pub FirstRead : ℕ → List Symbol → ParamEnd → List Symbol → Type 0
 FirstRead room ts e rest = (found : List AnnotationText) × (at : List Symbol) × (reads room annotations ts ≡ done found at) × FirstBehind room at e rest
@@ -83,7 +86,7 @@ pub record TailFull (n : ℕ) (ts : List Symbol) : Type 0 where
   pub next : Symbol
   pub items : List ParamAt
   pub parts : ts ≡ front ++ comma ∷ next ∷ []
-  pub is_comma : comma.sort ≡ operator 7
+  pub is_comma : comma.sort ≡ operator token.comma
   pub whole : TailWhole front items
   pub begins : OpensWith params_from next
   pub many : most ≤ n + length items

@@ -10,10 +10,12 @@ use Rattle.decl_grammar.specs.Types.{keyword, name, silently, base_type, dim, ty
 use Rattle.decl_grammar.specs.Rule.{reads}
 use Rattle.decl_limits.specs.Children.{Then, IsFull, NextParam, ExecutableFull}
 use Rattle.decl_children.specs.Fronts.{SomeFront}
+use Rattle.decl_grammar.specs.Symbols.{operator, word}
+use Rattle.decl_grammar.specs.TokenNames as token
 
 -- a constructor's name, with the bracket of its parameters behind it
 abbrev pub names_constructor : List Symbol → Bool
-names_constructor ts = starts names ts && starts (61 ∷ []) (drop 1 ts)
+names_constructor ts = starts names ts && starts (operator token.open_parenthesis ∷ []) (drop 1 ts)
 
 -- a type is read up to here
 abbrev pub TypeRead : ℕ → List Symbol → List Symbol → Type 0
@@ -22,8 +24,8 @@ TypeRead room ts at = (of : BaseType) × (mid : List Symbol) × (ds : List Aroun
 -- behind `void` or a type, or at the name of a constructor
 abbrev pub ResultRead : ℕ → List Symbol → List Symbol → Type 0
 ResultRead room ts at =
-    ((starts (57 ∷ []) ts ≡ true) × (at ≡ drop 1 ts))
-    ⊎ ((starts (57 ∷ []) ts ≡ false) × (((names_constructor ts ≡ true) × (at ≡ ts)) ⊎ ((names_constructor ts ≡ false) × TypeRead room ts at)))
+    ((starts (word token.void ∷ []) ts ≡ true) × (at ≡ drop 1 ts))
+    ⊎ ((starts (word token.void ∷ []) ts ≡ false) × (((names_constructor ts ≡ true) × (at ≡ ts)) ⊎ ((names_constructor ts ≡ false) × TypeRead room ts at)))
 
 abbrev pub FindsAt : (List Symbol → Type 0) → Option (Bor (List Symbol)) → Type 0
 FindsAt R (Some at) = R at.now
@@ -31,7 +33,7 @@ FindsAt R None = (at : List Symbol) → R at → ⊥
 
 -- the result and the name of a method, or the name of a constructor
 abbrev pub result_form : Form (Option (Unit {0}))
-result_form = maybe (either (turn silently (keyword 47)) (turn silently type_form))
+result_form = maybe (either (turn silently (keyword token.void)) (turn silently type_form))
 
 abbrev pub NamedCrowds : ℕ → List Symbol → Type 0
 NamedCrowds n ts = SomeFront (Then (pair result_form name) (λ x us. IsFull NextParam n us)) ts

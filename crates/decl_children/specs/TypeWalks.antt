@@ -20,6 +20,8 @@ use Rattle.decl_children.specs.declared.walks.Walk.{Walk}
 use Rattle.decl_children.specs.declared.walks.Walk.TheVariants as walk
 use Rattle.decl_children.specs.declared.walks.Step.{Step}
 use Rattle.decl_children.specs.declared.walks.Step.TheVariants as step
+use Rattle.decl_grammar.specs.Symbols.{operator}
+use Rattle.decl_grammar.specs.TokenNames as token
 use Rattle.decl_children.specs.Fronts.{SomeFront, Passes}
 use Rattle.decl_children.specs.Members.{MembersCrowd, MemberCrowds, TypeCrowds, closed_members, heading_of}
 
@@ -55,14 +57,14 @@ unmodified_form kind.Interface = unmodified_of false
 
 -- an initialiser, with a `static` before it or without
 abbrev pub initialiser_block : Form (Unit {0})
-initialiser_block = either block (behind (keyword 37) block)
+initialiser_block = either block (behind (keyword token.static) block)
 
 -- what gives no member: a `;`, or an initialiser
 abbrev pub nothing_form : TypeKind → Form (Unit {0})
-nothing_form kind.Enum = either (turn silently (sign 6)) initialiser_block
-nothing_form kind.Class = either (turn silently (sign 6)) initialiser_block
-nothing_form kind.AnnotationType = turn silently (sign 6)
-nothing_form kind.Interface = turn silently (sign 6)
+nothing_form kind.Enum = either (turn silently (sign token.semicolon)) initialiser_block
+nothing_form kind.Class = either (turn silently (sign token.semicolon)) initialiser_block
+nothing_form kind.AnnotationType = turn silently (sign token.semicolon)
+nothing_form kind.Interface = turn silently (sign token.semicolon)
 
 -- ---- the members of a type
 
@@ -89,11 +91,11 @@ TypeEnds ts rest = (x : TypeRest) × Passes type_rest ts x rest
 
 -- an enum up to what stands behind its constants: how many there are
 abbrev pub enum_front : Form ℕ
-enum_front = turn length (behind enum_heading (behind (sign 2) constants))
+enum_front = turn length (behind enum_heading (behind (sign token.open_brace) constants))
 
 -- what stands behind the constants of an enum, up to its `}`
 abbrev pub enum_tail : Form (List MemberAt)
-enum_tail = before enum_members (sign 3)
+enum_tail = before enum_members (sign token.close_brace)
 
 -- a class or an interface is full in its type parameters
 abbrev pub ParamsOver : List Symbol → Type 0
@@ -105,8 +107,12 @@ ConstantsOver ts = SomeFront (Then enum_heading (λ (x : Unit {0}) us. IsFull Ne
 
 -- Behind so many constants it is full behind a `;`, or at the `}`.
 abbrev pub EnumOver : ℕ → List Symbol → Type 0
-EnumOver n ts = ((starts (67 ∷ []) ts ≡ true) × MembersOver kind.Enum n false (drop 1 ts)) ⊎ ((starts (64 ∷ []) ts ≡ true) × (most < n + added_to kind.Enum false))
+EnumOver n ts =
+    ((starts (operator token.semicolon ∷ []) ts ≡ true) × MembersOver kind.Enum n false (drop 1 ts))
+    ⊎ ((starts (operator token.close_brace ∷ []) ts ≡ true) × (most < n + added_to kind.Enum false))
 
 -- behind its constants it ends before these symbols
 abbrev pub EnumEnd : List Symbol → List Symbol → Type 0
-EnumEnd ts rest = ((starts (67 ∷ []) ts ≡ true) × MembersEnd kind.Enum (drop 1 ts) rest) ⊎ ((starts (64 ∷ []) ts ≡ true) × (rest ≡ drop 1 ts))
+EnumEnd ts rest =
+    ((starts (operator token.semicolon ∷ []) ts ≡ true) × MembersEnd kind.Enum (drop 1 ts) rest)
+    ⊎ ((starts (operator token.close_brace ∷ []) ts ≡ true) × (rest ≡ drop 1 ts))

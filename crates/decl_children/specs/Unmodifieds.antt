@@ -5,6 +5,7 @@ use Rattle.decl_grammar.specs.declared.symbol.Symbol.{Symbol}
 use Rattle.decl_grammar.specs.declared.written.Unmodified.{Unmodified}
 use Rattle.decl_grammar.specs.declared.written.Unmodified.TheVariants as unmodified
 use Rattle.decl_grammar.specs.Symbols.{operator}
+use Rattle.decl_grammar.specs.TokenNames as token
 use Rattle.decl_grammar.specs.Form.{Form, pair, turn, many}
 use Rattle.decl_grammar.specs.Types.{name, dim, type_form, silently}
 use Rattle.decl_grammar.specs.File.{IsPhrase}
@@ -43,7 +44,7 @@ field_front = turn silently (pair type_form (pair name (many dim)))
 -- With a `;` behind some front there are more fields than a type with so many children may have.
 abbrev pub FieldsBehind : TypeKind → ℕ → List Symbol → Type 0
 FieldsBehind k n ts =
-    SomeFront (λ us. (u : Unmodified) × IsPhrase (unmodified_form k) (us ++ blank (operator 6) ∷ []) u × (most < n + count_of u)) ts
+    SomeFront (λ us. (u : Unmodified) × IsPhrase (unmodified_form k) (us ++ blank (operator token.semicolon) ∷ []) u × (most < n + count_of u)) ts
 
 -- a whole method or constructor has too many children
 abbrev pub OwnBehind : TypeKind → List Symbol → Type 0

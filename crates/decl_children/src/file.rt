@@ -15,6 +15,7 @@ use crate::steps::{all, behind, read_or_none};
 use crate::types::walk_type;
 use crate::walks::Walk;
 use apt_base::NoMemory;
+use decl_grammar::sorts::{PACKAGE, SEMICOLON};
 use decl_grammar::{NameAt, ReadFault, Symbol};
 use decl_limits::most_separators;
 use decl_types::{package_of, type_modifiers_of};
@@ -33,7 +34,7 @@ fn walk_top<'a, 's>(
     requires room { 3 * length symbols.now ≤ room }
     ensures { Walks (TopCrowds symbols.now) (TopEnds symbols.now) result }
 {
-    if is_next(symbols, 67) {
+    if is_next(symbols, SEMICOLON) {
         return Ok(Walk::Behind(behind(symbols)));
     }
     let Some((_, rest)) = read_or_none(type_modifiers_of(alloc, room, symbols))? else {
@@ -66,7 +67,7 @@ fn optional_package_of<'a, 's>(
 ) -> Result<(Option<NameAt>, &'s [Symbol<'a>]), ReadFault>
     ensures { Gives (λ x. (x.0, x.1.now)) result (reads room (maybe package_form) symbols.now) }
 {
-    if is_next(symbols, 41) {
+    if is_next(symbols, PACKAGE) {
         let (name, rest) = package_of(alloc, room, symbols)?;
         return Ok((Some(name), rest));
     }

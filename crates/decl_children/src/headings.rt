@@ -6,6 +6,7 @@ ghost use Rattle.decl_limits.specs.Children.{class_heading, interface_heading, a
 ghost use Rattle.decl_children.specs.Members.{heading_of};
 ghost use Rattle.decl_children.specs.TypeWalks.{enum_front};
 
+use decl_grammar::sorts::{AT_INTERFACE, CLASS, ENUM, INTERFACE, OPEN_BRACE, SEMICOLON};
 use decl_grammar::{ReadFault, Symbol};
 use decl_members::{constants_of, extended_of, implemented_of, superclass_of};
 use decl_tree::TypeKind;
@@ -22,12 +23,12 @@ fn class_heading_of<'a, 's>(
 ) -> Result<(usize, &'s [Symbol<'a>]), ReadFault>
     ensures { Gives (λ x. (x.0, x.1.now)) result (reads room class_heading symbols.now) }
 {
-    let (_, rest) = one(symbols, 18)?;
+    let (_, rest) = one(symbols, CLASS)?;
     let (_, rest) = read_name(room, rest)?;
     let (parameters, rest) = optional_params_of(alloc, room, rest)?;
     let (_, rest) = superclass_of(alloc, room, rest)?;
     let (_, rest) = implemented_of(alloc, room, rest)?;
-    let (_, rest) = one(rest, 63)?;
+    let (_, rest) = one(rest, OPEN_BRACE)?;
     Ok((parameters.len(), rest))
 }
 
@@ -40,11 +41,11 @@ fn interface_heading_of<'a, 's>(
 ) -> Result<(usize, &'s [Symbol<'a>]), ReadFault>
     ensures { Gives (λ x. (x.0, x.1.now)) result (reads room interface_heading symbols.now) }
 {
-    let (_, rest) = one(symbols, 37)?;
+    let (_, rest) = one(symbols, INTERFACE)?;
     let (_, rest) = read_name(room, rest)?;
     let (parameters, rest) = optional_params_of(alloc, room, rest)?;
     let (_, rest) = extended_of(alloc, room, rest)?;
-    let (_, rest) = one(rest, 63)?;
+    let (_, rest) = one(rest, OPEN_BRACE)?;
     Ok((parameters.len(), rest))
 }
 
@@ -56,10 +57,10 @@ fn annotation_heading_of<'a, 's>(
 ) -> Result<(usize, &'s [Symbol<'a>]), ReadFault>
     ensures { Gives (λ x. (x.0, x.1.now)) result (reads room annotation_heading symbols.now) }
 {
-    let (_, rest) = one(symbols, 9)?;
-    let (_, rest) = one(rest, 37)?;
+    let (_, rest) = one(symbols, AT_INTERFACE)?;
+    let (_, rest) = one(rest, INTERFACE)?;
     let (_, rest) = read_name(room, rest)?;
-    let (_, rest) = one(rest, 63)?;
+    let (_, rest) = one(rest, OPEN_BRACE)?;
     Ok((0, rest))
 }
 
@@ -72,7 +73,7 @@ pub fn enum_heading_of<'a, 's>(
 ) -> Result<&'s [Symbol<'a>], ReadFault>
     ensures { Gives (λ x. (tt, x.now)) result (reads room enum_heading symbols.now) }
 {
-    let (_, rest) = one(symbols, 25)?;
+    let (_, rest) = one(symbols, ENUM)?;
     let (_, rest) = read_name(room, rest)?;
     let (_, rest) = implemented_of(alloc, room, rest)?;
     Ok(rest)
@@ -87,7 +88,7 @@ pub fn enum_front_of<'a, 's>(
     ensures { Gives (λ x. (x.0, x.1.now)) result (reads room enum_front symbols.now) }
 {
     let rest = enum_heading_of(alloc, room, symbols)?;
-    let (_, rest) = one(rest, 63)?;
+    let (_, rest) = one(rest, OPEN_BRACE)?;
     let (constants, rest) = constants_of(alloc, room, rest)?;
     Ok((constants.len(), rest))
 }
@@ -102,9 +103,9 @@ fn constants_heading_of<'a, 's>(
     ensures { Gives (λ x. (x.0, x.1.now)) result (reads room whole_constants symbols.now) }
 {
     let rest = enum_heading_of(alloc, room, symbols)?;
-    let (_, rest) = one(rest, 63)?;
+    let (_, rest) = one(rest, OPEN_BRACE)?;
     let (constants, rest) = constants_of(alloc, room, rest)?;
-    let (_, rest) = one(rest, 67)?;
+    let (_, rest) = one(rest, SEMICOLON)?;
     Ok((constants.len(), rest))
 }
 
@@ -130,12 +131,12 @@ pub fn heading_at<'a, 's>(
 fn generic_word<'a, 's>(
     symbols: &'s [Symbol<'a>],
 ) -> Result<(&'s Symbol<'a>, &'s [Symbol<'a>]), ReadFault>
-    ensures { Gives (λ x. (x.0.now, x.1.now)) result (one_at (18 ∷ 37 ∷ []) symbols.now) }
+    ensures { Gives (λ x. (x.0.now, x.1.now)) result (one_at (CLASS ∷ INTERFACE ∷ []) symbols.now) }
 {
     match symbols {
         [] => Err(ReadFault::Bad(0)),
         [symbol, rest @ ..] => {
-            if symbol.sort == 18 || symbol.sort == 37 {
+            if symbol.sort == CLASS || symbol.sort == INTERFACE {
                 Ok((symbol, rest))
             } else {
                 Err(ReadFault::Bad(symbols.len()))

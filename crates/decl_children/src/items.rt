@@ -8,6 +8,7 @@ ghost use Rattle.decl_children.specs.Walks.{TypeParamsCrowd, ConstantsCrowd};
 use crate::steps::{behind, read_or_none};
 use apt_base::NoMemory;
 use decl_grammar::Symbol;
+use decl_grammar::sorts::{COMMA, LESS_THAN, OPEN_BRACE};
 use decl_members::{constant_in, starts_constant};
 use decl_types::type_param_of;
 use decl_values::{is_next, starts_annotation, starts_name};
@@ -30,7 +31,7 @@ pub fn type_params_full(
     symbols: &[Symbol<'_>],
 ) -> Result<bool, NoMemory>
     requires room { 3 * length symbols.now ≤ room }
-    requires opened { starts (75 ∷ []) symbols.now ≡ true }
+    requires opened { starts (LESS_THAN ∷ []) symbols.now ≡ true }
     ensures { Tells (TypeParamsCrowd symbols.now) result }
 {
     let mut count: usize = 0;
@@ -42,7 +43,7 @@ pub fn type_params_full(
         let Some((_, after)) = read_or_none(type_param_of(alloc, room, rest))? else {
             return Ok(false);
         };
-        if !is_next(after, 68) {
+        if !is_next(after, COMMA) {
             return Ok(false);
         }
         count += 1;
@@ -54,7 +55,7 @@ pub fn type_params_full(
 /// Whether the constants of an enum, from its `{` on, are too many.
 pub fn constants_full(alloc: Global, room: usize, symbols: &[Symbol<'_>]) -> Result<bool, NoMemory>
     requires room { 3 * length symbols.now ≤ room }
-    requires opened { starts (63 ∷ []) symbols.now ≡ true }
+    requires opened { starts (OPEN_BRACE ∷ []) symbols.now ≡ true }
     ensures { Tells (ConstantsCrowd symbols.now) result }
 {
     let mut count: usize = 0;
@@ -66,7 +67,7 @@ pub fn constants_full(alloc: Global, room: usize, symbols: &[Symbol<'_>]) -> Res
         let Some((_, after)) = read_or_none(constant_in(alloc, room, rest))? else {
             return Ok(false);
         };
-        if !is_next(after, 68) {
+        if !is_next(after, COMMA) {
             return Ok(false);
         }
         count += 1;

@@ -12,6 +12,7 @@ use crate::steps::read_or_none;
 use apt_base::NoMemory;
 use decl_crossings::fields_cross;
 use decl_grammar::Symbol;
+use decl_grammar::sorts::OPEN_BRACE;
 use decl_values::is_next;
 use std::alloc::Global;
 
@@ -42,7 +43,7 @@ pub fn enum_constants_full(
     let Some(rest) = read_or_none(enum_heading_of(alloc, room, symbols))? else {
         return Ok(false);
     };
-    if !is_next(rest, 63) {
+    if !is_next(rest, OPEN_BRACE) {
         return Ok(false);
     }
     constants_full(alloc, room, rest)

@@ -6,10 +6,12 @@ ghost use Rattle.decl_grammar.specs.Form.{turn};
 ghost use Rattle.decl_grammar.specs.Types.{sign, silently};
 ghost use Rattle.decl_grammar.specs.Grammar.{unmodified_of, annotation_unmodified};
 ghost use Rattle.decl_grammar.specs.Rule.{reads};
+ghost use Rattle.decl_grammar.specs.TokenNames as token;
 ghost use Rattle.decl_children.specs.TypeWalks.{unmodified_form, initialiser_block, nothing_form};
 ghost use Rattle.decl_children.specs.Unmodifieds.{count_of, constructs_one, own_of, field_front};
 
 use crate::items::MOST;
+use decl_grammar::sorts::{OPEN_BRACE, SEMICOLON, STATIC, VOID};
 use decl_grammar::{MemberRest, ReadFault, Symbol, Unmodified};
 use decl_members::{generic_member_of, named_member_of, primitive_member_of, void_method_of};
 use decl_tree::TypeKind;
@@ -29,7 +31,7 @@ fn bare_of<'a, 's>(
     requires { starts (first_of nested_type) symbols.now ≡ false }
     ensures { Gives (λ x. (x.0, x.1.now)) result (reads room (unmodified_of constructors) symbols.now) }
 {
-    if is_next(symbols, 57) {
+    if is_next(symbols, VOID) {
         return void_method_of(alloc, room, symbols);
     }
     if starts_primitive(symbols) {
@@ -83,19 +85,19 @@ fn initialiser_block_of<'a, 's>(
 ) -> Result<&'s [Symbol<'a>], ReadFault>
     ensures { Gives (λ x. (tt, x.now)) result (reads room initialiser_block symbols.now) }
 {
-    if is_next(symbols, 63) {
-        return read_over(alloc, 63, symbols);
+    if is_next(symbols, OPEN_BRACE) {
+        return read_over(alloc, OPEN_BRACE, symbols);
     }
-    let (_, rest) = one(symbols, 47)?;
-    let rest = read_over(alloc, 63, rest)?;
+    let (_, rest) = one(symbols, STATIC)?;
+    let rest = read_over(alloc, OPEN_BRACE, rest)?;
     Ok(rest)
 }
 
 // A `;`.
 fn semicolon_of<'a, 's>(symbols: &'s [Symbol<'a>]) -> Result<&'s [Symbol<'a>], ReadFault>
-    ensures { Gives (λ x. (tt, x.now)) result (reads 0 (turn silently (sign 6)) symbols.now) }
+    ensures { Gives (λ x. (tt, x.now)) result (reads 0 (turn silently (sign token.semicolon)) symbols.now) }
 {
-    let (_, rest) = one(symbols, 67)?;
+    let (_, rest) = one(symbols, SEMICOLON)?;
     Ok(rest)
 }
 
@@ -108,7 +110,7 @@ pub fn nothing_of<'a, 's>(
 ) -> Result<&'s [Symbol<'a>], ReadFault>
     ensures { Gives (λ x. (tt, x.now)) result (reads room (nothing_form kind) symbols.now) }
 {
-    if is_next(symbols, 67) {
+    if is_next(symbols, SEMICOLON) {
         return semicolon_of(symbols);
     }
     match kind {

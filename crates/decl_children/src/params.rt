@@ -8,6 +8,7 @@ ghost use Rattle.decl_children.specs.ParamReads.{step_form, EndRead, BasedRead, 
 use crate::items::MOST;
 use crate::steps::{all, behind, read_or_none};
 use apt_base::NoMemory;
+use decl_grammar::sorts::{COMMA, FINAL, OPEN_PARENTHESIS};
 use decl_grammar::{ParamEnd, ReadFault, Symbol};
 use decl_types::{first_step_of, param_modifiers_of, param_step_of, starts_params};
 use decl_values::{annotations_of, base_type_of, is_next};
@@ -87,7 +88,7 @@ fn first_behind_of<'a, 's>(
 ) -> Result<Option<(ParamEnd, &'s [Symbol<'a>])>, NoMemory>
     ensures { IfOk result (FindsEnd (FirstBehind room symbols.now)) }
 {
-    if is_next(symbols, 27) {
+    if is_next(symbols, FINAL) {
         return param_of(alloc, room, behind(symbols));
     }
     based_of(alloc, room, true, symbols)
@@ -141,7 +142,7 @@ fn more_full(
 {
     let mut count = before;
     let mut rest = all(symbols);
-    'row: while is_next(rest, 68) {
+    'row: while is_next(rest, COMMA) {
         let next = behind(rest);
         if count >= MOST {
             return Ok(starts_params(next));
@@ -167,7 +168,7 @@ pub fn params_full(
     symbols: &[Symbol<'_>],
 ) -> Result<bool, NoMemory>
     requires room { 3 * length symbols.now ≤ room }
-    requires opened { starts (61 ∷ []) symbols.now ≡ true }
+    requires opened { starts (OPEN_PARENTHESIS ∷ []) symbols.now ≡ true }
     ensures { Tells (ParamsCrowd before symbols.now) result }
 {
     let inside = behind(symbols);

@@ -10,6 +10,7 @@ use crate::params::params_full;
 use crate::steps::{behind, read_or_none};
 use apt_base::NoMemory;
 use decl_grammar::Symbol;
+use decl_grammar::sorts::{LESS_THAN, OPEN_PARENTHESIS, VOID};
 use decl_types::optional_params_of;
 use decl_values::{annotations_of, base_type_of, dims_of, is_next, starts_name};
 use std::alloc::Global;
@@ -18,7 +19,7 @@ use std::alloc::Global;
 fn is_constructor(symbols: &[Symbol<'_>]) -> bool
     ensures { result ≡ names_constructor symbols.now }
 {
-    starts_name(symbols) && is_next(behind(symbols), 61)
+    starts_name(symbols) && is_next(behind(symbols), OPEN_PARENTHESIS)
 }
 
 // What is behind a type.
@@ -46,7 +47,7 @@ pub fn behind_result<'a, 's>(
 ) -> Result<Option<&'s [Symbol<'a>]>, NoMemory>
     ensures { IfOk result (FindsAt (ResultRead room symbols.now)) }
 {
-    if is_next(symbols, 57) {
+    if is_next(symbols, VOID) {
         return Ok(Some(behind(symbols)));
     }
     if is_constructor(symbols) {
@@ -79,7 +80,7 @@ pub fn params_crowd(alloc: Global, room: usize, symbols: &[Symbol<'_>]) -> Resul
     requires room { 3 * length symbols.now ≤ room }
     ensures { Tells (TypeParamsCrowd symbols.now) result }
 {
-    if !is_next(symbols, 75) {
+    if !is_next(symbols, LESS_THAN) {
         return Ok(false);
     }
     type_params_full(alloc, room, symbols)

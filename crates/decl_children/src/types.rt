@@ -19,6 +19,9 @@ use crate::results::executable_full;
 use crate::steps::{all, behind, read_or_none};
 use crate::walks::{Passed, Step, Walk};
 use apt_base::NoMemory;
+use decl_grammar::sorts::{
+    AT_INTERFACE, CLASS, CLOSE_BRACE, ENUM, INTERFACE, OPEN_BRACE, SEMICOLON,
+};
 use decl_grammar::{ReadFault, Symbol};
 use decl_tree::TypeKind;
 use decl_types::{starts_member, starts_type_word, type_modifiers_of};
@@ -32,10 +35,10 @@ fn begins_full(kind: TypeKind, before: usize, symbols: &[Symbol<'_>]) -> bool
     if before < MOST {
         return false;
     }
-    if is_next(symbols, 67) {
+    if is_next(symbols, SEMICOLON) {
         return false;
     }
-    if is_next(symbols, 63) {
+    if is_next(symbols, OPEN_BRACE) {
         return false;
     }
     starts_member(kind, symbols)
@@ -192,7 +195,7 @@ fn walk_members<'a, 's>(
     let mut so_far = before;
     let mut constructor = false;
     let mut rest = all(symbols);
-    'row: while !is_next(rest, 64) {
+    'row: while !is_next(rest, CLOSE_BRACE) {
         match walk_member(alloc, room, kind, so_far, rest)? {
             Step::Full => return Ok(Walk::Full),
             Step::Ended => return Ok(Walk::Ended),
@@ -249,13 +252,13 @@ fn walk_behind_constants<'a, 's>(
     requires room { 3 * length symbols.now ≤ room }
     ensures { Walks (EnumOver before symbols.now) (EnumEnd symbols.now) result }
 {
-    if is_next(symbols, 67) {
+    if is_next(symbols, SEMICOLON) {
         if before > MOST {
             return Ok(Walk::Full);
         }
         return walk_members(alloc, room, TypeKind::Enum, before, behind(symbols));
     }
-    if !is_next(symbols, 64) {
+    if !is_next(symbols, CLOSE_BRACE) {
         return Ok(Walk::Ended);
     }
     if before > MOST - 3 {
@@ -272,7 +275,7 @@ fn walk_enum<'a, 's>(
     symbols: &'s [Symbol<'a>],
 ) -> Result<Walk<'a, 's>, NoMemory>
     requires room { 3 * length symbols.now ≤ room }
-    requires begins { starts (25 ∷ []) symbols.now ≡ true }
+    requires begins { starts (ENUM ∷ []) symbols.now ≡ true }
     ensures { Walks (TypeCrowds symbols.now) (TypeEnds symbols.now) result }
 {
     if enum_constants_full(alloc, room, symbols)? {
@@ -295,16 +298,16 @@ pub fn walk_type<'a, 's>(
     requires room { 3 * length symbols.now ≤ room }
     ensures { Walks (TypeCrowds symbols.now) (TypeEnds symbols.now) result }
 {
-    if is_next(symbols, 25) {
+    if is_next(symbols, ENUM) {
         return walk_enum(alloc, room, symbols);
     }
-    if is_next(symbols, 18) {
+    if is_next(symbols, CLASS) {
         return walk_headed(alloc, room, TypeKind::Class, symbols);
     }
-    if is_next(symbols, 37) {
+    if is_next(symbols, INTERFACE) {
         return walk_headed(alloc, room, TypeKind::Interface, symbols);
     }
-    if is_next(symbols, 9) {
+    if is_next(symbols, AT_INTERFACE) {
         return walk_headed(alloc, room, TypeKind::AnnotationType, symbols);
     }
     Ok(Walk::Ended)

@@ -9,6 +9,9 @@ ghost use Rattle.decl_grammar.specs.declared.fault.ReadFault.TheVariants as faul
 use crate::primitives::primitive_of_sort;
 use crate::token_texts::joined_text;
 use apt_base::{List, Name, NoMemory};
+use decl_grammar::sorts::{
+    CLASS, CLOSE_BRACKET, DOT, FLOATING, INTEGER, MINUS, NAMED, NULL, OPEN_BRACKET, PLUS, VOID,
+};
 use decl_grammar::{ReadFault, Symbol};
 use decl_names::begin;
 use decl_tree::{Around, BaseType, NamedPart, PrimitiveKind, TypeText, ValueText};
@@ -18,21 +21,21 @@ use std::alloc::Global;
 fn is_name_symbol(symbol: &Symbol<'_>) -> bool
     ensures { result ≡ is_name symbol.now }
 {
-    symbol.sort <= 1
+    symbol.sort <= NAMED
 }
 
 // Whether a symbol is a literal (JLS 3.10).
 fn is_literal_symbol(symbol: &Symbol<'_>) -> bool
     ensures { result ≡ is_literal symbol.now }
 {
-    2 <= symbol.sort && symbol.sort <= 8
+    INTEGER <= symbol.sort && symbol.sort <= NULL
 }
 
 // Whether a symbol is a literal of a number.
 fn is_numeral_symbol(symbol: &Symbol<'_>) -> bool
     ensures { result ≡ is_numeral symbol.now }
 {
-    symbol.sort == 2 || symbol.sort == 3
+    symbol.sort == INTEGER || symbol.sort == FLOATING
 }
 
 // The name behind the dot that stands first, where there are such, and what is behind the first two symbols. It gives no fault.
@@ -46,7 +49,7 @@ fn dotted_step<'a, 's>(
         [dot, behind @ ..] => match behind {
             [] => Ok((None, behind)),
             [name, after @ ..] => {
-                if dot.sort == 69 && is_name_symbol(name) {
+                if dot.sort == DOT && is_name_symbol(name) {
                     return Ok((Some(name), after));
                 }
                 Ok((None, after))
@@ -112,7 +115,10 @@ fn dim_step<'a, 's>(symbols: &'s [Symbol<'a>]) -> Result<(bool, &'s [Symbol<'a>]
         [] => Ok((false, symbols)),
         [first, behind @ ..] => match behind {
             [] => Ok((false, behind)),
-            [second, after @ ..] => Ok((first.sort == 65 && second.sort == 66, after)),
+            [second, after @ ..] => Ok((
+                first.sort == OPEN_BRACKET && second.sort == CLOSE_BRACKET,
+                after,
+            )),
         },
     }
 }
@@ -122,7 +128,7 @@ fn is_class_here(symbols: &[Symbol<'_>]) -> bool
     ensures { result ≡ class_here symbols.now }
 {
     match symbols {
-        [dot, word] => dot.sort == 69 && word.sort == 18,
+        [dot, word] => dot.sort == DOT && word.sort == CLASS,
         _ => false,
     }
 }
@@ -224,7 +230,7 @@ fn class_in(alloc: Global, symbols: &[Symbol<'_>]) -> Result<Option<TypeText>, R
                 parts.push(part_of(alloc, first.text.as_str())?)?;
                 return class_named_of(alloc, parts, rest);
             }
-            if first.sort == 57 {
+            if first.sort == VOID {
                 return Ok(class_void_of(alloc, rest));
             }
             class_primitive_of(alloc, primitive_of_sort(first.sort), rest)
@@ -253,7 +259,7 @@ fn negated_in(alloc: Global, symbols: &[Symbol<'_>]) -> Result<Option<ValueText>
 {
     match symbols {
         [sign, numeral] => {
-            if sign.sort == 90 && is_numeral_symbol(numeral) {
+            if sign.sort == MINUS && is_numeral_symbol(numeral) {
                 return Ok(Some(ValueText::Negated(Name::new(alloc, numeral.text.as_str())?)));
             }
             Ok(None)
@@ -283,7 +289,7 @@ fn plus_at(symbols: &[Symbol<'_>]) -> usize
     let mut at = 0;
     let mut rest = symbols;
     'row: while let [symbol, after @ ..] = rest {
-        if symbol.sort == 89 {
+        if symbol.sort == PLUS {
             return at;
         }
         at += 1;

@@ -12,6 +12,9 @@ ghost use Rattle.decl_grammar.specs.Constants.{expression_of};
 
 use crate::constants::expression_value;
 use crate::primitives::primitive_type_of;
+use decl_grammar::sorts::{
+    CLASS, CLOSE_BRACKET, DOT, FLOATING, INTEGER, MINUS, OPEN_BRACKET, PLUS, VOID,
+};
 use decl_grammar::{ReadFault, Symbol};
 use decl_names::{
     begin, is_literal_sort, is_next, one, read_chain, read_name, starts_name, starts_primitive,
@@ -21,7 +24,7 @@ use std::alloc::Global;
 
 // Whether a literal begins here.
 fn starts_literal(symbols: &[Symbol<'_>]) -> bool
-    ensures { result ≡ starts (numbers 2 7) symbols.now }
+    ensures { result ≡ starts (numbers INTEGER 7) symbols.now }
 {
     match symbols {
         [] => false,
@@ -32,7 +35,7 @@ fn starts_literal(symbols: &[Symbol<'_>]) -> bool
 // What is behind a literal.
 #[tactic(auto, unfolding(decl_grammar::specs::Reading::one_at))]
 fn read_literal<'a, 's>(symbols: &'s [Symbol<'a>]) -> Result<&'s [Symbol<'a>], ReadFault>
-    ensures { Gives (λ x. (tt, x.now)) result (turned silently (one_at (numbers 2 7) symbols.now)) }
+    ensures { Gives (λ x. (tt, x.now)) result (turned silently (one_at (numbers INTEGER 7) symbols.now)) }
 {
     match symbols {
         [] => Err(ReadFault::Bad(0)),
@@ -50,12 +53,12 @@ fn read_literal<'a, 's>(symbols: &'s [Symbol<'a>]) -> Result<&'s [Symbol<'a>], R
 fn read_numeral<'a, 's>(
     symbols: &'s [Symbol<'a>],
 ) -> Result<(&'s Symbol<'a>, &'s [Symbol<'a>]), ReadFault>
-    ensures { Gives (λ x. (x.0.now, x.1.now)) result (one_at (2 ∷ 3 ∷ []) symbols.now) }
+    ensures { Gives (λ x. (x.0.now, x.1.now)) result (one_at (INTEGER ∷ FLOATING ∷ []) symbols.now) }
 {
     match symbols {
         [] => Err(ReadFault::Bad(0)),
         [symbol, rest @ ..] => {
-            if symbol.sort == 2 || symbol.sort == 3 {
+            if symbol.sort == INTEGER || symbol.sort == FLOATING {
                 return Ok((symbol, rest));
             }
             Err(ReadFault::Bad(symbols.len()))
@@ -88,7 +91,7 @@ fn plus_constant_of<'a, 's>(
 ) -> Result<&'s [Symbol<'a>], ReadFault>
     ensures { Gives (λ x. (tt, x.now)) result (reads room plus_constant symbols.now) }
 {
-    let (_, rest) = one(symbols, 89)?;
+    let (_, rest) = one(symbols, PLUS)?;
     plain_constant_of(alloc, room, rest)
 }
 
@@ -101,7 +104,7 @@ fn more_plus_of<'a, 's>(
     ensures { Gives (λ x. (tt, x.now)) result (read_as silently room (many plus_constant) symbols.now) }
 {
     let mut rest = begin(symbols)?;
-    'row: while is_next(rest, 89) {
+    'row: while is_next(rest, PLUS) {
         rest = plus_constant_of(alloc, room, rest)?;
     }
     Ok(rest)
@@ -115,8 +118,8 @@ fn bare_dim_of<'a, 's>(
 ) -> Result<(&'s Symbol<'a>, &'s [Symbol<'a>]), ReadFault>
     ensures { Gives (λ x. (x.0.now, x.1.now)) result (reads room bare_dim symbols.now) }
 {
-    let (_, rest) = one(symbols, 65)?;
-    one(rest, 66)
+    let (_, rest) = one(symbols, OPEN_BRACKET)?;
+    one(rest, CLOSE_BRACKET)
 }
 
 // What is behind all pairs of brackets.
@@ -127,7 +130,7 @@ fn more_bare_dims_of<'a, 's>(
     ensures { Gives (λ x. (tt, x.now)) result (read_as silently room (many bare_dim) symbols.now) }
 {
     let mut rest = begin(symbols)?;
-    'row: while is_next(rest, 65) {
+    'row: while is_next(rest, OPEN_BRACKET) {
         let (_, after) = bare_dim_of(room, rest)?;
         rest = after;
     }
@@ -142,8 +145,8 @@ fn dot_class_of<'a, 's>(
 ) -> Result<(&'s Symbol<'a>, &'s [Symbol<'a>]), ReadFault>
     ensures { Gives (λ x. (x.0.now, x.1.now)) result (reads room dot_class symbols.now) }
 {
-    let (_, rest) = one(symbols, 69)?;
-    one(rest, 18)
+    let (_, rest) = one(symbols, DOT)?;
+    one(rest, CLASS)
 }
 
 // Pairs of brackets, and `.class`.
@@ -172,16 +175,16 @@ fn array_class_of<'a, 's>(
 
 // Whether brackets or a `+` go on behind a name.
 fn starts_chain_end(symbols: &[Symbol<'_>]) -> bool
-    ensures { result ≡ starts (65 ∷ 89 ∷ []) symbols.now }
+    ensures { result ≡ starts (OPEN_BRACKET ∷ PLUS ∷ []) symbols.now }
 {
-    is_next(symbols, 65) || is_next(symbols, 89)
+    is_next(symbols, OPEN_BRACKET) || is_next(symbols, PLUS)
 }
 
 // Whether what goes on behind a name begins here.
 fn starts_chain(symbols: &[Symbol<'_>]) -> bool
-    ensures { result ≡ starts (69 ∷ 65 ∷ 89 ∷ []) symbols.now }
+    ensures { result ≡ starts (DOT ∷ OPEN_BRACKET ∷ PLUS ∷ []) symbols.now }
 {
-    is_next(symbols, 69) || starts_chain_end(symbols)
+    is_next(symbols, DOT) || starts_chain_end(symbols)
 }
 
 // Behind a name what is no further name: brackets and `.class`, or what a `+` joins.
@@ -193,7 +196,7 @@ fn chain_end_of<'a, 's>(
 ) -> Result<&'s [Symbol<'a>], ReadFault>
     ensures { Gives (λ x. (tt, x.now)) result (reads room chain_end symbols.now) }
 {
-    if is_next(symbols, 65) {
+    if is_next(symbols, OPEN_BRACKET) {
         let (_, rest) = array_class_of(room, symbols)?;
         return Ok(rest);
     }
@@ -208,9 +211,9 @@ fn chain_step_of<'a, 's>(
 ) -> Result<(bool, &'s [Symbol<'a>]), ReadFault>
     ensures { Gives (λ x. (x.0, x.1.now)) result (chain_step room symbols.now) }
 {
-    let (_, rest) = one(symbols, 69)?;
-    if is_next(rest, 18) {
-        let (_, rest) = one(rest, 18)?;
+    let (_, rest) = one(symbols, DOT)?;
+    if is_next(rest, CLASS) {
+        let (_, rest) = one(rest, CLASS)?;
         return Ok((false, rest));
     }
     let (_, rest) = read_name(room, rest)?;
@@ -226,7 +229,7 @@ fn chain_of<'a, 's>(
     ensures { Gives (λ x. (tt, x.now)) result (read_nest room constant_chain symbols.now) }
 {
     let mut rest = begin(symbols)?;
-    'row: while is_next(rest, 69) {
+    'row: while is_next(rest, DOT) {
         let (more, after) = chain_step_of(room, rest)?;
         if !more {
             return Ok(after);
@@ -273,7 +276,7 @@ fn negated_constant_of<'a, 's>(
 ) -> Result<&'s [Symbol<'a>], ReadFault>
     ensures { Gives (λ x. (tt, x.now)) result (reads room negated_constant symbols.now) }
 {
-    let (_, rest) = one(symbols, 90)?;
+    let (_, rest) = one(symbols, MINUS)?;
     let (_, rest) = read_numeral(rest)?;
     Ok(rest)
 }
@@ -299,7 +302,7 @@ fn void_class_of<'a, 's>(
 ) -> Result<&'s [Symbol<'a>], ReadFault>
     ensures { Gives (λ x. (tt, x.now)) result (reads room void_class symbols.now) }
 {
-    let (_, rest) = one(symbols, 57)?;
+    let (_, rest) = one(symbols, VOID)?;
     let (_, rest) = dot_class_of(room, rest)?;
     Ok(rest)
 }
@@ -319,7 +322,7 @@ fn plain_form_of<'a, 's>(
     if starts_name(symbols) {
         return named_constant_of(alloc, room, symbols);
     }
-    if is_next(symbols, 90) {
+    if is_next(symbols, MINUS) {
         return negated_constant_of(room, symbols);
     }
     if starts_primitive(symbols) {

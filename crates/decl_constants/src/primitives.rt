@@ -5,6 +5,7 @@ ghost use Rattle.decl_grammar.specs.Types.{primitive_type, kind_of_word};
 ghost use Rattle.decl_grammar.specs.Rule.{reads};
 ghost use Rattle.decl_grammar.specs.Constants.{primitive_of};
 
+use decl_grammar::sorts::{BOOLEAN, BYTE, CHAR, DOUBLE, FLOAT, INT, LONG, SHORT};
 use decl_grammar::{ReadFault, Symbol};
 use decl_names::is_primitive;
 use decl_tree::PrimitiveKind;
@@ -13,28 +14,28 @@ use decl_tree::PrimitiveKind;
 pub fn primitive_of_sort(sort: u8) -> Option<PrimitiveKind>
     ensures { result ≡ primitive_of sort }
 {
-    if sort == 12 {
+    if sort == BOOLEAN {
         return Some(PrimitiveKind::Boolean);
     }
-    if sort == 14 {
+    if sort == BYTE {
         return Some(PrimitiveKind::Byte);
     }
-    if sort == 46 {
+    if sort == SHORT {
         return Some(PrimitiveKind::Short);
     }
-    if sort == 36 {
+    if sort == INT {
         return Some(PrimitiveKind::Int);
     }
-    if sort == 38 {
+    if sort == LONG {
         return Some(PrimitiveKind::Long);
     }
-    if sort == 17 {
+    if sort == CHAR {
         return Some(PrimitiveKind::Char);
     }
-    if sort == 29 {
+    if sort == FLOAT {
         return Some(PrimitiveKind::Float);
     }
-    if sort == 23 {
+    if sort == DOUBLE {
         return Some(PrimitiveKind::Double);
     }
     None

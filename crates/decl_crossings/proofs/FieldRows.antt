@@ -9,6 +9,7 @@ use Rattle.decl_turns.specs.declared.states.Next.TheVariants as next
 use Rattle.decl_grammar.specs.declared.symbol.Symbol.{Symbol}
 use Rattle.decl_grammar.specs.declared.written.Declarator.{Declarator}
 use Rattle.decl_grammar.specs.Symbols.{operator, numbers}
+use Rattle.decl_grammar.specs.TokenNames as token
 use Rattle.decl_grammar.specs.Reading.{has, starts, done}
 use Rattle.decl_grammar.specs.Form.{After, Rest, Is, many, nest, turn, names, assigned, anywhere, between, one_of, initialiser, expression_part, expression_rest, value_end, first, first_of}
 use Rattle.decl_grammar.specs.Types.{dim, annotation, annotations, annotation_body, name_chain, name, dot_name, annotation_arguments, pairs_or_value, first_pair, placed_name}
@@ -52,7 +53,7 @@ value-alone n d = absurd (omega (arith, (value-fewer d.1.0).there (closed []) d.
 initialiser-some : (n : ℕ) → Declares (nest initialiser) behind_value n [] → ⊥
 unfolding numbers
 initialiser-some n (x, (zero, is), lt) = absurd is
-initialiser-some n (x, (suc h, is), lt) = no-both (sym (heads-at (suc h) initialiser (blank (operator 6)) [] x is))
+initialiser-some n (x, (suc h, is), lt) = no-both (sym (heads-at (suc h) initialiser (blank (operator token.semicolon)) [] x is))
 
 -- no front of nothing has a field
 pub none-behind : (n : ℕ) (a : After) → RestCrosses n a [] → ⊥
@@ -120,7 +121,7 @@ rest-initialiser n t ws e (x, (suc h, inl is), lt) = (initialised x, (suc h, inr
 rest-initialiser n t ws e (x, (suc h, inr (inl is)), lt) = (initialised x, (suc h, inr (x, inr (inl is), refl)), lt)
 rest-initialiser n t ws e (x, (suc h, inr (inr (inl is))), lt) = (initialised x, (suc h, inr (x, inr (inr is), refl)), lt)
 rest-initialiser n t ws e (x, (suc h, inr (inr (inr is))), lt) =
-    absurd (no-both (sym (heads-at h (value_end assigned) t (ws ++ blank (operator 6) ∷ []) is.0 is.1) ∙ e))
+    absurd (no-both (sym (heads-at h (value_end assigned) t (ws ++ blank (operator token.semicolon) ∷ []) is.0 is.1) ∙ e))
 
 pub initialiser-on : (n : ℕ) (ts : List Symbol) → starts value_ends ts ≡ false → RestCrosses n between ts → InitialiserCrosses n ts
 initialiser-on n ts e crosses = (crosses.0, crosses.1, crosses.2, go crosses.0 crosses.1 (subst (λ (us : List Symbol). starts value_ends us ≡ false) crosses.2 e) crosses.3)
@@ -139,7 +140,7 @@ initialiser-none n ts e crosses = go crosses.0 crosses.1 (subst (λ (us : List S
     go : (ws zs : List Symbol) → starts value_ends (ws ++ zs) ≡ true → Declares (nest initialiser) behind_value n ws → ⊥
     go [] zs e d = initialiser-some n d
     go (t ∷ ws) zs e d =
-        no-both (sym (heads-at d.1.0 initialiser t (ws ++ blank (operator 6) ∷ []) d.0 d.1.1) ∙ disjoint-has value_ends (first_of initialiser) t.sort ends-apart e)
+        no-both (sym (heads-at d.1.0 initialiser t (ws ++ blank (operator token.semicolon) ∷ []) d.0 d.1.1) ∙ disjoint-has value_ends (first_of initialiser) t.sort ends-apart e)
 
 -- ---- behind the name and the brackets of a field
 
@@ -150,7 +151,7 @@ value-initialiser n t ws e (x, (h, inl is), lt) =
     let whole : t ∷ closed ws ≡ is.0.0 ∷ q.1 = q.2 ∙ ap (λ (us : List Symbol). us ++ q.1) q.3.0 in
     (is.0.1, (h, subst (λ (us : List Symbol). WholeAt h initialiser us is.0.1) (sym (same-head t is.0.0 (closed ws) q.1 whole).1) q.4), omega (arith, lt, ap behind_count is.2))
 value-initialiser n t ws e (x, (h, inr is), lt) =
-    absurd (no-both (sym (heads-at h (value_end assigned) t (ws ++ blank (operator 6) ∷ []) is.0 is.1) ∙ disjoint-has (73 ∷ []) value_ends t.sort refl e))
+    absurd (no-both (sym (heads-at h (value_end assigned) t (ws ++ blank (operator token.semicolon) ∷ []) is.0 is.1) ∙ disjoint-has (73 ∷ []) value_ends t.sort refl e))
 
 pub value-back : (n : ℕ) (t : Symbol) (ts : List Symbol) → has (73 ∷ []) t.sort ≡ true → FieldCrosses n (t ∷ ts) → InitialiserCrosses n ts
 value-back n t ts e crosses = go crosses.0 crosses.1 crosses.2 crosses.3
@@ -206,13 +207,13 @@ record NextField (n : ℕ) (ws : List Symbol) : Type 0 where
   count : n < suc (length value.1)
 
 two-first : (c m : Symbol) (ws tail : List Symbol) → closed ws ≡ c ∷ m ∷ tail → has names m.sort ≡ true → (later : List Symbol) × (ws ≡ c ∷ m ∷ later) × (closed later ≡ tail)
-two-first c m [] tail e h = absurd (nothing-is (same-head (blank (operator 6)) c [] (m ∷ tail) e).1)
+two-first c m [] tail e h = absurd (nothing-is (same-head (blank (operator token.semicolon)) c [] (m ∷ tail) e).1)
   where
     nothing-is : [] ≡ m ∷ tail → ⊥
     nothing-is e = cc
 two-first c m (u ∷ []) tail e h =
     let a = same-head u c (closed []) (m ∷ tail) e in
-    let b = same-head (blank (operator 6)) m [] tail a.1 in
+    let b = same-head (blank (operator token.semicolon)) m [] tail a.1 in
     absurd (no-both (sym h ∙ ap (λ (s : Symbol). has names s.sort) (sym b.0)))
 two-first c m (u ∷ v ∷ later) tail e h =
     let a = same-head u c (closed (v ∷ later)) (m ∷ tail) e in
@@ -270,7 +271,7 @@ value-found : (n room : ℕ) (bs qs zs : List Symbol) (ds : List Around) → 3 *
     → (x : List Around) × (after : List Symbol) × (reads room (many dim) (bs ++ (qs ++ zs)) ≡ done x after) × FieldCrosses n after
 value-found n room bs [] zs ds fits is d = absurd (value-alone n d)
 value-found n room bs (q ∷ qs) zs ds fits is d =
-    let head = Is-head (WholeAt d.1.0) (full-at d.1.0) (heads-at d.1.0) value_or_end q (qs ++ blank (operator 6) ∷ []) d.0 (closed (q ∷ qs)) refl d.1.1 in
+    let head = Is-head (WholeAt d.1.0) (full-at d.1.0) (heads-at d.1.0) value_or_end q (qs ++ blank (operator token.semicolon) ∷ []) d.0 (closed (q ∷ qs)) refl d.1.1 in
     let stops = disjoint-has (first value_or_end) (more (many dim)) q.sort brackets-apart head in
     (ds, (q ∷ qs) ++ zs, whole-reads (many dim) dims-sound room bs ((q ∷ qs) ++ zs) ds fits stops is, (q ∷ qs, zs, refl, d))
 
@@ -279,7 +280,7 @@ pub field-back : (n room : ℕ) (c m : Symbol) (rest : List Symbol) → 3 * leng
     → (x : List Around) × (after : List Symbol) × (reads room (many dim) rest ≡ done x after) × FieldCrosses n after
 field-back n room c m rest fits crosses =
     let f = comma-cut (suc n) crosses.0 crosses.3 in
-    let l = last-of (blank (operator 6)) f.later f.brackets f.back f.split (value-some f.back f.value f.rest) in
+    let l = last-of (blank (operator token.semicolon)) f.later f.brackets f.back f.split (value-some f.back f.value f.rest) in
     let all = crosses.2 ∙ ap (λ (us : List Symbol). us ++ crosses.1) f.parts in
     let behind = (same-head m f.name rest (f.later ++ crosses.1) (same-head c f.comma (m ∷ rest) (f.name ∷ f.later ++ crosses.1) all).1).1 in
     let whole : rest ≡ f.brackets ++ (l.0 ++ crosses.1) = behind ∙ (ap (λ (us : List Symbol). us ++ crosses.1) l.2 ∙ append_assoc f.brackets l.0 crosses.1) in
@@ -299,7 +300,7 @@ field-on n room c m rest after ds is_comma is_name read crosses =
     let dims = Is-up (WholeAt q.2.0) (WholeAt h) (whole-first q.2.0 d.1.0) (many dim) bs ds q.2.1 in
     let value = Is-up (WholeAt d.1.0) (WholeAt h) (whole-second q.2.0 d.1.0) value_or_end (closed ws) d.0 d.1.1 in
     let all : List Declarator = declarator_first (placed_name m, (ds, d.0)) in
-    let same : bs ++ closed ws ≡ closed (bs ++ ws) = sym (append_assoc bs ws (blank (operator 6) ∷ [])) in
+    let same : bs ++ closed ws ≡ closed (bs ++ ws) = sym (append_assoc bs ws (blank (operator token.semicolon) ∷ [])) in
     let is : WholeAt (suc h) (value_end assigned) (c ∷ m ∷ bs ++ closed ws) all =
     inr ((c, all), (c ∷ [], m ∷ bs ++ closed ws, refl, (refl, is_comma), ((placed_name m, (ds, d.0)), (m ∷ [], bs ++ closed ws, refl, (m, (refl, is_name), refl), (bs, closed ws, refl, dims, value)), refl)), refl) in (
       c ∷ m ∷ bs ++ ws,
@@ -312,7 +313,7 @@ field-on n room c m rest after ds is_comma is_name read crosses =
 pub field-first : (c m : Symbol) (rest : List Symbol) → has (68 ∷ []) c.sort ≡ true → has names m.sort ≡ true → EndCrosses 0 (c ∷ m ∷ rest)
 unfolding assigned_end value_or_end
 field-first c m rest is_comma is_name =
-    let s = blank (operator 6) in
+    let s = blank (operator token.semicolon) in
     let end : WholeAt 1 (value_end assigned) (s ∷ []) [] = inl (s, (refl, refl), refl) in
     let value : Option ValueText × List Declarator = (None, []) in
     let all : List Declarator = declarator_first (placed_name m, ([], value)) in

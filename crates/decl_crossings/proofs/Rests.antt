@@ -10,6 +10,7 @@ use Rattle.decl_turns.specs.declared.states.Next.{Next}
 use Rattle.decl_turns.specs.declared.states.Next.TheVariants as next
 use Rattle.decl_grammar.specs.declared.symbol.Symbol.{Symbol}
 use Rattle.decl_grammar.specs.Symbols.{operator}
+use Rattle.decl_grammar.specs.TokenNames as token
 use Rattle.decl_grammar.specs.Reading.{has, done}
 use Rattle.decl_grammar.specs.Form.{Freedom, After, Part, Rest, nest, assigned, anywhere, expression_part, expression_rest, first_of}
 use Rattle.decl_grammar.specs.Expressions.{part_symbols, step}
@@ -35,7 +36,7 @@ use Rattle.decl_crossings.proofs.ApartParts.{apart, stands-apart, same-part}
 -- ---- a `;` alone
 
 pub one-alone : separators (closed []) ≡ 1
-one-alone = omega (arith, one-there (blank (operator 6)) [] 6 refl refl, none-there)
+one-alone = omega (arith, one-there (blank (operator token.semicolon)) [] 6 refl refl, none-there)
 
 -- it is no rest of an initialiser in which a field begins
 pub rest-alone : (n : ℕ) (a : After) → Declares (nest (expression_rest assigned anywhere a)) behind_rest n [] → ⊥
@@ -121,14 +122,14 @@ found-behind : (n room : ℕ) (p : Part) (a : After) → apart p a ≡ true → 
     → IsPhrase (nest (expression_part assigned p)) us tt → Declares (nest (expression_rest assigned anywhere a)) behind_rest n qs → BehindPart n room p a (us ++ (qs ++ zs))
 found-behind n room p a e us [] zs x fits is d = absurd (rest-alone n a d)
 found-behind n room p a e us (q ∷ qs) zs x fits is d =
-    let stops = disjoint-has (first_of (expression_rest assigned anywhere a)) (more_of_part p) q.sort e (rest-head a q (qs ++ blank (operator 6) ∷ []) d.0 d.1) in
+    let stops = disjoint-has (first_of (expression_rest assigned anywhere a)) (more_of_part p) q.sort e (rest-head a q (qs ++ blank (operator token.semicolon) ∷ []) d.0 d.1) in
     ((q ∷ qs) ++ zs, whole-reads (nest (expression_part assigned p)) (nest-sound (expression_part assigned p)) room us ((q ∷ qs) ++ zs) tt fits stops is, (q ∷ qs, zs, refl, d))
 
 pub cut-behind : (n room : ℕ) (p : Part) (a : After) → apart p a ≡ true → (ws zs : List Symbol) (x : Rest assigned) → 3 * length (ws ++ zs) ≤ room
     → IsPhrase (step assigned p anywhere a) (closed ws) x → n < length x.1 → BehindPart n room p a (ws ++ zs)
 cut-behind n room p a e ws zs x fits is lt =
     let cut = cut-step p a (closed ws) x is in
-    let l = last-of (blank (operator 6)) ws cut.front cut.back cut.parts (rest-some a cut.back cut.value cut.rest) in
+    let l = last-of (blank (operator token.semicolon)) ws cut.front cut.back cut.parts (rest-some a cut.back cut.value cut.rest) in
     let inner : IsPhrase (nest (expression_rest assigned anywhere a)) (closed l.0) cut.value = subst (λ (us : List Symbol). IsPhrase (nest (expression_rest assigned anywhere a)) us cut.value) l.1 cut.rest in
     let whole : ws ++ zs ≡ cut.front ++ (l.0 ++ zs) = ap (λ (us : List Symbol). us ++ zs) l.2 ∙ append_assoc cut.front l.0 zs in
     subst (λ (us : List Symbol). BehindPart n room p a us) (sym whole)
@@ -146,7 +147,7 @@ part-back n room b c p v ts here fits crosses =
     go (t ∷ ws) zs here fits d =
         let step_there = chosen-phrase b (next.Part p v c) (closed (t ∷ ws)) d.0 here d.1 in
         let free = subst (λ (w : Freedom). IsPhrase (step assigned (part_at p (closed (t ∷ ws))) w (after_of c)) (closed (t ∷ ws)) d.0) (anyhow v) step_there in
-        subst (λ (q : Part). BehindPart n room q (after_of c) ((t ∷ ws) ++ zs)) (same-part p t (ws ++ blank (operator 6) ∷ []) (ws ++ zs))
+        subst (λ (q : Part). BehindPart n room q (after_of c) ((t ∷ ws) ++ zs)) (same-part p t (ws ++ blank (operator token.semicolon) ∷ []) (ws ++ zs))
         (cut-behind n room (part_at p (closed (t ∷ ws))) (after_of c) (stands-apart b c t (ws ++ zs) (closed (t ∷ ws)) p v here) (t ∷ ws) zs d.0 fits free d.2)
 
 -- the symbols of a part that was read, with what is behind them
@@ -176,7 +177,7 @@ part-on n room b c p v ts after here read crosses =
         let there = phrase-chosen b (next.Part p v c) all x here_too
         (subst (λ (w : Freedom). IsSound (step assigned (part_at p all) w (after_of c))) (sym (anyhow v)) sound)
         (subst (λ (w : Freedom). IsPhrase (step assigned (part_at p all) w (after_of c)) all x) (sym (anyhow v)) whole) in
-        (x, subst (λ (zs : List Symbol). IsPhrase (nest (expression_rest assigned anywhere (after_of b))) zs x) (sym (append_assoc (t ∷ us) vs (blank (operator 6) ∷ []))) there, d.2)
+        (x, subst (λ (zs : List Symbol). IsPhrase (nest (expression_rest assigned anywhere (after_of b))) zs x) (sym (append_assoc (t ∷ us) vs (blank (operator token.semicolon) ∷ []))) there, d.2)
 
     go : (us : List Symbol) → ts ≡ us ++ after → IsPhrase (nest (expression_part assigned (part_at p ts))) us tt → RestCrosses n (after_of b) ts
     go [] e is = absurd (some-part (part_at p ts) [] is refl)

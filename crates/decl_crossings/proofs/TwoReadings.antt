@@ -8,6 +8,7 @@ use Rattle.decl_turns.specs.declared.states.Before.{Before}
 use Rattle.decl_turns.specs.declared.states.Next.TheVariants as next
 use Rattle.decl_grammar.specs.declared.symbol.Symbol.{Symbol}
 use Rattle.decl_grammar.specs.Symbols.{operator, numbers}
+use Rattle.decl_grammar.specs.TokenNames as token
 use Rattle.decl_grammar.specs.Reading.{has, starts, Outcome, done, fault, deep, read_of}
 use Rattle.decl_grammar.specs.Form.{After, Part, Rest, nest, assigned, anywhere, between, name_there, colons, one_of, type_reference, expression_part, expression_rest, first_of, turned}
 use Rattle.decl_grammar.specs.Expressions.{part_symbols, with_symbols, step, two_readings, signs_form}
@@ -32,7 +33,7 @@ two-sound = (refl, (fair (expression_rest assigned anywhere name_there)).1.0.0, 
 
 -- the operator
 abbrev operator_less : Part
-operator_less = one_of (operator 14 ∷ [])
+operator_less = one_of (operator token.less_than ∷ [])
 
 one-part : (us : List Symbol) → IsPhrase (nest (expression_part assigned operator_less)) us tt → (s : Symbol) × (us ≡ s ∷ [])
 one-part us (zero, is) = absurd is
@@ -61,7 +62,7 @@ either-reading ts x (h, inl is) = inl (h, is)
 either-reading ts x (h, inr is) = inr (h, is)
 
 -- a `<` before the rest
-less-phrase : (t : Symbol) (ts : List Symbol) (x : Rest assigned) → has (operator 14 ∷ []) t.sort ≡ true → rests between ts x → IsPhrase (step assigned operator_less anywhere between) (t ∷ ts) (t ∷ x.0, x.1)
+less-phrase : (t : Symbol) (ts : List Symbol) (x : Rest assigned) → has (operator token.less_than ∷ []) t.sort ≡ true → rests between ts x → IsPhrase (step assigned operator_less anywhere between) (t ∷ ts) (t ∷ x.0, x.1)
 less-phrase t ts x e is = step-phrase operator_less between (t ∷ []) ts x (1, (t, (refl, e), refl)) is
 
 -- ---- forwards
@@ -87,7 +88,7 @@ type-front n b t us ts here is crosses =
     let x : Rest assigned = ((t ∷ us) ++ d.0.0, d.0.1) in
     let whole = type-reading ((t ∷ us) ++ closed vs) x (step-phrase type_reference colons (t ∷ us) (closed vs) d.0 is d.1) in
     let there : rests (after_of b) ((t ∷ us) ++ closed vs) x = phrase-chosen b next.Two ((t ∷ us) ++ closed vs) x here two-sound whole in
-    (x, subst (λ (zs : List Symbol). rests (after_of b) zs x) (sym (append_assoc (t ∷ us) vs (blank (operator 6) ∷ []))) there, d.2))
+    (x, subst (λ (zs : List Symbol). rests (after_of b) zs x) (sym (append_assoc (t ∷ us) vs (blank (operator token.semicolon) ∷ []))) there, d.2))
     crosses
 
 -- ---- backwards
@@ -113,7 +114,7 @@ two-back n room b t ts here fits crosses = go crosses.0 crosses.1 crosses.2 cros
     go [] zs e d = absurd (rest-alone n (after_of b) d)
     go (u ∷ ws) zs e d =
         let same = (same-head t u ts (ws ++ zs) e).0 in
-        let here_too : next_at place.Assigned leave.Anywhere b (closed (u ∷ ws)) ≡ next.Two = subst (λ (s : Symbol). next_at place.Assigned leave.Anywhere b (s ∷ (ws ++ blank (operator 6) ∷ [])) ≡ next.Two) same here in
+        let here_too : next_at place.Assigned leave.Anywhere b (closed (u ∷ ws)) ≡ next.Two = subst (λ (s : Symbol). next_at place.Assigned leave.Anywhere b (s ∷ (ws ++ blank (operator token.semicolon) ∷ [])) ≡ next.Two) same here in
         elim (either-reading (closed (u ∷ ws)) d.0 (chosen-phrase b next.Two (closed (u ∷ ws)) d.0 here_too d.1)) [
           | inl is ↦ inl (typed d.0 (u ∷ ws) zs e d.2 is)
           | inr is ↦ inr (compared d.0 u ws zs e d.2 is)
@@ -150,13 +151,13 @@ turned-back ps x (fault at) e = absurd cc
 turned-back ps x (deep at) e = absurd cc
 
 -- a front that is read with the operator and reaches beyond the type is read with the type
-beyond : (n : ℕ) (t : Symbol) (us ks : List Symbol) → has (operator 14 ∷ []) t.sort ≡ true → IsPhrase (nest (expression_part assigned type_reference)) (t ∷ us) tt
+beyond : (n : ℕ) (t : Symbol) (us ks : List Symbol) → has (operator token.less_than ∷ []) t.sort ≡ true → IsPhrase (nest (expression_part assigned type_reference)) (t ∷ us) tt
     → Declares (nest (expression_rest assigned anywhere between)) behind_rest n (us ++ ks) → Declares (nest (expression_rest assigned anywhere colons)) behind_rest n ks
 beyond n t us ks less is d =
     let all = (t ∷ us) ++ closed ks in
     let room = 3 * length all in
     let x : Rest assigned = (t ∷ d.0.0, d.0.1) in
-    let same : closed (us ++ ks) ≡ us ++ closed ks = append_assoc us ks (blank (operator 6) ∷ []) in
+    let same : closed (us ++ ks) ≡ us ++ closed ks = append_assoc us ks (blank (operator token.semicolon) ∷ []) in
     let rest = subst (λ (zs : List Symbol). rests between zs d.0) same d.1 in
     let two = all-read (two_readings assigned anywhere) two-sound room all x (omega arith) (less-reading all x (less-phrase t (us ++ closed ks) d.0 less rest)) in
     let part = whole-reads (nest (expression_part assigned type_reference)) (nest-sound (expression_part assigned type_reference)) room (t ∷ us) (closed ks) tt (omega arith) (none-more (closed ks)) is in

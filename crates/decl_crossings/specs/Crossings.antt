@@ -4,6 +4,7 @@ use Rattle.decl_tree.specs.declared.annotation.ValueText.{ValueText}
 use Rattle.decl_grammar.specs.declared.symbol.Symbol.{Symbol}
 use Rattle.decl_grammar.specs.declared.written.Declarator.{Declarator}
 use Rattle.decl_grammar.specs.Symbols.{operator}
+use Rattle.decl_grammar.specs.TokenNames as token
 use Rattle.decl_grammar.specs.Form.{Form, After, Rest, nest, initialiser, expression_rest, value_end, assigned, anywhere}
 use Rattle.decl_grammar.specs.Expressions.{value_or_end}
 use Rattle.decl_grammar.specs.File.{IsPhrase}
@@ -15,7 +16,7 @@ SomeFront p ts = (us : List Symbol) × (vs : List Symbol) × (ts ≡ us ++ vs) �
 
 -- the symbols with a `;` behind them
 abbrev pub closed : List Symbol → List Symbol
-closed us = us ++ blank (operator 6) ∷ []
+closed us = us ++ blank (operator token.semicolon) ∷ []
 
 -- With a `;` behind them the symbols are this form, and declare more than so many.
 abbrev pub Declares : {A : Type 0} → Form A → (A → List Declarator) → ℕ → List Symbol → Type 0

@@ -6,6 +6,7 @@ ghost use Rattle.decl_crossings.specs.Steps.{StepsTo, value_ends};
 
 use crate::brackets::behind_dims;
 use crate::spots::{Spot, Step};
+use decl_grammar::sorts::{COMMA, EQUALS, SEMICOLON};
 use decl_grammar::{ReadFault, Symbol};
 use decl_names::{is_name_sort, is_next};
 use decl_turns::Before;
@@ -24,7 +25,7 @@ pub fn end_step<'a, 's>(
     let [comma, name, rest @ ..] = symbols else {
         return Ok(Step::Over);
     };
-    if comma.sort != 68 {
+    if comma.sort != COMMA {
         return Ok(Step::Over);
     }
     if !is_name_sort(name.sort) {
@@ -45,7 +46,7 @@ fn ends_value(symbols: &[Symbol<'_>]) -> bool
 {
     match symbols {
         [] => false,
-        [symbol, ..] => symbol.sort == 67 || symbol.sort == 68,
+        [symbol, ..] => symbol.sort == SEMICOLON || symbol.sort == COMMA,
     }
 }
 
@@ -59,7 +60,7 @@ pub fn field_step<'a, 's>(
     requires { 3 * length symbols.now ≤ room }
     ensures { StepsTo left (FieldCrosses left symbols.now) symbols.now result }
 {
-    if !is_next(symbols, 73) {
+    if !is_next(symbols, EQUALS) {
         return end_step(alloc, room, left, symbols);
     }
     let rest = &symbols[1..];

@@ -8,6 +8,7 @@ ghost use Rattle.decl_grammar.specs.Grammar.{optional_over, constant_part, const
 ghost use Rattle.decl_grammar.specs.Rule.{reads};
 
 use apt_base::List;
+use decl_grammar::sorts::{COMMA, OPEN_BRACE, OPEN_PARENTHESIS};
 use decl_grammar::{Lines, MemberAt, NameAt, ReadFault, Symbol};
 use decl_tree::{AnnotationText, ConstantDecl, Member};
 use decl_values::{
@@ -46,8 +47,8 @@ fn constant_part_of<'a, 's>(
     let (annotations, rest) = annotations_of(alloc, room, symbols)?;
     let annotations = List::from_vec(annotations);
     let (name, rest) = read_name_at(alloc, room, rest)?;
-    let (_, rest) = optional_over_of(alloc, room, 61, rest)?;
-    let (body, rest) = optional_over_of(alloc, room, 63, rest)?;
+    let (_, rest) = optional_over_of(alloc, room, OPEN_PARENTHESIS, rest)?;
+    let (body, rest) = optional_over_of(alloc, room, OPEN_BRACE, rest)?;
     Ok(((annotations, (name, body)), rest))
 }
 
@@ -83,9 +84,9 @@ pub fn starts_constant(symbols: &[Symbol<'_>]) -> bool
 
 // Whether an enum constant begins here, or a comma stands here.
 fn starts_constants(symbols: &[Symbol<'_>]) -> bool
-    ensures { result ≡ starts ((ats ++ names) ++ (68 ∷ [])) symbols.now }
+    ensures { result ≡ starts ((ats ++ names) ++ (COMMA ∷ [])) symbols.now }
 {
-    starts_constant(symbols) || is_next(symbols, 68)
+    starts_constant(symbols) || is_next(symbols, COMMA)
 }
 
 // A comma, and the constant behind it, where one begins there.
@@ -97,7 +98,7 @@ fn comma_constant_of<'a, 's>(
 ) -> Result<(Option<MemberAt>, &'s [Symbol<'a>]), ReadFault>
     ensures { Gives (λ x. (x.0, x.1.now)) result (reads room (comma_item constant) symbols.now) }
 {
-    let (_, rest) = one(symbols, 68)?;
+    let (_, rest) = one(symbols, COMMA)?;
     if starts_constant(rest) {
         let (constant, rest) = constant_in(alloc, room, rest)?;
         return Ok((Some(constant), rest));
@@ -116,7 +117,7 @@ fn more_constants_of<'a, 's>(
 {
     let mut all = front;
     let mut rest = begin(symbols)?;
-    'row: while is_next(rest, 68) {
+    'row: while is_next(rest, COMMA) {
         let (next, after) = comma_constant_of(alloc, room, rest)?;
         match next {
             Some(constant) => all.push(constant)?,
@@ -154,7 +155,7 @@ fn constant_list_of<'a, 's>(
     if starts_constant(symbols) {
         return some_constants_of(alloc, room, symbols);
     }
-    let (_, rest) = one(symbols, 68)?;
+    let (_, rest) = one(symbols, COMMA)?;
     Ok((Vec::new(alloc), rest))
 }
 

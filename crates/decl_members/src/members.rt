@@ -7,6 +7,7 @@ ghost use Rattle.decl_grammar.specs.Rule.{reads};
 ghost use Rattle.decl_members.specs.NamedMembers.{typed_at, constructed_at};
 
 use apt_base::List;
+use decl_grammar::sorts::{OPEN_PARENTHESIS, VOID};
 use decl_grammar::{MemberRest, NameAt, ReadFault, Symbol, TypeParamAt, Unmodified};
 use decl_tree::{BaseType, NamedPart, PrimitiveKind, TypeText};
 use decl_types::{constructor_signature_of, member_rest_of, method_signature_of, type_params_of};
@@ -50,7 +51,7 @@ fn constructed_or_of<'a, 's>(
 ) -> Result<(Unmodified, &'s [Symbol<'a>]), ReadFault>
     ensures { Gives (λ x. (x.0, x.1.now)) result (constructed_at first room kind symbols.now) }
 {
-    if is_next(symbols, 61) {
+    if is_next(symbols, OPEN_PARENTHESIS) {
         let (signature, rest) = constructor_signature_of(alloc, room, symbols)?;
         let parameters = List::new(alloc);
         return Ok((
@@ -88,7 +89,7 @@ pub fn void_method_of<'a, 's>(
 ) -> Result<(Unmodified, &'s [Symbol<'a>]), ReadFault>
     ensures { Gives (λ x. (x.0, x.1.now)) result (reads room void_method symbols.now) }
 {
-    let (_, rest) = one(symbols, 57)?;
+    let (_, rest) = one(symbols, VOID)?;
     let (name, rest) = read_name_at(alloc, room, rest)?;
     let (signature, rest) = method_signature_of(alloc, room, rest)?;
     let base = BaseType::Primitive(PrimitiveKind::Void);
@@ -127,7 +128,7 @@ fn generic_method_of<'a, 's>(
 ) -> Result<(Unmodified, &'s [Symbol<'a>]), ReadFault>
     ensures { Gives (λ x. (x.0, x.1.now)) result (reads room generic_method symbols.now) }
 {
-    if is_next(symbols, 57) {
+    if is_next(symbols, VOID) {
         return void_method_of(alloc, room, symbols);
     }
     if starts_primitive(symbols) {
@@ -163,7 +164,7 @@ fn generic_rest_of<'a, 's>(
     if starts_annotation(symbols) {
         return annotated_method_of(alloc, room, symbols);
     }
-    if is_next(symbols, 57) {
+    if is_next(symbols, VOID) {
         return void_method_of(alloc, room, symbols);
     }
     if starts_primitive(symbols) {

@@ -4,6 +4,7 @@ ghost use Rattle.decl_grammar.specs.Reading.{Gives};
 ghost use Rattle.decl_grammar.specs.Grammar.{superclass, implemented, extended};
 ghost use Rattle.decl_grammar.specs.Rule.{reads};
 
+use decl_grammar::sorts::{EXTENDS, IMPLEMENTS};
 use decl_grammar::{ReadFault, Symbol};
 use decl_tree::TypeText;
 use decl_types::classes_of;
@@ -19,8 +20,8 @@ pub fn superclass_of<'a, 's>(
 ) -> Result<(Option<TypeText>, &'s [Symbol<'a>]), ReadFault>
     ensures { Gives (λ x. (x.0, x.1.now)) result (reads room superclass symbols.now) }
 {
-    if is_next(symbols, 26) {
-        let (_, rest) = one(symbols, 26)?;
+    if is_next(symbols, EXTENDS) {
+        let (_, rest) = one(symbols, EXTENDS)?;
         let (text, rest) = annotated_class_of(alloc, room, rest)?;
         return Ok((Some(text), rest));
     }
@@ -36,8 +37,8 @@ pub fn implemented_of<'a, 's>(
 ) -> Result<(Vec<TypeText>, &'s [Symbol<'a>]), ReadFault>
     ensures { Gives (λ x. (x.0.items, x.1.now)) result (reads room implemented symbols.now) }
 {
-    if is_next(symbols, 33) {
-        let (_, rest) = one(symbols, 33)?;
+    if is_next(symbols, IMPLEMENTS) {
+        let (_, rest) = one(symbols, IMPLEMENTS)?;
         return classes_of(alloc, room, rest);
     }
     Ok((Vec::new(alloc), symbols))
@@ -52,8 +53,8 @@ pub fn extended_of<'a, 's>(
 ) -> Result<(Vec<TypeText>, &'s [Symbol<'a>]), ReadFault>
     ensures { Gives (λ x. (x.0.items, x.1.now)) result (reads room extended symbols.now) }
 {
-    if is_next(symbols, 26) {
-        let (_, rest) = one(symbols, 26)?;
+    if is_next(symbols, EXTENDS) {
+        let (_, rest) = one(symbols, EXTENDS)?;
         return classes_of(alloc, room, rest);
     }
     Ok((Vec::new(alloc), symbols))

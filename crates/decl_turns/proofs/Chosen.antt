@@ -14,6 +14,7 @@ use Rattle.decl_turns.specs.declared.states.Next.{Next}
 use Rattle.decl_turns.specs.declared.states.Next.TheVariants as next
 use Rattle.decl_grammar.specs.declared.symbol.Symbol.{Symbol}
 use Rattle.decl_grammar.specs.Symbols.{operator, word}
+use Rattle.decl_grammar.specs.TokenNames as token
 use Rattle.decl_grammar.specs.Reading.{has, starts, Outcome, done, fault, deep, ◌>>=◌, one_at, read_of}
 use Rattle.decl_grammar.specs.Form.{Stands, Freedom, After, Part, Rest, Form, is_value, first, first_of_part, names, ats, plain_sorts, primitive_sorts, equals, first_names, alone, paired, listed, defaulted, assigned, strict, anywhere, between, name_there, greater, dot, colons, test, test_name, test_end, one_of, bracketed, arguments, annotated, tested, tested_name, tested_dim, expression_part, expression_rest, value_end, turn, either, nest}
 use Rattle.decl_grammar.specs.Types.{as_written}
@@ -178,16 +179,16 @@ abbrev the_name : List ℕ → ℕ → Option Next
 the_name sorts n = some_if (has sorts n) (one_then before.Name)
 
 abbrev arrow_form : (s : Stands) → Freedom → Form (Rest s)
-arrow_form s w = step s (one_of (operator 19 ∷ [])) (in_lambda w) between
+arrow_form s w = step s (one_of (operator token.arrow ∷ [])) (in_lambda w) between
 
 abbrev colon_tail : (s : Stands) → Freedom → Form (Rest s)
-colon_tail s w = either (step s (one_of (operator 18 ∷ [])) (behind_condition w) between) (arrow_form s w)
+colon_tail s w = either (step s (one_of (operator token.colon ∷ [])) (behind_condition w) between) (arrow_form s w)
 
 abbrev question_tail : (s : Stands) → Freedom → Form (Rest s)
-question_tail s w = either (step s (one_of (operator 17 ∷ [])) (in_condition w) between) (colon_tail s w)
+question_tail s w = either (step s (one_of (operator token.question ∷ [])) (in_condition w) between) (colon_tail s w)
 
 abbrev greater_tail : (s : Stands) → Freedom → Form (Rest s)
-greater_tail s w = either (step s (one_of (operator 13 ∷ [])) w greater) (question_tail s w)
+greater_tail s w = either (step s (one_of (operator token.greater_than ∷ [])) w greater) (question_tail s w)
 
 abbrev test_tail : (s : Stands) → Freedom → Form (Rest s)
 test_tail s w = either (step s tested w test) (greater_tail s w)
@@ -196,24 +197,24 @@ abbrev new_tail : (s : Stands) → Freedom → After → Form (Rest s)
 new_tail s w a = either (new_step s w a) (test_tail s w)
 
 abbrev round_tail : (s : Stands) → Freedom → After → Form (Rest s)
-round_tail s w a = either (step s (bracketed (operator 0 ∷ [])) w between) (new_tail s w a)
+round_tail s w a = either (step s (bracketed (operator token.open_parenthesis ∷ [])) w between) (new_tail s w a)
 
 abbrev plain_tail : (s : Stands) → Freedom → After → Form (Rest s)
 plain_tail s w a = either (step s (one_of plain_sorts) w between) (round_tail s w a)
 
 sign-picks : (room : ℕ) (s : Stands) (w : Freedom) (t : Symbol) (ts : List Symbol) → Picks room s w (greater_tail s w) (sign_next t.sort) t ts
 sign-picks room s w t ts =
-    or-picks room s w (step s (one_of (operator 13 ∷ [])) w greater) (question_tail s w) (the_greater t.sort) (or_else (the_question t.sort) (or_else (the_colon t.sort) (the_arrow t.sort))) t ts
-    (pick-one room s w (operator 13 ∷ []) turning.Same before.Greater t ts (t.sort == 74) refl)
-    (or-picks room s w (step s (one_of (operator 17 ∷ [])) (in_condition w) between) (colon_tail s w) (the_question t.sort) (or_else (the_colon t.sort) (the_arrow t.sort)) t ts
-    (pick-one room s w (operator 17 ∷ []) turning.Condition before.Between t ts (t.sort == 78) refl)
-    (or-picks room s w (step s (one_of (operator 18 ∷ [])) (behind_condition w) between) (arrow_form s w) (the_colon t.sort) (the_arrow t.sort) t ts
-    (pick-one room s w (operator 18 ∷ []) turning.Colon before.Between t ts (t.sort == 79) refl)
-    (pick-one room s w (operator 19 ∷ []) turning.Lambda before.Between t ts (t.sort == 80) refl)))
+    or-picks room s w (step s (one_of (operator token.greater_than ∷ [])) w greater) (question_tail s w) (the_greater t.sort) (or_else (the_question t.sort) (or_else (the_colon t.sort) (the_arrow t.sort))) t ts
+    (pick-one room s w (operator token.greater_than ∷ []) turning.Same before.Greater t ts (t.sort == 74) refl)
+    (or-picks room s w (step s (one_of (operator token.question ∷ [])) (in_condition w) between) (colon_tail s w) (the_question t.sort) (or_else (the_colon t.sort) (the_arrow t.sort)) t ts
+    (pick-one room s w (operator token.question ∷ []) turning.Condition before.Between t ts (t.sort == 78) refl)
+    (or-picks room s w (step s (one_of (operator token.colon ∷ [])) (behind_condition w) between) (arrow_form s w) (the_colon t.sort) (the_arrow t.sort) t ts
+    (pick-one room s w (operator token.colon ∷ []) turning.Colon before.Between t ts (t.sort == 79) refl)
+    (pick-one room s w (operator token.arrow ∷ []) turning.Lambda before.Between t ts (t.sort == 80) refl)))
 
 new-picks : (room : ℕ) (s : Stands) (w : Freedom) (b : Before) (t : Symbol) (ts : List Symbol) → Picks room s w (new_step s w (after_of b)) (some_if (t.sort == 40) (new_next b)) t ts
-new-picks room s w before.Colons t ts = pick-one room s w (word 30 ∷ []) turning.Same before.Between t ts (t.sort == 40) refl
-new-picks room s w before.ColonArguments t ts = pick-one room s w (word 30 ∷ []) turning.Same before.Between t ts (t.sort == 40) refl
+new-picks room s w before.Colons t ts = pick-one room s w (word token.new ∷ []) turning.Same before.Between t ts (t.sort == 40) refl
+new-picks room s w before.ColonArguments t ts = pick-one room s w (word token.new ∷ []) turning.Same before.Between t ts (t.sort == 40) refl
 new-picks room s w before.Between t ts = pick-part room s w piece.Created turning.Same before.Creation t ts (t.sort == 40) refl
 new-picks room s w before.Name t ts = pick-part room s w piece.Created turning.Same before.Creation t ts (t.sort == 40) refl
 new-picks room s w before.Greater t ts = pick-part room s w piece.Created turning.Same before.Creation t ts (t.sort == 40) refl
@@ -231,7 +232,7 @@ told-picks room s w sorts b t ts =
     (pick-one room s w sorts turning.Same before.Name t ts (has sorts t.sort) refl)
     (or-picks room s w (step s (one_of plain_sorts) w between) (round_tail s w (after_of b)) (the_plain t.sort) (word_next b t.sort) t ts
     (pick-one room s w plain_sorts turning.Same before.Between t ts (has plain_sorts t.sort) refl)
-    (or-picks room s w (step s (bracketed (operator 0 ∷ [])) w between) (new_tail s w (after_of b)) (the_round t.sort) (or_else (the_new b t.sort) (or_else (the_test t.sort) (sign_next t.sort))) t ts
+    (or-picks room s w (step s (bracketed (operator token.open_parenthesis ∷ [])) w between) (new_tail s w (after_of b)) (the_round t.sort) (or_else (the_new b t.sort) (or_else (the_test t.sort) (sign_next t.sort))) t ts
     (pick-part room s w piece.Round turning.Same before.Between t ts (t.sort == 61) refl)
     (or-picks room s w (new_step s w (after_of b)) (test_tail s w) (the_new b t.sort) (or_else (the_test t.sort) (sign_next t.sort)) t ts
     (new-picks room s w b t ts)
@@ -248,8 +249,8 @@ two-picks : (room : ℕ) (s : Stands) (w : Freedom) (t : Symbol) (ts : List Symb
 two-picks room s w t ts true e = (two-has s w t.sort true e, refl)
 two-picks room s w t ts false e = two-has s w t.sort false e
 
-less-one : (room : ℕ) (s : Stands) (w : Freedom) (t : Symbol) (ts : List Symbol) → Picks room s w (step s (one_of (operator 14 ∷ [])) w between) (only_if (t.sort == 75) (Some (one_then before.Between))) t ts
-less-one room s w t ts = only-some room s w (step s (one_of (operator 14 ∷ [])) w between) (t.sort == 75) (one_then before.Between) t ts (pick-one room s w (operator 14 ∷ []) turning.Same before.Between t ts (t.sort == 75) refl)
+less-one : (room : ℕ) (s : Stands) (w : Freedom) (t : Symbol) (ts : List Symbol) → Picks room s w (step s (one_of (operator token.less_than ∷ [])) w between) (only_if (t.sort == 75) (Some (one_then before.Between))) t ts
+less-one room s w t ts = only-some room s w (step s (one_of (operator token.less_than ∷ [])) w between) (t.sort == 75) (one_then before.Between) t ts (pick-one room s w (operator token.less_than ∷ []) turning.Same before.Between t ts (t.sort == 75) refl)
 
 less-arguments : (room : ℕ) (s : Stands) (w : Freedom) (b : Before) (t : Symbol) (ts : List Symbol) → Picks room s w (step s arguments w (after_of b)) (only_if (t.sort == 75) (Some (next.Part piece.Arguments turning.Same b))) t ts
 less-arguments room s w b t ts = only-some room s w (step s arguments w (after_of b)) (t.sort == 75) (next.Part piece.Arguments turning.Same b) t ts (pick-part room s w piece.Arguments turning.Same b t ts (t.sort == 75) refl)
@@ -273,13 +274,13 @@ less-picks room s w before.TestEnd t ts = less-one room s w t ts
 plain-dots-picks : (room : ℕ) (s : Stands) (w : Freedom) (t : Symbol) (ts : List Symbol) → Picks room s w (plain_dots s w) (plain_dots_next t.sort) t ts
 unfolding plain_dots
 plain-dots-picks room s w t ts =
-    or-picks room s w (step s (one_of (operator 8 ∷ [])) w dot) (step s (one_of (operator 11 ∷ [])) w colons) (some_if (t.sort == 69) (one_then before.Dot)) (some_if (t.sort == 72) (one_then before.Colons)) t ts
-    (pick-one room s w (operator 8 ∷ []) turning.Same before.Dot t ts (t.sort == 69) refl) (pick-one room s w (operator 11 ∷ []) turning.Same before.Colons t ts (t.sort == 72) refl)
+    or-picks room s w (step s (one_of (operator token.dot ∷ [])) w dot) (step s (one_of (operator token.double_colon ∷ [])) w colons) (some_if (t.sort == 69) (one_then before.Dot)) (some_if (t.sort == 72) (one_then before.Colons)) t ts
+    (pick-one room s w (operator token.dot ∷ []) turning.Same before.Dot t ts (t.sort == 69) refl) (pick-one room s w (operator token.double_colon ∷ []) turning.Same before.Colons t ts (t.sort == 72) refl)
 
-tested-dots-picks : (room : ℕ) (s : Stands) (w : Freedom) (t : Symbol) (ts : List Symbol) → Picks room s w (either (step s tested_name w test_name) (step s (one_of (operator 11 ∷ [])) w colons)) (tested_dots_next t.sort) t ts
+tested-dots-picks : (room : ℕ) (s : Stands) (w : Freedom) (t : Symbol) (ts : List Symbol) → Picks room s w (either (step s tested_name w test_name) (step s (one_of (operator token.double_colon ∷ [])) w colons)) (tested_dots_next t.sort) t ts
 tested-dots-picks room s w t ts =
-    or-picks room s w (step s tested_name w test_name) (step s (one_of (operator 11 ∷ [])) w colons) (some_if (t.sort == 69) (then_part piece.TestedName before.TestName)) (some_if (t.sort == 72) (one_then before.Colons)) t ts
-    (pick-part room s w piece.TestedName turning.Same before.TestName t ts (t.sort == 69) refl) (pick-one room s w (operator 11 ∷ []) turning.Same before.Colons t ts (t.sort == 72) refl)
+    or-picks room s w (step s tested_name w test_name) (step s (one_of (operator token.double_colon ∷ [])) w colons) (some_if (t.sort == 69) (then_part piece.TestedName before.TestName)) (some_if (t.sort == 72) (one_then before.Colons)) t ts
+    (pick-part room s w piece.TestedName turning.Same before.TestName t ts (t.sort == 69) refl) (pick-one room s w (operator token.double_colon ∷ []) turning.Same before.Colons t ts (t.sort == 72) refl)
 
 greater-dots-picks : (room : ℕ) (s : Stands) (w : Freedom) (t : Symbol) (ts : List Symbol) → Picks room s w (greater_dots s w) (dots_next (is_value s) before.Greater t.sort) t ts
 greater-dots-picks room assigned w t ts = plain-dots-picks room assigned w t ts
@@ -304,7 +305,7 @@ dots-picks room s w before.TestEnd t ts = plain-dots-picks room s w t ts
 plain-squares-picks : (room : ℕ) (s : Stands) (w : Freedom) (t : Symbol) (ts : List Symbol) → Picks room s w (plain_squares s w) (plain_squares_next t.sort) t ts
 unfolding plain_squares
 plain-squares-picks room s w t ts =
-    or-picks room s w (step s (bracketed (operator 4 ∷ [])) w between) (step s (one_of ats) w between) (some_if (t.sort == 65) (then_part piece.Square before.Between)) (some_if (has ats t.sort) (one_then before.Between)) t ts
+    or-picks room s w (step s (bracketed (operator token.open_bracket ∷ [])) w between) (step s (one_of ats) w between) (some_if (t.sort == 65) (then_part piece.Square before.Between)) (some_if (has ats t.sort) (one_then before.Between)) t ts
     (pick-part room s w piece.Square turning.Same before.Between t ts (t.sort == 65) refl) (pick-one room s w ats turning.Same before.Between t ts (has ats t.sort) refl)
 
 tested-squares-picks : (room : ℕ) (s : Stands) (w : Freedom) (t : Symbol) (ts : List Symbol) → Picks room s w (step s tested_dim w test_end) (tested_squares_next t.sort) t ts
@@ -342,7 +343,7 @@ signs-picks room s w b t ts =
 braces-picks : (room : ℕ) (s : Stands) (w : Freedom) (t : Symbol) (ts : List Symbol) → Picks room s w (other_steps s w) (braces_next (equals w) t.sort) t ts
 unfolding other_steps
 braces-picks room s w t ts =
-    or-picks room s w (step s (bracketed (operator 2 ∷ [])) w between) (step s (one_of (equals w)) w between) (some_if (t.sort == 63) (then_part piece.Brace before.Between)) (some_if (has (equals w) t.sort) (one_then before.Between)) t ts
+    or-picks room s w (step s (bracketed (operator token.open_brace ∷ [])) w between) (step s (one_of (equals w)) w between) (some_if (t.sort == 63) (then_part piece.Brace before.Between)) (some_if (has (equals w) t.sort) (one_then before.Between)) t ts
     (pick-part room s w piece.Brace turning.Same before.Between t ts (t.sort == 63) refl) (pick-one room s w (equals w) turning.Same before.Between t ts (has (equals w) t.sort) refl)
 
 -- ---- what an expression goes on with
@@ -411,16 +412,16 @@ value-picked : (room : ℕ) (s : Stands) (t : Symbol) (ts : List Symbol)
     → Picked room s strict (either (told_steps s (first_names s) strict between) (either (less_form s strict between) (either (plain_dots s strict) (value_squares s)))) (value_first (first_names s) t.sort) (t ∷ ts)
 unfolding value_squares
 value-picked room s t ts =
-    next-picked room s strict (told_steps s (first_names s) strict between) (either (step s (one_of (operator 14 ∷ [])) strict between) (either (plain_dots s strict) (step s (bracketed (operator 4 ∷ [])) strict between))) (told_next (first_names s) before.Between t.sort) (value_signs_next t.sort) t ts
+    next-picked room s strict (told_steps s (first_names s) strict between) (either (step s (one_of (operator token.less_than ∷ [])) strict between) (either (plain_dots s strict) (step s (bracketed (operator token.open_bracket ∷ [])) strict between))) (told_next (first_names s) before.Between t.sort) (value_signs_next t.sort) t ts
     (told-picks room s strict (first_names s) before.Between t ts)
-    (subst (λ (nx : Next). Picked room s strict (either (step s (one_of (operator 14 ∷ [])) strict between) (either (plain_dots s strict) (step s (bracketed (operator 4 ∷ [])) strict between))) nx (t ∷ ts))
+    (subst (λ (nx : Next). Picked room s strict (either (step s (one_of (operator token.less_than ∷ [])) strict between) (either (plain_dots s strict) (step s (bracketed (operator token.open_bracket ∷ [])) strict between))) nx (t ∷ ts))
     (sym (or-moves (some_if (t.sort == 75) (one_then before.Between)) (or_else (plain_dots_next t.sort) squares) next.Nothing ∙ ap (λ (nx : Next). or_next (some_if (t.sort == 75) (one_then before.Between)) nx) (or-moves (plain_dots_next t.sort) squares next.Nothing)))
-    (next-picked room s strict (step s (one_of (operator 14 ∷ [])) strict between) (either (plain_dots s strict) (step s (bracketed (operator 4 ∷ [])) strict between)) (some_if (t.sort == 75) (one_then before.Between)) (or_next (plain_dots_next t.sort) (or_next squares next.Nothing)) t ts
-    (pick-one room s strict (operator 14 ∷ []) turning.Same before.Between t ts (t.sort == 75) refl)
-    (next-picked room s strict (plain_dots s strict) (step s (bracketed (operator 4 ∷ [])) strict between) (plain_dots_next t.sort) (or_next squares next.Nothing) t ts (plain-dots-picks room s strict t ts)
-    (last-picked room s strict (step s (bracketed (operator 4 ∷ [])) strict between) squares t ts
+    (next-picked room s strict (step s (one_of (operator token.less_than ∷ [])) strict between) (either (plain_dots s strict) (step s (bracketed (operator token.open_bracket ∷ [])) strict between)) (some_if (t.sort == 75) (one_then before.Between)) (or_next (plain_dots_next t.sort) (or_next squares next.Nothing)) t ts
+    (pick-one room s strict (operator token.less_than ∷ []) turning.Same before.Between t ts (t.sort == 75) refl)
+    (next-picked room s strict (plain_dots s strict) (step s (bracketed (operator token.open_bracket ∷ [])) strict between) (plain_dots_next t.sort) (or_next squares next.Nothing) t ts (plain-dots-picks room s strict t ts)
+    (last-picked room s strict (step s (bracketed (operator token.open_bracket ∷ [])) strict between) squares t ts
     (pick-part room s strict piece.Square turning.Same before.Between t ts (t.sort == 65) refl)
-    (λ e. unfit-bracket s (operator 4 ∷ []) strict between room (t ∷ ts) (sym (step-has s (bracketed (operator 4 ∷ [])) strict between t.sort (t.sort == 65) refl) ∙ e))))))
+    (λ e. unfit-bracket s (operator token.open_bracket ∷ []) strict between room (t ∷ ts) (sym (step-has s (bracketed (operator token.open_bracket ∷ [])) strict between t.sort (t.sort == 65) refl) ∙ e))))))
   where
     squares : Option Next
     squares = some_if (t.sort == 65) (next.Part piece.Square turning.Same before.Between)
@@ -435,14 +436,14 @@ assigned-picked room t ts =
     (next-picked room assigned anywhere braced equal (some_if (t.sort == 63) (next.Part piece.Brace turning.Same before.Between)) (or_next (some_if (t.sort == 73) (one_then before.Between)) next.Nothing) t ts
     (pick-part room assigned anywhere piece.Brace turning.Same before.Between t ts (t.sort == 63) refl)
     (last-picked room assigned anywhere equal (some_if (t.sort == 73) (one_then before.Between)) t ts
-    (pick-one room assigned anywhere (operator 12 ∷ []) turning.Same before.Between t ts (t.sort == 73) refl)
-    (λ e. unfit assigned (operator 12 ∷ []) anywhere between room (t ∷ ts) (has-step assigned (operator 12 ∷ []) anywhere between t.sort e))))))
+    (pick-one room assigned anywhere (operator token.equals ∷ []) turning.Same before.Between t ts (t.sort == 73) refl)
+    (λ e. unfit assigned (operator token.equals ∷ []) anywhere between room (t ∷ ts) (has-step assigned (operator token.equals ∷ []) anywhere between t.sort e))))))
   where
     braced : Form (Rest assigned)
-    braced = step assigned (bracketed (operator 2 ∷ [])) anywhere between
+    braced = step assigned (bracketed (operator token.open_brace ∷ [])) anywhere between
 
     equal : Form (Rest assigned)
-    equal = step assigned (one_of (operator 12 ∷ [])) anywhere between
+    equal = step assigned (one_of (operator token.equals ∷ [])) anywhere between
 
 first-picked : (room : ℕ) (p : Place) (ts : List Symbol) → Picked room (stands_of p) (freedom_of (leave_first p)) (expression (stands_of p)) (first_at p ts) ts
 unfolding value_squares other_steps
@@ -451,11 +452,11 @@ first-picked room place.Paired (t ∷ ts) = value-picked room paired t ts
 first-picked room place.Listed (t ∷ ts) = value-picked room listed t ts
 first-picked room place.Defaulted (t ∷ ts) = value-picked room defaulted t ts
 first-picked room place.Assigned (t ∷ ts) = assigned-picked room t ts
-first-picked room place.Alone [] = unfit-bracket alone (operator 4 ∷ []) strict between room [] refl ∙ sym (unfit alone [] strict between room [] refl)
-first-picked room place.Paired [] = unfit-bracket paired (operator 4 ∷ []) strict between room [] refl ∙ sym (unfit paired [] strict between room [] refl)
-first-picked room place.Listed [] = unfit-bracket listed (operator 4 ∷ []) strict between room [] refl ∙ sym (unfit listed [] strict between room [] refl)
-first-picked room place.Defaulted [] = unfit-bracket defaulted (operator 4 ∷ []) strict between room [] refl ∙ sym (unfit defaulted [] strict between room [] refl)
-first-picked room place.Assigned [] = unfit assigned (operator 12 ∷ []) anywhere between room [] refl ∙ sym (unfit assigned [] anywhere between room [] refl)
+first-picked room place.Alone [] = unfit-bracket alone (operator token.open_bracket ∷ []) strict between room [] refl ∙ sym (unfit alone [] strict between room [] refl)
+first-picked room place.Paired [] = unfit-bracket paired (operator token.open_bracket ∷ []) strict between room [] refl ∙ sym (unfit paired [] strict between room [] refl)
+first-picked room place.Listed [] = unfit-bracket listed (operator token.open_bracket ∷ []) strict between room [] refl ∙ sym (unfit listed [] strict between room [] refl)
+first-picked room place.Defaulted [] = unfit-bracket defaulted (operator token.open_bracket ∷ []) strict between room [] refl ∙ sym (unfit defaulted [] strict between room [] refl)
+first-picked room place.Assigned [] = unfit assigned (operator token.equals ∷ []) anywhere between room [] refl ∙ sym (unfit assigned [] anywhere between room [] refl)
 
 pub first-chosen : (room : ℕ) (p : Place) (ts : List Symbol) (nx : Next) → first_at p ts ≡ nx → expression_read room p ts ≡ reads room (form_next (stands_of p) (freedom_of (leave_first p)) nx ts) ts
 first-chosen room p ts nx e = first-picked room p ts ∙ ap (λ (x : Next). reads room (form_next (stands_of p) (freedom_of (leave_first p)) x ts) ts) e

@@ -14,6 +14,7 @@ use Rattle.decl_turns.specs.declared.states.Next.{Next}
 use Rattle.decl_turns.specs.declared.states.Next.TheVariants as next
 use Rattle.decl_grammar.specs.declared.symbol.Symbol.{Symbol}
 use Rattle.decl_grammar.specs.Symbols.{operator}
+use Rattle.decl_grammar.specs.TokenNames as token
 use Rattle.decl_grammar.specs.Reading.{Outcome}
 use Rattle.decl_grammar.specs.Form.{Stands, Freedom, After, Part, Rest, Form, alone, paired, listed, defaulted, assigned, strict, conditional, anywhere, between, name_there, greater, dot, colons, colon_arguments, creation, test, test_name, test_arguments, test_end, one_of, bracketed, arguments, annotated, created, type_reference, tested, tested_name, tested_dim, value_end, turn, nest, expression_rest, freedom_in}
 use Rattle.decl_grammar.specs.Expressions.{step, two_readings, expression, no_symbols, in_condition, behind_condition, in_lambda}
@@ -57,9 +58,9 @@ sorts_at (t ∷ ts) = t.sort ∷ []
 -- the part that begins here
 abbrev pub part_at : Piece → List Symbol → Part
 part_at piece.One ts = one_of (sorts_at ts)
-part_at piece.Round ts = bracketed (operator 0 ∷ [])
-part_at piece.Brace ts = bracketed (operator 2 ∷ [])
-part_at piece.Square ts = bracketed (operator 4 ∷ [])
+part_at piece.Round ts = bracketed (operator token.open_parenthesis ∷ [])
+part_at piece.Brace ts = bracketed (operator token.open_brace ∷ [])
+part_at piece.Square ts = bracketed (operator token.open_bracket ∷ [])
 part_at piece.Arguments ts = arguments
 part_at piece.Annotated ts = annotated
 part_at piece.Created ts = created

@@ -13,6 +13,8 @@ use Rattle.decl_grammar.specs.declared.symbol.Symbol.{Symbol}
 use Rattle.decl_grammar.specs.Reading.{has}
 use Rattle.decl_grammar.specs.Form.{is_value, freedom_in, names, ats, plain_sorts, primitive_sorts, equals, first_names}
 use Rattle.decl_turns.specs.States.{stands_of, freedom_of}
+use Rattle.decl_grammar.specs.Symbols.{operator, word}
+use Rattle.decl_grammar.specs.TokenNames as token
 
 -- one of these, where a test holds, and the first of two that is there
 abbrev pub some_if : Bool → Next → Option Next
@@ -52,17 +54,17 @@ new_next before.TestEnd = then_part piece.Created before.Creation
 -- `>`, `?`, `:` and `->`
 abbrev pub sign_next : ℕ → Option Next
 sign_next n =
-    or_else (some_if (n == 74) (one_then before.Greater))
-    (or_else (some_if (n == 78) (next.Part piece.One turning.Condition before.Between))
-    (or_else (some_if (n == 79) (next.Part piece.One turning.Colon before.Between))
-    (some_if (n == 80) (next.Part piece.One turning.Lambda before.Between))))
+    or_else (some_if (n == operator token.greater_than) (one_then before.Greater))
+    (or_else (some_if (n == operator token.question) (next.Part piece.One turning.Condition before.Between))
+    (or_else (some_if (n == operator token.colon) (next.Part piece.One turning.Colon before.Between))
+    (some_if (n == operator token.arrow) (next.Part piece.One turning.Lambda before.Between))))
 
 -- `(`, `new` and `instanceof`, and those signs
 abbrev pub word_next : Before → ℕ → Option Next
 word_next b n =
-    or_else (some_if (n == 61) (then_part piece.Round before.Between))
-    (or_else (some_if (n == 40) (new_next b))
-    (or_else (some_if (n == 35) (then_part piece.Tested before.Test))
+    or_else (some_if (n == operator token.open_parenthesis) (then_part piece.Round before.Between))
+    (or_else (some_if (n == word token.new) (new_next b))
+    (or_else (some_if (n == word token.instanceof) (then_part piece.Tested before.Test))
     (sign_next n)))
 
 -- what may stand anywhere, with these names
@@ -92,10 +94,12 @@ only_if false o = None
 
 -- `.` and `::`
 abbrev pub plain_dots_next : ℕ → Option Next
-plain_dots_next n = or_else (some_if (n == 69) (one_then before.Dot)) (some_if (n == 72) (one_then before.Colons))
+plain_dots_next n =
+    or_else (some_if (n == operator token.dot) (one_then before.Dot)) (some_if (n == operator token.double_colon) (one_then before.Colons))
 
 abbrev pub tested_dots_next : ℕ → Option Next
-tested_dots_next n = or_else (some_if (n == 69) (then_part piece.TestedName before.TestName)) (some_if (n == 72) (one_then before.Colons))
+tested_dots_next n =
+    or_else (some_if (n == operator token.dot) (then_part piece.TestedName before.TestName)) (some_if (n == operator token.double_colon) (one_then before.Colons))
 
 -- `.` and `::` by what stands before them
 abbrev pub dots_next : Bool → Before → ℕ → Option Next
@@ -113,10 +117,10 @@ dots_next valued before.TestEnd n = plain_dots_next n
 
 -- `[` and `@`
 abbrev pub plain_squares_next : ℕ → Option Next
-plain_squares_next n = or_else (some_if (n == 65) (then_part piece.Square before.Between)) (some_if (has ats n) (one_then before.Between))
+plain_squares_next n = or_else (some_if (n == operator token.open_bracket) (then_part piece.Square before.Between)) (some_if (has ats n) (one_then before.Between))
 
 abbrev pub tested_squares_next : ℕ → Option Next
-tested_squares_next n = some_if (has (65 ∷ ats) n) (then_part piece.TestedDim before.TestEnd)
+tested_squares_next n = some_if (has (operator token.open_bracket ∷ ats) n) (then_part piece.TestedDim before.TestEnd)
 
 abbrev pub annotated_next : ℕ → Option Next
 annotated_next n = some_if (has ats n) (then_part piece.Annotated before.Name)
@@ -137,11 +141,11 @@ squares_next valued before.Test n = plain_squares_next n
 
 -- `<`, `.`, `::`, `[` and `@` by what stands before them
 abbrev pub signs_next : Bool → Before → ℕ → Option Next
-signs_next valued b n = or_else (only_if (n == 75) (less_there b)) (or_else (dots_next valued b n) (squares_next valued b n))
+signs_next valued b n = or_else (only_if (n == operator token.less_than) (less_there b)) (or_else (dots_next valued b n) (squares_next valued b n))
 
 -- `{`, and `=` where it may stand
 abbrev pub braces_next : List ℕ → ℕ → Option Next
-braces_next signs n = or_else (some_if (n == 63) (then_part piece.Brace before.Between)) (some_if (has signs n) (one_then before.Between))
+braces_next signs n = or_else (some_if (n == operator token.open_brace) (then_part piece.Brace before.Between)) (some_if (has signs n) (one_then before.Between))
 
 -- behind `instanceof` a type comes
 abbrev pub test_next : ℕ → Next
@@ -194,7 +198,11 @@ next_at p l b (t ∷ ts) = later_next (valued_at p) (equals_at p l) b t.sort
 
 -- of a value, names and signs that may stand anywhere aside
 abbrev pub value_signs_next : ℕ → Next
-value_signs_next n = or_next (or_else (some_if (n == 75) (one_then before.Between)) (or_else (plain_dots_next n) (some_if (n == 65) (then_part piece.Square before.Between)))) next.Nothing
+value_signs_next n =
+    or_next
+    (or_else (some_if (n == operator token.less_than) (one_then before.Between))
+    (or_else (plain_dots_next n) (some_if (n == operator token.open_bracket) (then_part piece.Square before.Between))))
+    next.Nothing
 
 -- of a value: nothing that begins an array or an annotation
 abbrev pub value_first : List ℕ → ℕ → Next
@@ -202,7 +210,8 @@ value_first sorts n = or_next (told_next sorts before.Between n) (value_signs_ne
 
 -- of an initialiser
 abbrev pub assigned_first : ℕ → Next
-assigned_first n = or_next (told_next names before.Between n) (or_next (signs_next false before.Between n) (or_next (braces_next (73 ∷ []) n) next.Nothing))
+assigned_first n =
+    or_next (told_next names before.Between n) (or_next (signs_next false before.Between n) (or_next (braces_next (operator token.equals ∷ []) n) next.Nothing))
 
 abbrev pub first_of_sort : Bool → List ℕ → ℕ → Next
 first_of_sort true sorts n = value_first sorts n

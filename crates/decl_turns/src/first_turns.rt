@@ -9,18 +9,19 @@ use crate::turns::{
     braces_then, part_then, plain_dots_then, signs_then, symbol_then, told_first, told_then,
 };
 use decl_grammar::Symbol;
+use decl_grammar::sorts::{LESS_THAN, OPEN_BRACKET};
 
 // How a value that is no array and no annotation begins, names and signs that may stand anywhere aside.
 fn value_signs_then(sort: u8) -> Next
     ensures { result ≡ value_signs_next sort }
 {
-    if sort == 75 {
+    if sort == LESS_THAN {
         return symbol_then(Before::Between);
     }
     if let Some(next) = plain_dots_then(sort) {
         return next;
     }
-    if sort == 65 {
+    if sort == OPEN_BRACKET {
         return part_then(Piece::Square, Before::Between);
     }
     Next::Nothing

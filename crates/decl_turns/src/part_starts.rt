@@ -6,6 +6,9 @@ ghost use Rattle.decl_grammar.specs.Types.{silently};
 ghost use Rattle.decl_turns.specs.States.{sorts_at, part_at};
 
 use crate::states::Piece;
+use decl_grammar::sorts::{
+    DOT, INSTANCEOF, LESS_THAN, NEW, OPEN_BRACE, OPEN_BRACKET, OPEN_PARENTHESIS,
+};
 use decl_grammar::{ReadFault, Symbol};
 use decl_names::{is_next, is_square_or_at, starts_annotation};
 
@@ -32,7 +35,7 @@ fn is_any(symbols: &[Symbol<'_>]) -> bool
 
 // Whether a pair of brackets of a type that is tested begins here.
 fn starts_tested_dim(symbols: &[Symbol<'_>]) -> bool
-    ensures { result ≡ starts (65 ∷ ats) symbols.now }
+    ensures { result ≡ starts (OPEN_BRACKET ∷ ats) symbols.now }
 {
     match symbols {
         [] => false,
@@ -46,15 +49,15 @@ pub fn begins_part(piece: Piece, symbols: &[Symbol<'_>]) -> bool
 {
     match piece {
         Piece::One => is_any(symbols),
-        Piece::Round => is_next(symbols, 61),
-        Piece::Brace => is_next(symbols, 63),
-        Piece::Square => is_next(symbols, 65),
-        Piece::Arguments => is_next(symbols, 75),
+        Piece::Round => is_next(symbols, OPEN_PARENTHESIS),
+        Piece::Brace => is_next(symbols, OPEN_BRACE),
+        Piece::Square => is_next(symbols, OPEN_BRACKET),
+        Piece::Arguments => is_next(symbols, LESS_THAN),
         Piece::Annotated => starts_annotation(symbols),
-        Piece::Created => is_next(symbols, 40),
-        Piece::Reference => is_next(symbols, 75),
-        Piece::Tested => is_next(symbols, 35),
-        Piece::TestedName => is_next(symbols, 69),
+        Piece::Created => is_next(symbols, NEW),
+        Piece::Reference => is_next(symbols, LESS_THAN),
+        Piece::Tested => is_next(symbols, INSTANCEOF),
+        Piece::TestedName => is_next(symbols, DOT),
         Piece::TestedDim => starts_tested_dim(symbols),
     }
 }

@@ -7,6 +7,10 @@ ghost use Rattle.decl_turns.specs.Turns.{one_then, then_part, new_next, sign_nex
 ghost use Rattle.decl_turns.specs.declared.states.Before.TheVariants as earlier;
 
 use crate::states::{Before, Leave, Next, Piece, Place, Turn};
+use decl_grammar::sorts::{
+    ARROW, COLON, DOT, DOUBLE_COLON, EQUALS, GREATER_THAN, IDENTIFIER, INSTANCEOF, LESS_THAN, NEW,
+    OPEN_BRACE, OPEN_BRACKET, OPEN_PARENTHESIS, QUESTION,
+};
 use decl_grammar::{ReadFault, Symbol};
 use decl_names::{is_at, is_name_sort, is_plain, is_primitive, is_square_or_at};
 
@@ -47,16 +51,16 @@ fn new_then(before: Before) -> Next
 fn sign_then(sort: u8) -> Option<Next>
     ensures { result ≡ sign_next sort }
 {
-    if sort == 74 {
+    if sort == GREATER_THAN {
         return Some(symbol_then(Before::Greater));
     }
-    if sort == 78 {
+    if sort == QUESTION {
         return Some(Next::Part(Piece::One, Turn::Condition, Before::Between));
     }
-    if sort == 79 {
+    if sort == COLON {
         return Some(Next::Part(Piece::One, Turn::Colon, Before::Between));
     }
-    if sort == 80 {
+    if sort == ARROW {
         return Some(Next::Part(Piece::One, Turn::Lambda, Before::Between));
     }
     None
@@ -66,13 +70,13 @@ fn sign_then(sort: u8) -> Option<Next>
 fn word_then(before: Before, sort: u8) -> Option<Next>
     ensures { result ≡ word_next before sort }
 {
-    if sort == 61 {
+    if sort == OPEN_PARENTHESIS {
         return Some(part_then(Piece::Round, Before::Between));
     }
-    if sort == 40 {
+    if sort == NEW {
         return Some(new_then(before));
     }
-    if sort == 35 {
+    if sort == INSTANCEOF {
         return Some(part_then(Piece::Tested, Before::Test));
     }
     sign_then(sort)
@@ -96,7 +100,7 @@ fn is_first_name(place: Place, sort: u8) -> bool
     ensures { result ≡ has (first_names (stands_of place)) sort }
 {
     match place {
-        Place::Alone => sort == 0,
+        Place::Alone => sort == IDENTIFIER,
         Place::Paired => is_name_sort(sort),
         Place::Listed => is_name_sort(sort),
         Place::Defaulted => is_name_sort(sort),
@@ -140,10 +144,10 @@ fn less_then(before: Before) -> Option<Next>
 pub fn plain_dots_then(sort: u8) -> Option<Next>
     ensures { result ≡ plain_dots_next sort }
 {
-    if sort == 69 {
+    if sort == DOT {
         return Some(symbol_then(Before::Dot));
     }
-    if sort == 72 {
+    if sort == DOUBLE_COLON {
         return Some(symbol_then(Before::Colons));
     }
     None
@@ -153,10 +157,10 @@ pub fn plain_dots_then(sort: u8) -> Option<Next>
 fn tested_dots_then(sort: u8) -> Option<Next>
     ensures { result ≡ tested_dots_next sort }
 {
-    if sort == 69 {
+    if sort == DOT {
         return Some(part_then(Piece::TestedName, Before::TestName));
     }
-    if sort == 72 {
+    if sort == DOUBLE_COLON {
         return Some(symbol_then(Before::Colons));
     }
     None
@@ -190,7 +194,7 @@ fn dots_then(valued: bool, before: Before, sort: u8) -> Option<Next>
 fn plain_squares_then(sort: u8) -> Option<Next>
     ensures { result ≡ plain_squares_next sort }
 {
-    if sort == 65 {
+    if sort == OPEN_BRACKET {
         return Some(part_then(Piece::Square, Before::Between));
     }
     if is_at(sort) {
@@ -245,9 +249,9 @@ fn squares_then(valued: bool, before: Before, sort: u8) -> Option<Next>
 
 // `<`, where it stands here.
 fn less_if(before: Before, sort: u8) -> Option<Next>
-    ensures { result ≡ only_if (sort == 75) (less_there before) }
+    ensures { result ≡ only_if (sort == LESS_THAN) (less_there before) }
 {
-    if sort == 75 {
+    if sort == LESS_THAN {
         return less_then(before);
     }
     None
@@ -271,8 +275,8 @@ fn is_free_equals(leave: Leave, sort: u8) -> bool
     ensures { result ≡ has (equals (freedom_of leave)) sort }
 {
     match leave {
-        Leave::Within(count) => count > 0 && sort == 73,
-        Leave::Anywhere => sort == 73,
+        Leave::Within(count) => count > 0 && sort == EQUALS,
+        Leave::Anywhere => sort == EQUALS,
     }
 }
 
@@ -285,7 +289,7 @@ fn is_equals(place: Place, leave: Leave, sort: u8) -> bool
         Place::Paired => is_free_equals(leave, sort),
         Place::Listed => is_free_equals(leave, sort),
         Place::Defaulted => is_free_equals(leave, sort),
-        Place::Assigned => sort == 73,
+        Place::Assigned => sort == EQUALS,
     }
 }
 
@@ -293,7 +297,7 @@ fn is_equals(place: Place, leave: Leave, sort: u8) -> bool
 pub fn braces_then(place: Place, leave: Leave, sort: u8) -> Option<Next>
     ensures { result ≡ braces_next (equals_at place leave) sort }
 {
-    if sort == 63 {
+    if sort == OPEN_BRACE {
         return Some(part_then(Piece::Brace, Before::Between));
     }
     if is_equals(place, leave, sort) {

@@ -10,6 +10,7 @@ use Rattle.decl_grammar.specs.declared.fault.ReadFault.TheVariants as faults
 use Rattle.decl_grammar.specs.declared.written.ParamEnd.{ParamEnd}
 use Rattle.decl_grammar.specs.declared.written.NameAt.{NameAt}
 use Rattle.decl_grammar.specs.declared.written.ParamEnd.TheVariants as param_end
+use Rattle.decl_grammar.specs.TokenNames as token
 use Rattle.decl_grammar.specs.Reading.{starts, Outcome, done, fault, deep, ◌>>=◌, Fails, one_at}
 use Rattle.decl_grammar.specs.Form.{Nest, param_rest, first_rest, ParamRest, Form, terminal, pair, turn, maybe, many, either, nest, first, turned}
 use Rattle.decl_grammar.specs.Types.{sign, behind, name_at, dim, annotation, annotations}
@@ -87,12 +88,12 @@ StepIs room inner step = (ts : List Symbol) → inner ts ≡ (reads room step ts
 bracket-then : (room : ℕ) (m : Nest) (rest : Form ParamRest) → Then room bracket_step (step_then room (reads room rest)) (bracket_rest rest)
 unfolding bracket_step
 bracket-then room m rest =
-    behind-then room (sign 4) (turn no_end (sign 5)) (behind (sign 5) (turn in_array rest)) (step_then room (reads room rest))
-    (last-then room (sign 5) no_end (turn in_array rest) (step_then room (reads room rest)) (λ x ts. refl))
+    behind-then room (sign token.open_bracket) (turn no_end (sign token.close_bracket)) (behind (sign token.close_bracket) (turn in_array rest)) (step_then room (reads room rest))
+    (last-then room (sign token.close_bracket) no_end (turn in_array rest) (step_then room (reads room rest)) (λ x ts. refl))
 
 varargs-then : (room : ℕ) (inner : List Symbol → Outcome ParamRest) → Then room varargs_step (step_then room inner) (turn ended_last varargs)
 unfolding varargs_step varargs
-varargs-then room inner ts = go (reads room (behind (sign 9) name_at) ts)
+varargs-then room inner ts = go (reads room (behind (sign token.ellipsis) name_at) ts)
   where
     go : (o : Outcome NameAt) → turned ended_last (turned (λ n. param_end.AnyNumber n) o) ≡ (turned some_end (turned (λ n. param_end.AnyNumber n) o) >>= step_then room inner)
     go (done n rest) = refl

@@ -18,6 +18,8 @@ use Rattle.decl_grammar.specs.Form.{Form, turned, first_of, nested_type, names, 
 use Rattle.decl_grammar.specs.Types.{next_type_param}
 use Rattle.decl_grammar.specs.Grammar.{Named, Typed, rest_form, field_rest, fields_named, method_named, joined_lists}
 use Rattle.decl_grammar.specs.Rule.{reads}
+use Rattle.decl_grammar.specs.Symbols.{operator, word}
+use Rattle.decl_grammar.specs.TokenNames as token
 
 -- the member with this type and this name
 abbrev pub named_as : TypeText → NameAt → Named → Unmodified
@@ -65,28 +67,28 @@ has_blocks kind.Interface = false
 
 -- a member without modifiers, of a class or of an interface
 abbrev pub unmodified_firsts : List ℕ
-unmodified_firsts = first_of nested_type ++ ((57 ∷ []) ++ (primitive_sorts ++ (names ++ 75 ∷ [])))
+unmodified_firsts = first_of nested_type ++ ((word token.void ∷ []) ++ (primitive_sorts ++ (names ++ operator token.less_than ∷ [])))
 
 abbrev pub element_firsts : List ℕ
 element_firsts = first_of nested_type ++ (primitive_sorts ++ names)
 
 abbrev pub modifier_firsts : List ℕ
-modifier_firsts = modifier_words ++ 71 ∷ []
+modifier_firsts = modifier_words ++ operator token.at ∷ []
 
 abbrev pub plain_firsts : List ℕ
-plain_firsts = plain_words ++ 71 ∷ []
+plain_firsts = plain_words ++ operator token.at ∷ []
 
 abbrev pub modified_firsts : TypeKind → List ℕ
-modified_firsts kind.Enum = unmodified_firsts ++ (plain_firsts ++ 47 ∷ [])
-modified_firsts kind.Class = unmodified_firsts ++ (plain_firsts ++ 47 ∷ [])
+modified_firsts kind.Enum = unmodified_firsts ++ (plain_firsts ++ word token.static ∷ [])
+modified_firsts kind.Class = unmodified_firsts ++ (plain_firsts ++ word token.static ∷ [])
 modified_firsts kind.AnnotationType = modifier_firsts ++ element_firsts
 modified_firsts kind.Interface = modifier_firsts ++ unmodified_firsts
 
 abbrev pub block_or : TypeKind → List ℕ → List ℕ
-block_or kind.Enum ks = (63 ∷ []) ++ ks
-block_or kind.Class ks = (63 ∷ []) ++ ks
+block_or kind.Enum ks = (operator token.open_brace ∷ []) ++ ks
+block_or kind.Class ks = (operator token.open_brace ∷ []) ++ ks
 block_or kind.AnnotationType ks = ks
 block_or kind.Interface ks = ks
 
 abbrev pub member_firsts : TypeKind → List ℕ
-member_firsts k = (67 ∷ []) ++ block_or k (modified_firsts k)
+member_firsts k = (operator token.semicolon ∷ []) ++ block_or k (modified_firsts k)

@@ -11,6 +11,7 @@ use Rattle.decl_grammar.specs.declared.written.Modifiers.{Modifiers}
 use Rattle.decl_grammar.specs.declared.written.ParamEnd.{ParamEnd}
 use Rattle.decl_grammar.specs.declared.written.NameAt.{NameAt}
 use Rattle.decl_grammar.specs.declared.written.ParamEnd.TheVariants as param_end
+use Rattle.decl_grammar.specs.TokenNames as token
 use Rattle.decl_grammar.specs.Reading.{Outcome, done, ◌>>=◌, Fails}
 use Rattle.decl_grammar.specs.Form.{ParamRest, Form, pair, turn, maybe, either, turned}
 use Rattle.decl_grammar.specs.Types.{sign, behind, name_at, annotation, annotations}
@@ -26,7 +27,7 @@ abbrev pub some_end : ParamEnd → Option ParamEnd
 some_end e = Some e
 
 unfoldable pub bracket_step : Form (Option ParamEnd)
-bracket_step = behind (sign 4) (turn no_end (sign 5))
+bracket_step = behind (sign token.open_bracket) (turn no_end (sign token.close_bracket))
 
 unfoldable pub varargs_step : Form (Option ParamEnd)
 varargs_step = turn some_end varargs

@@ -9,6 +9,7 @@ ghost use Rattle.decl_grammar.specs.Grammar.{single_or, import_step, import_name
 ghost use Rattle.decl_grammar.specs.Rule.{reads, read_nest};
 
 use apt_base::List;
+use decl_grammar::sorts::{AMPERSAND, COMMA, EXTENDS, GREATER_THAN, LESS_THAN, PACKAGE, SEMICOLON};
 use decl_grammar::{NameAt, ReadFault, Symbol, TypeParamAt};
 use decl_tree::{Import, ImportKind, TypeParam, TypeText};
 use decl_values::{
@@ -25,7 +26,7 @@ fn next_bound_of<'a, 's>(
 ) -> Result<(TypeText, &'s [Symbol<'a>]), ReadFault>
     ensures { Gives (λ x. (x.0, x.1.now)) result (reads room next_bound symbols.now) }
 {
-    let (_, rest) = one(symbols, 93)?;
+    let (_, rest) = one(symbols, AMPERSAND)?;
     annotated_class_of(alloc, room, rest)
 }
 
@@ -40,7 +41,7 @@ fn more_bounds_of<'a, 's>(
 {
     let mut all = front;
     let mut rest = begin(symbols)?;
-    'row: while is_next(rest, 93) {
+    'row: while is_next(rest, AMPERSAND) {
         let (next, after) = next_bound_of(alloc, room, rest)?;
         all.push(next)?;
         rest = after;
@@ -57,7 +58,7 @@ fn bounds_of<'a, 's>(
 ) -> Result<(Vec<TypeText>, &'s [Symbol<'a>]), ReadFault>
     ensures { Gives (λ x. (x.0.items, x.1.now)) result (reads room bounds symbols.now) }
 {
-    let (_, rest) = one(symbols, 26)?;
+    let (_, rest) = one(symbols, EXTENDS)?;
     let (first, rest) = annotated_class_of(alloc, room, rest)?;
     let mut front = Vec::new(alloc);
     front.push(first)?;
@@ -73,7 +74,7 @@ fn optional_bounds_of<'a, 's>(
 ) -> Result<(Vec<TypeText>, &'s [Symbol<'a>]), ReadFault>
     ensures { Gives (λ x. (x.0.items, x.1.now)) result (list_at room bounds symbols.now) }
 {
-    if is_next(symbols, 26) {
+    if is_next(symbols, EXTENDS) {
         return bounds_of(alloc, room, symbols);
     }
     Ok((Vec::new(alloc), symbols))
@@ -111,7 +112,7 @@ fn next_type_param_of<'a, 's>(
 ) -> Result<(TypeParamAt, &'s [Symbol<'a>]), ReadFault>
     ensures { Gives (λ x. (x.0, x.1.now)) result (reads room next_type_param symbols.now) }
 {
-    let (_, rest) = one(symbols, 68)?;
+    let (_, rest) = one(symbols, COMMA)?;
     type_param_of(alloc, room, rest)
 }
 
@@ -126,7 +127,7 @@ fn more_type_params_of<'a, 's>(
 {
     let mut all = front;
     let mut rest = begin(symbols)?;
-    'row: while is_next(rest, 68) {
+    'row: while is_next(rest, COMMA) {
         let (next, after) = next_type_param_of(alloc, room, rest)?;
         all.push(next)?;
         rest = after;
@@ -143,12 +144,12 @@ pub fn type_params_of<'a, 's>(
 ) -> Result<(Vec<TypeParamAt>, &'s [Symbol<'a>]), ReadFault>
     ensures { Gives (λ x. (x.0.items, x.1.now)) result (reads room type_params symbols.now) }
 {
-    let (_, rest) = one(symbols, 75)?;
+    let (_, rest) = one(symbols, LESS_THAN)?;
     let (first, rest) = type_param_of(alloc, room, rest)?;
     let mut front = Vec::new(alloc);
     front.push(first)?;
     let (all, rest) = more_type_params_of(alloc, room, front, rest)?;
-    let (_, rest) = one(rest, 74)?;
+    let (_, rest) = one(rest, GREATER_THAN)?;
     Ok((all, rest))
 }
 
@@ -161,7 +162,7 @@ pub fn optional_params_of<'a, 's>(
 ) -> Result<(Vec<TypeParamAt>, &'s [Symbol<'a>]), ReadFault>
     ensures { Gives (λ x. (x.0.items, x.1.now)) result (reads room optional_params symbols.now) }
 {
-    if is_next(symbols, 75) {
+    if is_next(symbols, LESS_THAN) {
         return type_params_of(alloc, room, symbols);
     }
     Ok((Vec::new(alloc), symbols))
@@ -176,7 +177,7 @@ fn next_class_of<'a, 's>(
 ) -> Result<(TypeText, &'s [Symbol<'a>]), ReadFault>
     ensures { Gives (λ x. (x.0, x.1.now)) result (reads room next_class symbols.now) }
 {
-    let (_, rest) = one(symbols, 68)?;
+    let (_, rest) = one(symbols, COMMA)?;
     annotated_class_of(alloc, room, rest)
 }
 
@@ -191,7 +192,7 @@ fn more_classes_of<'a, 's>(
 {
     let mut all = front;
     let mut rest = begin(symbols)?;
-    'row: while is_next(rest, 68) {
+    'row: while is_next(rest, COMMA) {
         let (next, after) = next_class_of(alloc, room, rest)?;
         all.push(next)?;
         rest = after;
@@ -223,9 +224,9 @@ pub fn package_of<'a, 's>(
 ) -> Result<(NameAt, &'s [Symbol<'a>]), ReadFault>
     ensures { Gives (λ x. (x.0, x.1.now)) result (reads room package_form symbols.now) }
 {
-    let (word, rest) = one(symbols, 41)?;
+    let (word, rest) = one(symbols, PACKAGE)?;
     let (name, rest) = read_chain(alloc, room, rest)?;
-    let (_, rest) = one(rest, 67)?;
+    let (_, rest) = one(rest, SEMICOLON)?;
     let line = word.line;
     Ok((NameAt { name, line }, rest))
 }

@@ -7,8 +7,13 @@ ghost use Rattle.decl_grammar.specs.Rows.{read_as, marks_behind};
 ghost use Rattle.decl_grammar.specs.Types.{keyword, bit_of, with_annotation, with_mark, with_marks, no_modifiers, modifier, plain_modifier, modifiers_form, modifiers_or_none, optional_modifiers, type_modifiers};
 ghost use Rattle.decl_grammar.specs.Grammar.{param_modifier, param_modifiers};
 ghost use Rattle.decl_grammar.specs.Rule.{reads, read_nest};
+ghost use Rattle.decl_grammar.specs.TokenNames as token;
 
 use apt_base::List;
+use decl_grammar::sorts::{
+    ABSTRACT, AT, DEFAULT, FINAL, NATIVE, PRIVATE, PROTECTED, PUBLIC, STATIC, STRICTFP,
+    SYNCHRONIZED, TRANSIENT, VOLATILE,
+};
 use decl_grammar::{Modifiers, ReadFault, Symbol};
 use decl_tree::AnnotationText;
 use decl_values::{
@@ -20,37 +25,37 @@ use std::alloc::Global;
 fn bit_of_sort(sort: u8) -> u16
     ensures { result ≡ bit_of sort }
 {
-    if sort == 44 {
+    if sort == PUBLIC {
         return 1;
     }
-    if sort == 43 {
+    if sort == PROTECTED {
         return 2;
     }
-    if sort == 42 {
+    if sort == PRIVATE {
         return 4;
     }
-    if sort == 10 {
+    if sort == ABSTRACT {
         return 8;
     }
-    if sort == 21 {
+    if sort == DEFAULT {
         return 16;
     }
-    if sort == 47 {
+    if sort == STATIC {
         return 32;
     }
-    if sort == 27 {
+    if sort == FINAL {
         return 64;
     }
-    if sort == 55 {
+    if sort == TRANSIENT {
         return 128;
     }
-    if sort == 58 {
+    if sort == VOLATILE {
         return 256;
     }
-    if sort == 51 {
+    if sort == SYNCHRONIZED {
         return 512;
     }
-    if sort == 39 {
+    if sort == NATIVE {
         return 1024;
     }
     2048
@@ -60,24 +65,24 @@ fn bit_of_sort(sort: u8) -> u16
 pub fn is_plain_word(sort: u8) -> bool
     ensures { result ≡ has plain_words sort }
 {
-    sort == 44
-        || sort == 43
-        || sort == 42
-        || sort == 10
-        || sort == 21
-        || sort == 27
-        || sort == 55
-        || sort == 58
-        || sort == 51
-        || sort == 39
-        || sort == 48
+    sort == PUBLIC
+        || sort == PROTECTED
+        || sort == PRIVATE
+        || sort == ABSTRACT
+        || sort == DEFAULT
+        || sort == FINAL
+        || sort == TRANSIENT
+        || sort == VOLATILE
+        || sort == SYNCHRONIZED
+        || sort == NATIVE
+        || sort == STRICTFP
 }
 
 /// Whether a modifier has this sort.
 pub fn is_modifier_word(sort: u8) -> bool
     ensures { result ≡ has modifier_words sort }
 {
-    sort == 47 || is_plain_word(sort)
+    sort == STATIC || is_plain_word(sort)
 }
 
 // Whether a keyword of a modifier stands here, but `static`.
@@ -102,16 +107,16 @@ fn starts_modifier_word(symbols: &[Symbol<'_>]) -> bool
 
 /// Whether a modifier begins here, but `static`.
 pub fn starts_plain_modifier(symbols: &[Symbol<'_>]) -> bool
-    ensures { result ≡ starts (plain_words ++ (71 ∷ [])) symbols.now }
+    ensures { result ≡ starts (plain_words ++ (AT ∷ [])) symbols.now }
 {
-    starts_plain_word(symbols) || is_next(symbols, 71)
+    starts_plain_word(symbols) || is_next(symbols, AT)
 }
 
 /// Whether a modifier begins here.
 pub fn starts_modifier(symbols: &[Symbol<'_>]) -> bool
-    ensures { result ≡ starts (modifier_words ++ (71 ∷ [])) symbols.now }
+    ensures { result ≡ starts (modifier_words ++ (AT ∷ [])) symbols.now }
 {
-    starts_modifier_word(symbols) || is_next(symbols, 71)
+    starts_modifier_word(symbols) || is_next(symbols, AT)
 }
 
 // Modifiers with one more annotation.
@@ -177,7 +182,7 @@ fn param_modifier_of<'a, 's>(
     ensures { Gives (λ x. (x.0, x.1.now)) result (read_as (with_mark front) room param_modifier symbols.now) }
 {
     if let [symbol, rest @ ..] = symbols {
-        if symbol.sort == 27 {
+        if symbol.sort == FINAL {
             let Modifiers { bits, annotations } = front;
             let bits = bits | bit_of_sort(symbol.sort);
             return Ok((Modifiers { bits, annotations }, rest));
@@ -208,9 +213,9 @@ pub fn more_modifiers_of<'a, 's>(
 
 // Whether a modifier of a parameter begins here.
 fn starts_param_modifier(symbols: &[Symbol<'_>]) -> bool
-    ensures { result ≡ starts (27 ∷ ats) symbols.now }
+    ensures { result ≡ starts (FINAL ∷ ats) symbols.now }
 {
-    is_next(symbols, 27) || starts_annotation(symbols)
+    is_next(symbols, FINAL) || starts_annotation(symbols)
 }
 
 /// The modifiers of a parameter that stand here, put behind others.
@@ -324,9 +329,9 @@ fn word_in<'a, 's>(
     room: usize,
     symbols: &'s [Symbol<'a>],
 ) -> Result<(&'s Symbol<'a>, &'s [Symbol<'a>]), ReadFault>
-    ensures { Gives (λ x. (x.0.now, x.1.now)) result (reads room (keyword 37) symbols.now) }
+    ensures { Gives (λ x. (x.0.now, x.1.now)) result (reads room (keyword token.static) symbols.now) }
 {
-    one(symbols, 47)
+    one(symbols, STATIC)
 }
 
 /// A first `static`.
@@ -339,7 +344,7 @@ pub fn static_word_of<'a, 's>(
     if room > 0 {
         return word_in(room - 1, symbols);
     }
-    Err(shut(is_next(symbols, 47), symbols))
+    Err(shut(is_next(symbols, STATIC), symbols))
 }
 
 /// The modifiers of a member, where there are any.

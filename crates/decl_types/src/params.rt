@@ -10,6 +10,10 @@ ghost use Rattle.decl_types.specs.Params.{some_end, one_or_none, bracket_step, v
 use crate::modifiers::{more_param_modifiers_of, param_modifiers_of};
 use crate::starting::is_primitive_or_name;
 use apt_base::List;
+use decl_grammar::sorts::{
+    CLOSE_BRACKET, CLOSE_PARENTHESIS, COMMA, DOT, ELLIPSIS, FINAL, OPEN_BRACKET, OPEN_PARENTHESIS,
+    THIS,
+};
 use decl_grammar::{Modifiers, NameAt, ParamAt, ParamEnd, Params, ReadFault, Symbol};
 use decl_tree::{AnnotationText, Around, BaseType, Param, TypeText};
 use decl_values::{
@@ -26,8 +30,8 @@ fn bracket_step_of<'a, 's>(
 ) -> Result<(Option<ParamEnd>, &'s [Symbol<'a>]), ReadFault>
     ensures { Gives (λ x. (x.0, x.1.now)) result (reads room bracket_step symbols.now) }
 {
-    let (_, rest) = one(symbols, 65)?;
-    let (_, rest) = one(rest, 66)?;
+    let (_, rest) = one(symbols, OPEN_BRACKET)?;
+    let (_, rest) = one(rest, CLOSE_BRACKET)?;
     Ok((None, rest))
 }
 
@@ -40,7 +44,7 @@ fn varargs_step_of<'a, 's>(
 ) -> Result<(Option<ParamEnd>, &'s [Symbol<'a>]), ReadFault>
     ensures { Gives (λ x. (x.0, x.1.now)) result (reads room varargs_step symbols.now) }
 {
-    let (_, rest) = one(symbols, 70)?;
+    let (_, rest) = one(symbols, ELLIPSIS)?;
     let (name, rest) = read_name_at(alloc, room, rest)?;
     Ok((Some(ParamEnd::AnyNumber(name)), rest))
 }
@@ -54,7 +58,7 @@ fn behind_annotations_step_of<'a, 's>(
 ) -> Result<(Option<ParamEnd>, &'s [Symbol<'a>]), ReadFault>
     ensures { Gives (λ x. (x.0, x.1.now)) result (reads room (either bracket_step varargs_step) symbols.now) }
 {
-    if is_next(symbols, 65) {
+    if is_next(symbols, OPEN_BRACKET) {
         return bracket_step_of(room, symbols);
     }
     varargs_step_of(alloc, room, symbols)
@@ -97,13 +101,13 @@ pub fn param_step_of<'a, 's>(
 ) -> Result<(Option<ParamEnd>, &'s [Symbol<'a>]), ReadFault>
     ensures { Gives (λ x. (x.0, x.1.now)) result (reads room param_step symbols.now) }
 {
-    if is_next(symbols, 65) {
+    if is_next(symbols, OPEN_BRACKET) {
         return bracket_step_of(room, symbols);
     }
     if starts_annotation(symbols) {
         return annotated_step_of(alloc, room, symbols);
     }
-    if is_next(symbols, 70) {
+    if is_next(symbols, ELLIPSIS) {
         return varargs_step_of(alloc, room, symbols);
     }
     let (end, rest) = named_end_of(alloc, room, symbols)?;
@@ -118,8 +122,8 @@ fn dot_this_of<'a, 's>(
 ) -> Result<&'s [Symbol<'a>], ReadFault>
     ensures { Gives (λ x. (None, x.now)) result (reads room dot_this symbols.now) }
 {
-    let (_, rest) = one(symbols, 69)?;
-    let (_, rest) = one(rest, 52)?;
+    let (_, rest) = one(symbols, DOT)?;
+    let (_, rest) = one(rest, THIS)?;
     Ok(rest)
 }
 
@@ -148,7 +152,7 @@ fn first_end_of<'a, 's>(
     ensures { Gives (λ x. (x.0, x.1.now)) result (reads room first_end symbols.now) }
 {
     let (name, rest) = read_name_at(alloc, room, symbols)?;
-    if is_next(rest, 69) {
+    if is_next(rest, DOT) {
         let rest = dot_this_of(room, rest)?;
         return Ok((ParamEnd::Receiver, rest));
     }
@@ -167,7 +171,7 @@ fn receiver_of<'a, 's>(
 ) -> Result<(ParamEnd, &'s [Symbol<'a>]), ReadFault>
     ensures { Gives (λ x. (x.0, x.1.now)) result (reads room receiver symbols.now) }
 {
-    let (_, rest) = one(symbols, 52)?;
+    let (_, rest) = one(symbols, THIS)?;
     Ok((ParamEnd::Receiver, rest))
 }
 
@@ -180,7 +184,7 @@ fn this_or_name_of<'a, 's>(
 ) -> Result<(Option<ParamEnd>, &'s [Symbol<'a>]), ReadFault>
     ensures { Gives (λ x. (x.0, x.1.now)) result (reads room this_or_name symbols.now) }
 {
-    if is_next(symbols, 52) {
+    if is_next(symbols, THIS) {
         let (end, rest) = receiver_of(room, symbols)?;
         return Ok((Some(end), rest));
     }
@@ -197,13 +201,13 @@ pub fn first_step_of<'a, 's>(
 ) -> Result<(Option<ParamEnd>, &'s [Symbol<'a>]), ReadFault>
     ensures { Gives (λ x. (x.0, x.1.now)) result (reads room first_step symbols.now) }
 {
-    if is_next(symbols, 65) {
+    if is_next(symbols, OPEN_BRACKET) {
         return bracket_step_of(room, symbols);
     }
     if starts_annotation(symbols) {
         return annotated_step_of(alloc, room, symbols);
     }
-    if is_next(symbols, 70) {
+    if is_next(symbols, ELLIPSIS) {
         return varargs_step_of(alloc, room, symbols);
     }
     this_or_name_of(alloc, room, symbols)
@@ -338,7 +342,7 @@ pub fn next_param_of<'a, 's>(
 ) -> Result<((Option<ParamAt>, bool), &'s [Symbol<'a>]), ReadFault>
     ensures { ReadsParam (λ x. (x.0, x.1.now)) result room symbols.now (reads room next_params symbols.now) }
 {
-    let (_, rest) = one(symbols, 68)?;
+    let (_, rest) = one(symbols, COMMA)?;
     let (modifiers, rest) = param_modifiers_of(alloc, room, rest)?;
     based_param_of(alloc, room, modifiers, rest)
 }
@@ -354,7 +358,7 @@ fn more_params_of<'a, 's>(
 {
     let mut all = front;
     let mut rest = begin(symbols)?;
-    'row: while is_next(rest, 68) {
+    'row: while is_next(rest, COMMA) {
         let ((next, last), after) = next_param_of(alloc, room, rest)?;
         add_param(&mut all, next)?;
         if last {
@@ -387,8 +391,8 @@ fn first_behind_of<'a, 's>(
 ) -> Result<((Option<ParamAt>, bool), &'s [Symbol<'a>]), ReadFault>
     ensures { ReadsFound (λ x. (x.0, x.1.now)) result room annotations symbols.now }
 {
-    if is_next(symbols, 27) {
-        let (_, rest) = one(symbols, 27)?;
+    if is_next(symbols, FINAL) {
+        let (_, rest) = one(symbols, FINAL)?;
         let front = Modifiers {
             bits: 64,
             annotations,
@@ -436,22 +440,22 @@ fn some_params_of<'a, 's>(
 // Whether `final` or the first symbol of a type has this sort.
 #[tactic(auto, using(decl_grammar::proofs::Ranges::has_then, decl_grammar::proofs::Ranges::has_else))]
 fn is_final_or_type(sort: u8) -> bool
-    ensures { result ≡ has ((27 ∷ []) ++ (primitive_sorts ++ names)) sort }
+    ensures { result ≡ has ((FINAL ∷ []) ++ (primitive_sorts ++ names)) sort }
 {
-    sort == 27 || is_primitive_or_name(sort)
+    sort == FINAL || is_primitive_or_name(sort)
 }
 
 // Whether a first parameter may begin with this sort.
 #[tactic(auto, using(decl_grammar::proofs::Ranges::has_then, decl_grammar::proofs::Ranges::has_else))]
 fn begins_params(sort: u8) -> bool
-    ensures { result ≡ has (ats ++ ((27 ∷ []) ++ (primitive_sorts ++ names))) sort }
+    ensures { result ≡ has (ats ++ ((FINAL ∷ []) ++ (primitive_sorts ++ names))) sort }
 {
     is_at(sort) || is_final_or_type(sort)
 }
 
 /// Whether a parameter, the first one or a further one, may begin here.
 pub fn starts_params(symbols: &[Symbol<'_>]) -> bool
-    ensures { result ≡ starts (ats ++ ((27 ∷ []) ++ (primitive_sorts ++ names))) symbols.now }
+    ensures { result ≡ starts (ats ++ ((FINAL ∷ []) ++ (primitive_sorts ++ names))) symbols.now }
 {
     match symbols {
         [] => false,
@@ -468,14 +472,14 @@ pub fn params_of<'a, 's>(
 ) -> Result<(Params, &'s [Symbol<'a>]), ReadFault>
     ensures { Gives (λ x. (x.0, x.1.now)) result (reads room params symbols.now) }
 {
-    let (_, rest) = one(symbols, 61)?;
+    let (_, rest) = one(symbols, OPEN_PARENTHESIS)?;
     if starts_params(rest) {
         let ((all, varargs), rest) = some_params_of(alloc, room, rest)?;
-        let (_, rest) = one(rest, 62)?;
+        let (_, rest) = one(rest, CLOSE_PARENTHESIS)?;
         let params = List::from_vec(all);
         return Ok((Params { params, varargs }, rest));
     }
-    let (_, rest) = one(rest, 62)?;
+    let (_, rest) = one(rest, CLOSE_PARENTHESIS)?;
     let params = List::new(alloc);
     let varargs = false;
     Ok((Params { params, varargs }, rest))

@@ -10,6 +10,9 @@ ghost use Rattle.decl_types.specs.Members.{declarators_at, fields_at, method_at,
 use crate::headings::classes_of;
 use crate::params::params_of;
 use apt_base::List;
+use decl_grammar::sorts::{
+    CLOSE_PARENTHESIS, DEFAULT, OPEN_BRACE, OPEN_PARENTHESIS, SEMICOLON, THROWS,
+};
 use decl_grammar::{
     Declarator, MemberRest, NameAt, Params, ReadFault, Signature, Symbol, Unmodified,
 };
@@ -26,8 +29,8 @@ fn thrown_of<'a, 's>(
 ) -> Result<(Vec<TypeText>, &'s [Symbol<'a>]), ReadFault>
     ensures { Gives (λ x. (x.0.items, x.1.now)) result (reads room thrown symbols.now) }
 {
-    if is_next(symbols, 54) {
-        let (_, rest) = one(symbols, 54)?;
+    if is_next(symbols, THROWS) {
+        let (_, rest) = one(symbols, THROWS)?;
         return classes_of(alloc, room, rest);
     }
     Ok((Vec::new(alloc), symbols))
@@ -42,10 +45,10 @@ fn body_of<'a, 's>(
 ) -> Result<&'s [Symbol<'a>], ReadFault>
     ensures { Gives (λ x. (tt, x.now)) result (reads room body symbols.now) }
 {
-    if is_next(symbols, 63) {
-        return read_over(alloc, 63, symbols);
+    if is_next(symbols, OPEN_BRACE) {
+        return read_over(alloc, OPEN_BRACE, symbols);
     }
-    let (_, rest) = one(symbols, 67)?;
+    let (_, rest) = one(symbols, SEMICOLON)?;
     Ok(rest)
 }
 
@@ -88,7 +91,7 @@ pub fn constructor_signature_of<'a, 's>(
     let (params, rest) = params_of(alloc, room, symbols)?;
     let (thrown, rest) = thrown_of(alloc, room, rest)?;
     let thrown = List::from_vec(thrown);
-    let rest = read_over(alloc, 63, rest)?;
+    let rest = read_over(alloc, OPEN_BRACE, rest)?;
     let dims = List::new(alloc);
     let default = None;
     Ok((
@@ -111,11 +114,11 @@ fn element_end_of<'a, 's>(
 ) -> Result<(Option<ValueText>, &'s [Symbol<'a>]), ReadFault>
     ensures { Gives (λ x. (x.0, x.1.now)) result (reads room element_end symbols.now) }
 {
-    if is_next(symbols, 67) {
-        let (_, rest) = one(symbols, 67)?;
+    if is_next(symbols, SEMICOLON) {
+        let (_, rest) = one(symbols, SEMICOLON)?;
         return Ok((None, rest));
     }
-    let (_, rest) = one(symbols, 21)?;
+    let (_, rest) = one(symbols, DEFAULT)?;
     let (value, rest) = default_of(alloc, room, rest)?;
     Ok((Some(value), rest))
 }
@@ -129,8 +132,8 @@ fn element_signature_of<'a, 's>(
 ) -> Result<(Signature, &'s [Symbol<'a>]), ReadFault>
     ensures { Gives (λ x. (x.0, x.1.now)) result (reads room element_signature symbols.now) }
 {
-    let (_, rest) = one(symbols, 61)?;
-    let (_, rest) = one(rest, 62)?;
+    let (_, rest) = one(symbols, OPEN_PARENTHESIS)?;
+    let (_, rest) = one(rest, CLOSE_PARENTHESIS)?;
     let (dims, rest) = dims_of(alloc, room, rest)?;
     let dims = List::from_vec(dims);
     let (default, rest) = element_end_of(alloc, room, rest)?;
@@ -223,14 +226,14 @@ pub fn member_rest_of<'a, 's>(
 {
     match kind {
         MemberRest::Any => {
-            if is_next(symbols, 61) {
+            if is_next(symbols, OPEN_PARENTHESIS) {
                 return method_of(alloc, room, of, name, symbols);
             }
             fields_rest_of(alloc, room, of, name, symbols)
         }
         MemberRest::Method => method_of(alloc, room, of, name, symbols),
         MemberRest::Element => {
-            if is_next(symbols, 61) {
+            if is_next(symbols, OPEN_PARENTHESIS) {
                 return element_of(alloc, room, of, name, symbols);
             }
             fields_rest_of(alloc, room, of, name, symbols)

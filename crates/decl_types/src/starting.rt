@@ -6,6 +6,9 @@ ghost use Rattle.decl_types.specs.Members.{unmodified_firsts, element_firsts, mo
 
 use crate::modifiers::{is_modifier_word, is_plain_word};
 use decl_grammar::Symbol;
+use decl_grammar::sorts::{
+    AT, AT_INTERFACE, CLASS, ENUM, INTERFACE, LESS_THAN, OPEN_BRACE, SEMICOLON, STATIC, VOID,
+};
 use decl_tree::TypeKind;
 use decl_values::{is_name_sort, is_primitive};
 
@@ -13,7 +16,7 @@ use decl_values::{is_name_sort, is_primitive};
 fn is_type_word(sort: u8) -> bool
     ensures { result ≡ has (first_of nested_type) sort }
 {
-    sort == 18 || sort == 37 || sort == 9 || sort == 25
+    sort == CLASS || sort == INTERFACE || sort == AT_INTERFACE || sort == ENUM
 }
 
 /// Whether a type begins here, its modifiers aside.
@@ -29,15 +32,15 @@ pub fn starts_type_word(symbols: &[Symbol<'_>]) -> bool
 // Whether a name or a `<` has this sort.
 #[tactic(auto, using(decl_grammar::proofs::Ranges::has_then, decl_grammar::proofs::Ranges::has_else))]
 fn is_name_or_less(sort: u8) -> bool
-    ensures { result ≡ has (names ++ (75 ∷ [])) sort }
+    ensures { result ≡ has (names ++ (LESS_THAN ∷ [])) sort }
 {
-    is_name_sort(sort) || sort == 75
+    is_name_sort(sort) || sort == LESS_THAN
 }
 
 // The same, or a primitive type.
 #[tactic(auto, using(decl_grammar::proofs::Ranges::has_then, decl_grammar::proofs::Ranges::has_else))]
 fn is_primitive_or_more(sort: u8) -> bool
-    ensures { result ≡ has (primitive_sorts ++ (names ++ (75 ∷ []))) sort }
+    ensures { result ≡ has (primitive_sorts ++ (names ++ (LESS_THAN ∷ []))) sort }
 {
     is_primitive(sort) || is_name_or_less(sort)
 }
@@ -45,9 +48,9 @@ fn is_primitive_or_more(sort: u8) -> bool
 // The same, or `void`.
 #[tactic(auto, using(decl_grammar::proofs::Ranges::has_then, decl_grammar::proofs::Ranges::has_else))]
 fn is_void_or_more(sort: u8) -> bool
-    ensures { result ≡ has ((57 ∷ []) ++ (primitive_sorts ++ (names ++ (75 ∷ [])))) sort }
+    ensures { result ≡ has ((VOID ∷ []) ++ (primitive_sorts ++ (names ++ (LESS_THAN ∷ [])))) sort }
 {
-    sort == 57 || is_primitive_or_more(sort)
+    sort == VOID || is_primitive_or_more(sort)
 }
 
 // Whether a member of a class or of an interface may begin with this sort, its modifiers aside.
@@ -89,21 +92,21 @@ fn begins_element(sort: u8) -> bool
 fn is_plain(sort: u8) -> bool
     ensures { result ≡ has plain_firsts sort }
 {
-    is_plain_word(sort) || sort == 71
+    is_plain_word(sort) || sort == AT
 }
 
 // The same, or `static`.
 #[tactic(auto, using(decl_grammar::proofs::Ranges::has_then, decl_grammar::proofs::Ranges::has_else))]
 fn is_plain_or_static(sort: u8) -> bool
-    ensures { result ≡ has (plain_firsts ++ (47 ∷ [])) sort }
+    ensures { result ≡ has (plain_firsts ++ (STATIC ∷ [])) sort }
 {
-    is_plain(sort) || sort == 47
+    is_plain(sort) || sort == STATIC
 }
 
 // Whether a member of a class may begin with this sort.
 #[tactic(auto, using(decl_grammar::proofs::Ranges::has_then, decl_grammar::proofs::Ranges::has_else))]
 fn begins_of_class(sort: u8) -> bool
-    ensures { result ≡ has (unmodified_firsts ++ (plain_firsts ++ (47 ∷ []))) sort }
+    ensures { result ≡ has (unmodified_firsts ++ (plain_firsts ++ (STATIC ∷ []))) sort }
 {
     begins_unmodified(sort) || is_plain_or_static(sort)
 }
@@ -111,9 +114,9 @@ fn begins_of_class(sort: u8) -> bool
 // The same, or an initialiser.
 #[tactic(auto, using(decl_grammar::proofs::Ranges::has_then, decl_grammar::proofs::Ranges::has_else))]
 fn begins_block_or_more(sort: u8) -> bool
-    ensures { result ≡ has ((63 ∷ []) ++ (unmodified_firsts ++ (plain_firsts ++ (47 ∷ [])))) sort }
+    ensures { result ≡ has ((OPEN_BRACE ∷ []) ++ (unmodified_firsts ++ (plain_firsts ++ (STATIC ∷ [])))) sort }
 {
-    sort == 63 || begins_of_class(sort)
+    sort == OPEN_BRACE || begins_of_class(sort)
 }
 
 // Whether a modifier may begin with this sort.
@@ -121,7 +124,7 @@ fn begins_block_or_more(sort: u8) -> bool
 fn is_modifier(sort: u8) -> bool
     ensures { result ≡ has modifier_firsts sort }
 {
-    is_modifier_word(sort) || sort == 71
+    is_modifier_word(sort) || sort == AT
 }
 
 // Whether a member of an interface may begin with this sort.
@@ -155,9 +158,9 @@ fn begins_more(kind: TypeKind, sort: u8) -> bool
 // Whether a member of such a type may begin with this sort.
 #[tactic(auto, using(decl_grammar::proofs::Ranges::has_then, decl_grammar::proofs::Ranges::has_else))]
 fn begins_member(kind: TypeKind, sort: u8) -> bool
-    ensures { result ≡ has ((67 ∷ []) ++ block_or kind (modified_firsts kind)) sort }
+    ensures { result ≡ has ((SEMICOLON ∷ []) ++ block_or kind (modified_firsts kind)) sort }
 {
-    sort == 67 || begins_more(kind, sort)
+    sort == SEMICOLON || begins_more(kind, sort)
 }
 
 /// Whether a member of such a type begins here.

@@ -19,6 +19,7 @@ use Rattle.decl_grammar.specs.declared.symbol.Symbol.{Symbol}
 use Rattle.decl_grammar.specs.declared.fault.ReadFault.{ReadFault}
 use Rattle.decl_grammar.specs.declared.fault.ReadFault.TheVariants as faults
 use Rattle.decl_grammar.specs.Symbols.{operator}
+use Rattle.decl_grammar.specs.TokenNames as token
 use Rattle.decl_grammar.specs.Reading.{starts, Outcome, done, fault, deep, read_of, Fails}
 use Rattle.decl_grammar.specs.Form.{Stands, Freedom, Part, Nest, Of, Rest, Behind, between, colons, one_of, type_reference, anywhere, conditional, expression_part, expression_rest, value_end, turn, nest, further_of, failed_at, attempted, turned}
 use Rattle.decl_grammar.specs.Expressions.{part_symbols, with_symbols, step, two_readings, behind_condition}
@@ -194,36 +195,36 @@ types-sink room p row n here f us far k free = (
 )
 
 -- a part of one symbol at a `<` is that `<`
-less-part : (room : ℕ) (s : Stands) (ts : List Symbol) → starts (operator 14 ∷ []) ts ≡ true → read_nest room (expression_part s (part_at piece.One ts)) ts ≡ read_nest room (expression_part s (one_of (operator 14 ∷ []))) ts
+less-part : (room : ℕ) (s : Stands) (ts : List Symbol) → starts (operator token.less_than ∷ []) ts ≡ true → read_nest room (expression_part s (part_at piece.One ts)) ts ≡ read_nest room (expression_part s (one_of (operator token.less_than ∷ []))) ts
 less-part room s [] e = absurd cc
-less-part room s (t ∷ ts) e = part-alike s (t.sort ∷ []) (operator 14 ∷ []) room t ts (same-sort t.sort) e
+less-part room s (t ∷ ts) e = part-alike s (t.sort ∷ []) (operator token.less_than ∷ []) room t ts (same-sort t.sort) e
 
 -- the same where two readings are there
-pub two-part : (room : ℕ) (p : Place) (row : Row) → next_at p row.leave row.before row.rest.now ≡ next.Two → part_read room p piece.One row.rest.now ≡ read_nest room (expression_part (stands_of p) (one_of (operator 14 ∷ []))) row.rest.now
+pub two-part : (room : ℕ) (p : Place) (row : Row) → next_at p row.leave row.before row.rest.now ≡ next.Two → part_read room p piece.One row.rest.now ≡ read_nest room (expression_part (stands_of p) (one_of (operator token.less_than ∷ []))) row.rest.now
 two-part room p row here = less-part room (stands_of p) row.rest.now (two-less p row.leave row.before row.rest.now here)
 
 -- the operator `<`
 pub compares-go : (room : ℕ) (p : Place) (row after : Row) (left : ℕ) → next_at p row.leave row.before row.rest.now ≡ next.Two → Fails (faults.Bad left) (part_read room p piece.Reference row.rest.now)
-    → read_nest room (expression_part (stands_of p) (one_of (operator 14 ∷ []))) row.rest.now ≡ done tt after.rest.now
+    → read_nest room (expression_part (stands_of p) (one_of (operator token.less_than ∷ []))) row.rest.now ≡ done tt after.rest.now
     → after.leave ≡ row.leave → after.before ≡ before.Between → after.far ≡ Some (less_of row.far left) → Goes room p row (Ok after)
 compares-go room p row after left here f read leaving stands far_is us far k free = record {
   passed = read_of row.rest.now after.rest.now;
   to = Some (further_than far f.0);
-  parts = nest-parts (expression_part (stands_of p) (one_of (operator 14 ∷ []))) room row.rest.now after.rest.now tt read;
+  parts = nest-parts (expression_part (stands_of p) (one_of (operator token.less_than ∷ []))) room row.rest.now after.rest.now tt read;
   kept = far_is ∙ ap (λ (n : ℕ). Some n) (ap (λ (x : Option ℕ). less_of x left) k ∙ (ap (less_of (counted far)) f.2 ∙ less-counted far f.0));
   free = subst (λ (l : Leave). IsFree p l) (sym leaving) free;
   same =
       row-compares (stands_of p) far us room (freedom_of row.leave) (freedom_of row.leave) (after_of row.before) row.rest.now f.0 (read_of row.rest.now after.rest.now) after.rest.now
       (chosen room p row.leave row.before row.rest.now next.Two free here)
       (symbols-fault (stands_of p) type_reference room row.rest.now f.0 f.1)
-      (symbols-read (stands_of p) (one_of (operator 14 ∷ [])) room row.rest.now after.rest.now read)
+      (symbols-read (stands_of p) (one_of (operator token.less_than ∷ [])) room row.rest.now after.rest.now read)
       ∙ ap (λ (l : Leave). row_from (stands_of p) (Some (further_than far f.0)) (us ++ read_of row.rest.now after.rest.now) room (freedom_of l) between after.rest.now) (sym leaving)
       ∙ ap (λ (z : Before). row_from (stands_of p) (Some (further_than far f.0)) (us ++ read_of row.rest.now after.rest.now) room (freedom_of after.leave) (after_of z) after.rest.now) (sym stands);
 }
 
 -- a fault of what both readings begin with
 pub compares-fail : (room : ℕ) (p : Place) (row : Row) (left : ℕ) (e : ReadFault) → next_at p row.leave row.before row.rest.now ≡ next.Two → Fails (faults.Bad left) (part_read room p piece.Reference row.rest.now)
-    → Fails e (read_nest room (expression_part (stands_of p) (one_of (operator 14 ∷ []))) row.rest.now) → Goes room p row (Err (fallen_of (Some (less_of row.far left)) e))
+    → Fails e (read_nest room (expression_part (stands_of p) (one_of (operator token.less_than ∷ []))) row.rest.now) → Goes room p row (Err (fallen_of (Some (less_of row.far left)) e))
 unfolding two_readings
 compares-fail room p row left e here f g us far k free =
     subst (λ (o : Outcome (Rest (stands_of p))). Fails (fallen_of (Some (less_of row.far left)) e) o) (sym whole)
@@ -238,12 +239,12 @@ compares-fail room p row left e here f g us far k free =
     w = freedom_of row.leave
 
     other : Outcome (Rest s)
-    other = reads room (step s (one_of (operator 14 ∷ [])) w between) row.rest.now
+    other = reads room (step s (one_of (operator token.less_than ∷ [])) w between) row.rest.now
 
-    step-errs : (e : ReadFault) → Fails e (read_nest room (expression_part s (one_of (operator 14 ∷ []))) row.rest.now) → Fails e other
+    step-errs : (e : ReadFault) → Fails e (read_nest room (expression_part s (one_of (operator token.less_than ∷ []))) row.rest.now) → Fails e other
     step-errs faults.Memory q = tt
-    step-errs (faults.Bad n) q = (q.0, step-fails s (one_of (operator 14 ∷ [])) w between room row.rest.now q.0 (symbols-fault s (one_of (operator 14 ∷ [])) room row.rest.now q.0 q.1), q.2)
-    step-errs (faults.Deep n) q = (q.0, step-deep s (one_of (operator 14 ∷ [])) w between room row.rest.now q.0 (symbols-deep s (one_of (operator 14 ∷ [])) room row.rest.now q.0 q.1), q.2)
+    step-errs (faults.Bad n) q = (q.0, step-fails s (one_of (operator token.less_than ∷ [])) w between room row.rest.now q.0 (symbols-fault s (one_of (operator token.less_than ∷ [])) room row.rest.now q.0 q.1), q.2)
+    step-errs (faults.Deep n) q = (q.0, step-deep s (one_of (operator token.less_than ∷ [])) w between room row.rest.now q.0 (symbols-deep s (one_of (operator token.less_than ∷ [])) room row.rest.now q.0 q.1), q.2)
 
     turned-fails : (e : ReadFault) → Fails e other → Fails e (turned (λ y. with_symbols (us, y)) other)
     turned-fails faults.Memory q = tt

@@ -9,10 +9,11 @@ use Rattle.decl_grammar.specs.Form.{Form, constant_items, either, nest, turned}
 use Rattle.decl_grammar.specs.Types.{sign, behind}
 use Rattle.decl_grammar.specs.Expressions.{listed_end}
 use Rattle.decl_grammar.specs.Rule.{read_nest}
+use Rattle.decl_grammar.specs.TokenNames as token
 
 -- behind the `{` of an array of constant forms, up to its `}`
 unfoldable pub constant_rest : Form (List ValueText)
-constant_rest = either listed_end (either (behind (sign 7) listed_end) (nest constant_items))
+constant_rest = either listed_end (either (behind (sign token.comma) listed_end) (nest constant_items))
 
 -- the constant forms of an array from one on
 abbrev pub items_from : ℕ → List Symbol → Outcome (List ValueText)

@@ -12,6 +12,8 @@ use Rattle.decl_tree.specs.declared.annotation.ElementValuePair.{ElementValuePai
 use Rattle.decl_grammar.specs.declared.symbol.Symbol.{Symbol}
 use Rattle.decl_grammar.specs.declared.fault.ReadFault.{ReadFault}
 use Rattle.decl_grammar.specs.declared.fault.ReadFault.TheVariants as faults
+use Rattle.decl_grammar.specs.Symbols.{operator}
+use Rattle.decl_grammar.specs.TokenNames as token
 use Rattle.decl_grammar.specs.declared.written.Declarator.{Declarator}
 use Rattle.decl_grammar.specs.declared.written.NameAt.{NameAt}
 use Rattle.decl_grammar.specs.Reading.{starts, Outcome, done, fault, ◌>>=◌, one_at, Fails}
@@ -26,7 +28,7 @@ use Rattle.decl_turns.specs.States.{stands_of, freedom_of, after_of, part_at, ex
 -- ---- parts
 
 abbrev pub argument_firsts : List ℕ
-argument_firsts = ats ++ ((78 ∷ []) ++ (names ++ primitive_sorts))
+argument_firsts = ats ++ ((operator token.question ∷ []) ++ (names ++ primitive_sorts))
 
 unfoldable pub created_class : Form (Unit {0})
 created_class = turn silently (pair created_part (many next_created_part))
@@ -140,7 +142,8 @@ value_or_end_read room ts = reads room value_or_end ts
 -- What is known where an initialiser is no constant form with a `;` behind it: where a constant form was read no `;` stands behind it, and else this is how
 -- many symbols are left at its fault.
 abbrev pub ConstantTried : ℕ → List Symbol → Option ValueText → ℕ → Type 0
-ConstantTried room ts (Some v) left = (rest : List Symbol) × (read_nest room constant_value ts ≡ done v rest) × (left ≡ length rest) × (starts (67 ∷ []) rest ≡ false)
+ConstantTried room ts (Some v) left =
+    (rest : List Symbol) × (read_nest room constant_value ts ≡ done v rest) × (left ≡ length rest) × (starts (operator token.semicolon ∷ []) rest ≡ false)
 ConstantTried room ts None left = (at : List Symbol) × (read_nest room constant_value ts ≡ fault at) × (left ≡ length at)
 
 -- what was read as a constant form, where it ended here
@@ -151,25 +154,29 @@ kept_here v left here = if here == left then v else None
 
 -- behind the `{` of an array, up to its `}`
 unfoldable pub array_rest : Form (List ValueText)
-array_rest = either listed_end (either (behind (sign 7) listed_end) listed_values)
+array_rest = either listed_end (either (behind (sign token.comma) listed_end) listed_values)
 
 -- behind a value of an array: whether another one comes
 abbrev pub listed_step : List Symbol → Outcome Bool
 listed_step ts =
-    if starts (64 ∷ []) ts then (one_at (64 ∷ []) ts >>= λ s rest. done false rest)
-    else (one_at (68 ∷ []) ts >>= λ s rest. if starts (64 ∷ []) rest then (one_at (64 ∷ []) rest >>= λ z after. done false after) else done true rest)
+    if starts (operator token.close_brace ∷ []) ts then (one_at (operator token.close_brace ∷ []) ts >>= λ s rest. done false rest)
+    else (one_at (operator token.comma ∷ []) ts >>= λ s rest.
+    if starts (operator token.close_brace ∷ []) rest then (one_at (operator token.close_brace ∷ []) rest >>= λ z after. done false after)
+    else done true rest)
 
 -- behind a value of a pair: the name of the next pair, where there is one
 abbrev pub paired_step : ℕ → List Symbol → Outcome (Option (List ℕ))
 paired_step room ts =
-    if starts (62 ∷ []) ts then (one_at (62 ∷ []) ts >>= λ s rest. done None rest)
-    else (one_at (68 ∷ []) ts >>= λ s rest. reads room name rest >>= λ n behind. one_at (73 ∷ []) behind >>= λ z after. done (Some n) after)
+    if starts (operator token.close_parenthesis ∷ []) ts then (one_at (operator token.close_parenthesis ∷ []) ts >>= λ s rest. done None rest)
+    else (one_at (operator token.comma ∷ []) ts >>= λ s rest. reads room name rest >>= λ n behind.
+    one_at (operator token.equals ∷ []) behind >>= λ z after. done (Some n) after)
 
 -- behind a field: the name of the next one and the brackets behind it, where there is one
 abbrev pub declared_step : ℕ → List Symbol → Outcome (Option (NameAt × List Around))
 declared_step room ts =
-    if starts (67 ∷ []) ts then (one_at (67 ∷ []) ts >>= λ s rest. done None rest)
-    else (one_at (68 ∷ []) ts >>= λ s rest. reads room name_at rest >>= λ n behind. reads room (many dim) behind >>= λ ds after. done (Some (n, ds)) after)
+    if starts (operator token.semicolon ∷ []) ts then (one_at (operator token.semicolon ∷ []) ts >>= λ s rest. done None rest)
+    else (one_at (operator token.comma ∷ []) ts >>= λ s rest. reads room name_at rest >>= λ n behind.
+    reads room (many dim) behind >>= λ ds after. done (Some (n, ds)) after)
 
 -- ---- rows
 

@@ -12,6 +12,9 @@ use crate::reached::End;
 use crate::rows::{fallen, furthest};
 use crate::values::{lone_value_of, value_of};
 use apt_base::{List, Name};
+use decl_grammar::sorts::{
+    AT, AT_INTERFACE, CLOSE_PARENTHESIS, COMMA, EQUALS, NAMED, OPEN_PARENTHESIS,
+};
 use decl_grammar::{ReadFault, Symbol};
 use decl_names::{begin, is_next, one, read_chain, read_name, shut, starts_annotation};
 use decl_tree::{AnnotationText, ElementValuePair, ValueText};
@@ -28,7 +31,7 @@ fn named_text_of<'a, 's>(
 ) -> Result<(&'a str, &'s [Symbol<'a>]), ReadFault>
     ensures { Gives (λ x. (x.0.now, x.1.now)) result (reads room named_text symbols.now) }
 {
-    let (name, rest) = one(symbols, 1)?;
+    let (name, rest) = one(symbols, NAMED)?;
     Ok((name.text.as_str(), rest))
 }
 
@@ -42,7 +45,7 @@ fn first_name_of<'a, 's>(
     if room > 0 {
         return named_text_of(room - 1, symbols);
     }
-    Err(shut(is_next(symbols, 1), symbols))
+    Err(shut(is_next(symbols, NAMED), symbols))
 }
 
 // Behind a value of a pair: the name of the next one, where there is one.
@@ -53,12 +56,12 @@ fn paired_step_of<'a, 's>(
 ) -> Result<(Option<Name>, &'s [Symbol<'a>]), ReadFault>
     ensures { Gives (λ x. (x.0, x.1.now)) result (paired_step room symbols.now) }
 {
-    if is_next(symbols, 62) {
-        return ended(None, symbols, 62);
+    if is_next(symbols, CLOSE_PARENTHESIS) {
+        return ended(None, symbols, CLOSE_PARENTHESIS);
     }
-    let (_, rest) = one(symbols, 68)?;
+    let (_, rest) = one(symbols, COMMA)?;
     let (text, rest) = read_name(room, rest)?;
-    let (_, rest) = one(rest, 73)?;
+    let (_, rest) = one(rest, EQUALS)?;
     let name = Name::new(alloc, text)?;
     Ok((Some(name), rest))
 }
@@ -126,7 +129,7 @@ fn first_pair_of<'a, 's>(
     ensures { Gives (λ x. (x.0.items, x.1.now)) result (reads room first_pair symbols.now) }
 {
     let (text, rest) = first_name_of(room, symbols)?;
-    let (_, rest) = one(rest, 73)?;
+    let (_, rest) = one(rest, EQUALS)?;
     let name = Name::new(alloc, text)?;
     pairs_of(alloc, room, name, rest)
 }
@@ -141,7 +144,7 @@ fn pairs_or_value_of<'a, 's>(
 ) -> Result<(Vec<ElementValuePair>, &'s [Symbol<'a>]), ReadFault>
     ensures { Gives (λ x. (x.0.items, x.1.now)) result (reads room pairs_or_value symbols.now) }
 {
-    if is_next(symbols, 1) {
+    if is_next(symbols, NAMED) {
         return first_pair_of(alloc, room, symbols);
     }
     let name = Name::new(alloc, "value")?;
@@ -162,9 +165,9 @@ fn arguments_of<'a, 's>(
 ) -> Result<(Vec<ElementValuePair>, &'s [Symbol<'a>]), ReadFault>
     ensures { Gives (λ x. (x.0.items, x.1.now)) result (reads room annotation_arguments symbols.now) }
 {
-    let (_, rest) = one(symbols, 61)?;
-    if is_next(rest, 62) {
-        return closed(Vec::new(alloc), rest, 62);
+    let (_, rest) = one(symbols, OPEN_PARENTHESIS)?;
+    if is_next(rest, CLOSE_PARENTHESIS) {
+        return closed(Vec::new(alloc), rest, CLOSE_PARENTHESIS);
     }
     pairs_or_value_of(alloc, room, rest)
 }
@@ -181,7 +184,7 @@ pub fn annotation_body_of<'a, 's>(
     ensures { Gives (λ x. (x.0, x.1.now)) result (reads room annotation_body symbols.now) }
 {
     let (name, rest) = read_chain(alloc, room, symbols)?;
-    if is_next(rest, 61) {
+    if is_next(rest, OPEN_PARENTHESIS) {
         let (values, rest) = arguments_of(alloc, room, rest)?;
         let values = List::from_vec(values);
         return Ok((AnnotationText { name, values }, rest));
@@ -200,11 +203,11 @@ pub fn annotation_of<'a, 's>(
 ) -> Result<(AnnotationText, &'s [Symbol<'a>]), ReadFault>
     ensures { Gives (λ x. (x.0, x.1.now)) result (reads room annotation symbols.now) }
 {
-    if is_next(symbols, 9) {
-        let (_, rest) = one(symbols, 9)?;
+    if is_next(symbols, AT_INTERFACE) {
+        let (_, rest) = one(symbols, AT_INTERFACE)?;
         return annotation_body_of(alloc, room, rest);
     }
-    let (_, rest) = one(symbols, 71)?;
+    let (_, rest) = one(symbols, AT)?;
     annotation_body_of(alloc, room, rest)
 }
 

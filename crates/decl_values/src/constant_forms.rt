@@ -11,6 +11,7 @@ use crate::around::closed;
 use crate::values::listed_step_of;
 use apt_base::List;
 use decl_constants::plain_value_of;
+use decl_grammar::sorts::{CLOSE_BRACE, COMMA, OPEN_BRACE};
 use decl_grammar::{ReadFault, Symbol};
 use decl_names::{begin, is_next, one, shut, starts_annotation, starts_constant};
 use decl_tree::ValueText;
@@ -62,12 +63,12 @@ fn constant_rest_of<'a, 's>(
 ) -> Result<(Vec<ValueText>, &'s [Symbol<'a>]), ReadFault>
     ensures { Gives (λ x. (x.0.items, x.1.now)) result (reads room constant_rest symbols.now) }
 {
-    if is_next(symbols, 64) {
-        return closed(Vec::new(alloc), symbols, 64);
+    if is_next(symbols, CLOSE_BRACE) {
+        return closed(Vec::new(alloc), symbols, CLOSE_BRACE);
     }
-    if is_next(symbols, 68) {
-        let (_, rest) = one(symbols, 68)?;
-        return closed(Vec::new(alloc), rest, 64);
+    if is_next(symbols, COMMA) {
+        let (_, rest) = one(symbols, COMMA)?;
+        return closed(Vec::new(alloc), rest, CLOSE_BRACE);
     }
     constant_items_of(alloc, room, symbols)
 }
@@ -82,7 +83,7 @@ fn constant_array_of<'a, 's>(
 ) -> Result<(ValueText, &'s [Symbol<'a>]), ReadFault>
     ensures { Gives (λ x. (x.0, x.1.now)) result (reads room constant_array symbols.now) }
 {
-    let (_, rest) = one(symbols, 63)?;
+    let (_, rest) = one(symbols, OPEN_BRACE)?;
     let (values, rest) = constant_rest_of(alloc, room, rest)?;
     Ok((ValueText::Array(List::from_vec(values)), rest))
 }
@@ -97,7 +98,7 @@ fn constant_form_of<'a, 's>(
 ) -> Result<(ValueText, &'s [Symbol<'a>]), ReadFault>
     ensures { Gives (λ x. (x.0, x.1.now)) result (reads room constant_form symbols.now) }
 {
-    if is_next(symbols, 63) {
+    if is_next(symbols, OPEN_BRACE) {
         return constant_array_of(alloc, room, symbols);
     }
     if starts_annotation(symbols) {

@@ -12,6 +12,7 @@ use crate::annotations::annotations_of;
 use crate::around::{closed, one_item};
 use crate::type_arguments::{more_arguments_of, optional_arguments_of, type_argument_of};
 use decl_constants::primitive_type_of;
+use decl_grammar::sorts::{DOT, GREATER_THAN, LESS_THAN, NEW, QUESTION};
 use decl_grammar::{ReadFault, Symbol};
 use decl_names::{
     begin, is_next, one, read_name, shut, starts_annotation, starts_name, starts_type,
@@ -21,9 +22,9 @@ use std::alloc::Global;
 
 // Whether a wildcard or a type begins here.
 fn starts_bare_argument(symbols: &[Symbol<'_>]) -> bool
-    ensures { result ≡ starts ((78 ∷ []) ++ (names ++ primitive_sorts)) symbols.now }
+    ensures { result ≡ starts ((QUESTION ∷ []) ++ (names ++ primitive_sorts)) symbols.now }
 {
-    is_next(symbols, 78) || starts_type(symbols)
+    is_next(symbols, QUESTION) || starts_type(symbols)
 }
 
 // Whether a type argument begins here.
@@ -43,14 +44,14 @@ fn created_arguments_in<'a, 's>(
 ) -> Result<(Vec<TypeText>, &'s [Symbol<'a>]), ReadFault>
     ensures { Gives (λ x. (x.0.items, x.1.now)) result (reads room created_arguments_form symbols.now) }
 {
-    let (_, rest) = one(symbols, 75)?;
+    let (_, rest) = one(symbols, LESS_THAN)?;
     if starts_argument(rest) {
         let (first, rest) = type_argument_of(alloc, room, rest)?;
         let front = one_item(alloc, first)?;
         let (all, rest) = more_arguments_of(alloc, room, front, rest)?;
-        return closed(all, rest, 74);
+        return closed(all, rest, GREATER_THAN);
     }
-    closed(Vec::new(alloc), rest, 74)
+    closed(Vec::new(alloc), rest, GREATER_THAN)
 }
 
 // The type arguments of a class that is created, which may be `<>`.
@@ -65,7 +66,7 @@ fn created_arguments_of<'a, 's>(
     if room > 0 {
         return created_arguments_in(alloc, room - 1, symbols);
     }
-    Err(shut(is_next(symbols, 75), symbols))
+    Err(shut(is_next(symbols, LESS_THAN), symbols))
 }
 
 // A name of a class that is created, and its type arguments.
@@ -79,7 +80,7 @@ fn created_part_of<'a, 's>(
     ensures { Gives (λ x. (tt, x.now)) result (reads room created_part symbols.now) }
 {
     let (_, rest) = read_name(room, symbols)?;
-    if is_next(rest, 75) {
+    if is_next(rest, LESS_THAN) {
         let (_, rest) = created_arguments_of(alloc, room, rest)?;
         return Ok(rest);
     }
@@ -96,7 +97,7 @@ fn next_created_part_of<'a, 's>(
 ) -> Result<&'s [Symbol<'a>], ReadFault>
     ensures { Gives (λ x. (tt, x.now)) result (reads room next_created_part symbols.now) }
 {
-    let (_, rest) = one(symbols, 69)?;
+    let (_, rest) = one(symbols, DOT)?;
     let (_, rest) = annotations_of(alloc, room, rest)?;
     created_part_of(alloc, room, rest)
 }
@@ -111,7 +112,7 @@ fn more_created_parts_of<'a, 's>(
     ensures { Gives (λ x. (tt, x.now)) result (read_as silently room (many next_created_part) symbols.now) }
 {
     let mut rest = begin(symbols)?;
-    'row: while is_next(rest, 69) {
+    'row: while is_next(rest, DOT) {
         rest = next_created_part_of(alloc, room, rest)?;
     }
     Ok(rest)
@@ -158,7 +159,7 @@ pub fn creation_of<'a, 's>(
 ) -> Result<&'s [Symbol<'a>], ReadFault>
     ensures { Gives (λ x. (tt, x.now)) result (reads room creation_form symbols.now) }
 {
-    let (_, rest) = one(symbols, 40)?;
+    let (_, rest) = one(symbols, NEW)?;
     let (_, rest) = optional_arguments_of(alloc, room, rest)?;
     let (_, rest) = annotations_of(alloc, room, rest)?;
     created_type_of(alloc, room, rest)

@@ -11,6 +11,7 @@ use crate::reached::End;
 use crate::rows::{ended_of, fallen, furthest};
 use crate::types::dims_of;
 use apt_base::List;
+use decl_grammar::sorts::{COMMA, EQUALS, SEMICOLON};
 use decl_grammar::{Declarator, NameAt, ReadFault, Symbol};
 use decl_names::{begin, is_next, one, read_name_at};
 use decl_tree::{Around, ValueText};
@@ -66,7 +67,7 @@ fn initialiser_of<'a, 's>(
     match constant_of(alloc, room, symbols) {
         Ok(read) => {
             let (value, rest) = read;
-            if is_next(rest, 67) {
+            if is_next(rest, SEMICOLON) {
                 return Ok((Some(value), End { rest, far: None }));
             }
             free_initialiser_of(alloc, room, Some(value), rest.len(), symbols)
@@ -85,8 +86,8 @@ fn optional_initialiser_of<'a, 's>(
 ) -> Result<(Option<ValueText>, End<'a, 's>), ReadFault>
     ensures { EndsWith room places.Assigned (value_or_end_read room symbols.now) symbols.now result }
 {
-    if is_next(symbols, 73) {
-        let (_, rest) = one(symbols, 73)?;
+    if is_next(symbols, EQUALS) {
+        let (_, rest) = one(symbols, EQUALS)?;
         return initialiser_of(alloc, room, rest);
     }
     Ok((
@@ -106,10 +107,10 @@ fn declared_step_of<'a, 's>(
 ) -> Result<(Option<(NameAt, List<Around>)>, &'s [Symbol<'a>]), ReadFault>
     ensures { Gives (λ x. (x.0, x.1.now)) result (declared_step room symbols.now) }
 {
-    if is_next(symbols, 67) {
-        return ended(None, symbols, 67);
+    if is_next(symbols, SEMICOLON) {
+        return ended(None, symbols, SEMICOLON);
     }
-    let (_, rest) = one(symbols, 68)?;
+    let (_, rest) = one(symbols, COMMA)?;
     let (name, rest) = read_name_at(alloc, room, rest)?;
     let (dims, rest) = dims_of(alloc, room, rest)?;
     let dims = List::from_vec(dims);

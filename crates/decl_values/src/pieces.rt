@@ -11,6 +11,9 @@ use crate::annotations::annotations_of;
 use crate::creations::creation_of;
 use crate::type_arguments::type_arguments_of;
 use crate::types::{dim_of, dims_of, parts_of};
+use decl_grammar::sorts::{
+    DOT, DOUBLE_COLON, INSTANCEOF, OPEN_BRACE, OPEN_BRACKET, OPEN_PARENTHESIS,
+};
 use decl_grammar::{ReadFault, Symbol};
 use decl_names::{annotated_start_of, one, read_name, read_over, shut};
 use decl_turns::{Piece, Place, begins_part, is_valued, pass_one};
@@ -26,7 +29,7 @@ fn test_of<'a, 's>(
 ) -> Result<&'s [Symbol<'a>], ReadFault>
     ensures { Gives (λ x. (tt, x.now)) result (reads room test_form symbols.now) }
 {
-    let (_, rest) = one(symbols, 35)?;
+    let (_, rest) = one(symbols, INSTANCEOF)?;
     let (_, rest) = annotations_of(alloc, room, rest)?;
     Ok(rest)
 }
@@ -41,7 +44,7 @@ fn test_name_of<'a, 's>(
 ) -> Result<&'s [Symbol<'a>], ReadFault>
     ensures { Gives (λ x. (tt, x.now)) result (reads room test_name_form symbols.now) }
 {
-    let (_, rest) = one(symbols, 69)?;
+    let (_, rest) = one(symbols, DOT)?;
     let (_, rest) = annotations_of(alloc, room, rest)?;
     let (_, rest) = read_name(room, rest)?;
     Ok(rest)
@@ -60,7 +63,7 @@ fn reference_end_of<'a, 's>(
     let (_, rest) = type_arguments_of(alloc, room, symbols)?;
     let (_, rest) = parts_of(alloc, room, rest)?;
     let (_, rest) = dims_of(alloc, room, rest)?;
-    let (_, rest) = one(rest, 72)?;
+    let (_, rest) = one(rest, DOUBLE_COLON)?;
     Ok(rest)
 }
 
@@ -76,9 +79,9 @@ fn part_in<'a, 's>(
 {
     match piece {
         Piece::One => pass_one(symbols),
-        Piece::Round => read_over(alloc, 61, symbols),
-        Piece::Brace => read_over(alloc, 63, symbols),
-        Piece::Square => read_over(alloc, 65, symbols),
+        Piece::Round => read_over(alloc, OPEN_PARENTHESIS, symbols),
+        Piece::Brace => read_over(alloc, OPEN_BRACE, symbols),
+        Piece::Square => read_over(alloc, OPEN_BRACKET, symbols),
         Piece::Arguments => {
             let (_, rest) = type_arguments_of(alloc, room, symbols)?;
             Ok(rest)

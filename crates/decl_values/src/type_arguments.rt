@@ -12,6 +12,7 @@ use crate::annotations::annotations_of;
 use crate::around::{closed, one_item, put_first};
 use crate::types::{annotated_reference_of, reference_of};
 use apt_base::List;
+use decl_grammar::sorts::{COMMA, EXTENDS, GREATER_THAN, LESS_THAN, QUESTION, SUPER};
 use decl_grammar::{ReadFault, Symbol};
 use decl_names::{begin, is_next, one, shut};
 use decl_tree::{Around, BaseType, TypeText};
@@ -50,19 +51,19 @@ fn wildcard_bound_of<'a, 's>(
 ) -> Result<(TypeText, &'s [Symbol<'a>]), ReadFault>
     ensures { Gives (λ x. (x.0, x.1.now)) result (reads room wildcard_bound symbols.now) }
 {
-    if is_next(symbols, 26) {
-        let (_, rest) = one(symbols, 26)?;
+    if is_next(symbols, EXTENDS) {
+        let (_, rest) = one(symbols, EXTENDS)?;
         return bounded_of(alloc, room, Around::Extends, rest);
     }
-    let (_, rest) = one(symbols, 49)?;
+    let (_, rest) = one(symbols, SUPER)?;
     bounded_of(alloc, room, Around::Super, rest)
 }
 
 // Whether the bound of a wildcard begins here.
 fn starts_bound(symbols: &[Symbol<'_>]) -> bool
-    ensures { result ≡ starts (26 ∷ 49 ∷ []) symbols.now }
+    ensures { result ≡ starts (EXTENDS ∷ SUPER ∷ []) symbols.now }
 {
-    is_next(symbols, 26) || is_next(symbols, 49)
+    is_next(symbols, EXTENDS) || is_next(symbols, SUPER)
 }
 
 // A wildcard (JLS 4.5.1).
@@ -75,7 +76,7 @@ fn wildcard_of<'a, 's>(
 ) -> Result<(TypeText, &'s [Symbol<'a>]), ReadFault>
     ensures { Gives (λ x. (x.0, x.1.now)) result (reads room wildcard symbols.now) }
 {
-    let (_, rest) = one(symbols, 78)?;
+    let (_, rest) = one(symbols, QUESTION)?;
     if starts_bound(rest) {
         return wildcard_bound_of(alloc, room, rest);
     }
@@ -95,7 +96,7 @@ pub fn type_argument_of<'a, 's>(
     ensures { Gives (λ x. (x.0, x.1.now)) result (reads room type_argument symbols.now) }
 {
     let (_, rest) = annotations_of(alloc, room, symbols)?;
-    if is_next(rest, 78) {
+    if is_next(rest, QUESTION) {
         return wildcard_of(alloc, room, rest);
     }
     reference_of(alloc, room, rest)
@@ -111,7 +112,7 @@ fn next_argument_of<'a, 's>(
 ) -> Result<(TypeText, &'s [Symbol<'a>]), ReadFault>
     ensures { Gives (λ x. (x.0, x.1.now)) result (reads room next_argument symbols.now) }
 {
-    let (_, rest) = one(symbols, 68)?;
+    let (_, rest) = one(symbols, COMMA)?;
     type_argument_of(alloc, room, rest)
 }
 
@@ -127,7 +128,7 @@ pub fn more_arguments_of<'a, 's>(
 {
     let mut all = front;
     let mut rest = begin(symbols)?;
-    'row: while is_next(rest, 68) {
+    'row: while is_next(rest, COMMA) {
         let (next, after) = next_argument_of(alloc, room, rest)?;
         all.push(next)?;
         rest = after;
@@ -145,11 +146,11 @@ fn arguments_in<'a, 's>(
 ) -> Result<(Vec<TypeText>, &'s [Symbol<'a>]), ReadFault>
     ensures { Gives (λ x. (x.0.items, x.1.now)) result (reads room arguments_form symbols.now) }
 {
-    let (_, rest) = one(symbols, 75)?;
+    let (_, rest) = one(symbols, LESS_THAN)?;
     let (first, rest) = type_argument_of(alloc, room, rest)?;
     let front = one_item(alloc, first)?;
     let (all, rest) = more_arguments_of(alloc, room, front, rest)?;
-    closed(all, rest, 74)
+    closed(all, rest, GREATER_THAN)
 }
 
 /// A list of type arguments (JLS 4.5.1).
@@ -164,7 +165,7 @@ pub fn type_arguments_of<'a, 's>(
     if room > 0 {
         return arguments_in(alloc, room - 1, symbols);
     }
-    Err(shut(is_next(symbols, 75), symbols))
+    Err(shut(is_next(symbols, LESS_THAN), symbols))
 }
 
 /// The type arguments that stand here, where there are any.
@@ -176,7 +177,7 @@ pub fn optional_arguments_of<'a, 's>(
 ) -> Result<(Option<List<TypeText>>, &'s [Symbol<'a>]), ReadFault>
     ensures { Gives (λ x. (x.0, x.1.now)) result (reads room (maybe (nest type_arguments)) symbols.now) }
 {
-    if is_next(symbols, 75) {
+    if is_next(symbols, LESS_THAN) {
         let (arguments, rest) = type_arguments_of(alloc, room, symbols)?;
         return Ok((Some(List::from_vec(arguments)), rest));
     }

@@ -11,6 +11,7 @@ use crate::around::one_item;
 use crate::type_arguments::optional_arguments_of;
 use apt_base::{List, Name};
 use decl_constants::primitive_type_of;
+use decl_grammar::sorts::{AT, CLOSE_BRACKET, DOT, OPEN_BRACKET};
 use decl_grammar::{ReadFault, Symbol};
 use decl_names::{
     begin, is_next, one, read_name, starts_annotation, starts_name, starts_primitive,
@@ -27,7 +28,7 @@ pub fn modifier_annotation_of<'a, 's>(
 ) -> Result<(AnnotationText, &'s [Symbol<'a>]), ReadFault>
     ensures { Gives (λ x. (x.0, x.1.now)) result (reads room modifier_annotation symbols.now) }
 {
-    let (_, rest) = one(symbols, 71)?;
+    let (_, rest) = one(symbols, AT)?;
     annotation_body_of(alloc, room, rest)
 }
 
@@ -57,7 +58,7 @@ fn next_part_of<'a, 's>(
 ) -> Result<(NamedPart, &'s [Symbol<'a>]), ReadFault>
     ensures { Gives (λ x. (x.0, x.1.now)) result (reads room next_part symbols.now) }
 {
-    let (_, rest) = one(symbols, 69)?;
+    let (_, rest) = one(symbols, DOT)?;
     let (_, rest) = annotations_of(alloc, room, rest)?;
     named_part_of(alloc, room, rest)
 }
@@ -74,7 +75,7 @@ pub fn more_parts_of<'a, 's>(
 {
     let mut all = front;
     let mut rest = begin(symbols)?;
-    'row: while is_next(rest, 69) {
+    'row: while is_next(rest, DOT) {
         let (next, after) = next_part_of(alloc, room, rest)?;
         all.push(next)?;
         rest = after;
@@ -122,16 +123,16 @@ pub fn dim_of<'a, 's>(
     ensures { Gives (λ x. (x.0, x.1.now)) result (reads room dim symbols.now) }
 {
     let (_, rest) = annotations_of(alloc, room, symbols)?;
-    let (_, rest) = one(rest, 65)?;
-    let (_, rest) = one(rest, 66)?;
+    let (_, rest) = one(rest, OPEN_BRACKET)?;
+    let (_, rest) = one(rest, CLOSE_BRACKET)?;
     Ok((Around::Array, rest))
 }
 
 /// Whether a pair of brackets begins here, or an annotation before one.
 pub fn starts_dim(symbols: &[Symbol<'_>]) -> bool
-    ensures { result ≡ starts (ats ++ (65 ∷ [])) symbols.now }
+    ensures { result ≡ starts (ats ++ (OPEN_BRACKET ∷ [])) symbols.now }
 {
-    starts_annotation(symbols) || is_next(symbols, 65)
+    starts_annotation(symbols) || is_next(symbols, OPEN_BRACKET)
 }
 
 /// The pairs of brackets that stand here, put behind others.

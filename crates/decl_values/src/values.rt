@@ -15,6 +15,7 @@ use crate::reached::End;
 use crate::rows::{ended_of, fallen, furthest};
 use apt_base::List;
 use decl_constants::{joined_text, meaning_of};
+use decl_grammar::sorts::{CLOSE_BRACE, CLOSE_PARENTHESIS, COMMA, OPEN_BRACE, SEMICOLON};
 use decl_grammar::{ReadFault, Symbol};
 use decl_names::{begin, is_next, one, shut, starts_annotation};
 use decl_tree::{AnnotationText, ValueText};
@@ -35,7 +36,7 @@ fn array_value_of<'a, 's>(
     if room > 0 {
         return array_in(alloc, room - 1, symbols);
     }
-    Err(shut(is_next(symbols, 63), symbols))
+    Err(shut(is_next(symbols, OPEN_BRACE), symbols))
 }
 
 // An annotation as a value.
@@ -79,7 +80,7 @@ pub fn value_of<'a, 's>(
     requires { is_value (stands_of place) ≡ true }
     ensures { EndsWith room place (value_read room place symbols.now) symbols.now result }
 {
-    if is_next(symbols, 63) {
+    if is_next(symbols, OPEN_BRACE) {
         let (value, rest) = array_value_of(alloc, room, symbols)?;
         return Ok((value, End { rest, far: None }));
     }
@@ -99,7 +100,7 @@ pub fn default_of<'a, 's>(
     ensures { Gives (λ x. ((x.0, tt), x.1.now)) result (default_read room symbols.now) }
 {
     let (value, end) = value_of(alloc, room, Place::Defaulted, symbols)?;
-    match one(end.rest, 67) {
+    match one(end.rest, SEMICOLON) {
         Ok(read) => {
             let (_, rest) = read;
             Ok((value, rest))
@@ -118,7 +119,7 @@ pub fn lone_value_of<'a, 's>(
     ensures { Gives (λ x. ((x.0, tt), x.1.now)) result (value_read room places.Alone symbols.now) }
 {
     let (value, end) = value_of(alloc, room, Place::Alone, symbols)?;
-    match one(end.rest, 62) {
+    match one(end.rest, CLOSE_PARENTHESIS) {
         Ok(read) => {
             let (_, rest) = read;
             Ok((value, rest))
@@ -135,12 +136,12 @@ pub fn listed_step_of<'a, 's>(
 ) -> Result<(bool, &'s [Symbol<'a>]), ReadFault>
     ensures { Gives (λ x. (x.0, x.1.now)) result (listed_step symbols.now) }
 {
-    if is_next(symbols, 64) {
-        return ended(false, symbols, 64);
+    if is_next(symbols, CLOSE_BRACE) {
+        return ended(false, symbols, CLOSE_BRACE);
     }
-    let (_, rest) = one(symbols, 68)?;
-    if is_next(rest, 64) {
-        return ended(false, rest, 64);
+    let (_, rest) = one(symbols, COMMA)?;
+    if is_next(rest, CLOSE_BRACE) {
+        return ended(false, rest, CLOSE_BRACE);
     }
     Ok((true, rest))
 }
@@ -251,12 +252,12 @@ fn array_rest_of<'a, 's>(
 ) -> Result<(Vec<ValueText>, &'s [Symbol<'a>]), ReadFault>
     ensures { Gives (λ x. (x.0.items, x.1.now)) result (reads room array_rest symbols.now) }
 {
-    if is_next(symbols, 64) {
-        return closed(Vec::new(alloc), symbols, 64);
+    if is_next(symbols, CLOSE_BRACE) {
+        return closed(Vec::new(alloc), symbols, CLOSE_BRACE);
     }
-    if is_next(symbols, 68) {
-        let (_, rest) = one(symbols, 68)?;
-        return closed(Vec::new(alloc), rest, 64);
+    if is_next(symbols, COMMA) {
+        let (_, rest) = one(symbols, COMMA)?;
+        return closed(Vec::new(alloc), rest, CLOSE_BRACE);
     }
     values_of(alloc, room, symbols)
 }
@@ -271,7 +272,7 @@ fn array_in<'a, 's>(
 ) -> Result<(ValueText, &'s [Symbol<'a>]), ReadFault>
     ensures { Gives (λ x. (x.0, x.1.now)) result (reads room array_form symbols.now) }
 {
-    let (_, rest) = one(symbols, 63)?;
+    let (_, rest) = one(symbols, OPEN_BRACE)?;
     let (values, rest) = array_rest_of(alloc, room, rest)?;
     let value = array_meaning(alloc, values, symbols, rest.len())?;
     Ok((value, rest))

@@ -3,6 +3,7 @@ use Rattle.std.proofs.Common.{◌≡◌, true, false, List, refl}
 use Rattle.decl_tree.specs.declared.declaration.TypeKind.{TypeKind}
 use Rattle.decl_tree.specs.declared.declaration.TypeKind.TheVariants as kind
 use Rattle.decl_grammar.specs.Symbols.{numbers}
+use Rattle.decl_grammar.specs.TokenNames as token
 use Rattle.decl_grammar.specs.Form.{Form, many, nullable}
 use Rattle.decl_grammar.specs.Types.{name, named_text, dot_name, name_chain, first_pair, next_pair, pairs_or_value, annotation_arguments, annotation_body, annotation, modifier_annotation, annotations, primitive_type, named_part, next_part, class_type, dim, base_type, class_array, primitive_array, reference, annotated_reference, wildcard_bound, wildcard, type_argument, next_argument, arguments_form, annotated_class, next_bound, bounds, type_param, next_type_param, type_params, optional_params, next_class, classes, modifier, plain_modifier, optional_modifiers, type_modifiers, before, sign, type_form}
 use Rattle.decl_grammar.specs.Expressions.{created_part, next_created_part, created_type, creation_form, created_arguments_form, test_form, test_name_form, reference_form, annotation_over, annotated_form, part_symbols, step, plain_dots, plain_squares, told_steps, two_readings, other_steps, signs_form, value_squares, listed_values, listed_end, array_form, value_of, value_form, paired_end, listed_more, value_or_end, assigned_end, plain_constant, plus_constant, bare_dim, dot_class, array_class, chain_form, literal_constant, named_constant, negated_constant, primitive_class, void_class, plain_form, constant_end, constant_items_form, constant_array, constant_form, kept, constant_alone, initialiser_form}
@@ -16,7 +17,7 @@ use Rattle.file_answers.proofs.Headings.{method_heading, constructor_heading}
 
 -- items, each with a comma behind it
 abbrev pub listed : {A : Type 0} → Form A → Form (List A)
-listed item = many (before item (sign 7))
+listed item = many (before item (sign token.comma))
 
 -- of a form the next symbol tells how to go on, and it has no two readings of the same symbols
 pub record Plain {A : Type 0} (f : Form A) : Type 0 where

@@ -9,6 +9,7 @@ use Rattle.decl_grammar.specs.declared.written.Modifiers.{Modifiers}
 use Rattle.decl_grammar.specs.declared.written.ParamAt.{ParamAt}
 use Rattle.decl_grammar.specs.declared.written.TypeRest.{TypeRest}
 use Rattle.decl_grammar.specs.Symbols.{operator}
+use Rattle.decl_grammar.specs.TokenNames as token
 use Rattle.decl_grammar.specs.Form.{Form}
 use Rattle.decl_grammar.specs.Rule.{WholeAt}
 use Rattle.decl_grammar.specs.Types.{type_param, type_modifiers}
@@ -77,13 +78,13 @@ module _ (k : ℕ) where
   AllBut x = (x.1 ≡ false) × (most ≤ k + length x.0)
 
   abbrev ParamBegins : List Symbol → Symbol → Symbol → Type 0
-  ParamBegins front comma next = (comma.sort ≡ operator 7) × (OpensWith params_from next × ((x : Written) × IsPhrase first_params front x × AllBut x))
+  ParamBegins front comma next = (comma.sort ≡ operator token.comma) × (OpensWith params_from next × ((x : Written) × IsPhrase first_params front x × AllBut x))
 
   abbrev ParamBehind : List Symbol → List Symbol → Type 0
   ParamBehind front vs = (comma : Symbol) × (next : Symbol) × (vs ≡ comma ∷ next ∷ []) × ParamBegins front comma next
 
   abbrev ParamWithin : Symbol → List Symbol → Type 0
-  ParamWithin opening us = (opening.sort ≡ operator 0) × CutWith us ParamBehind
+  ParamWithin opening us = (opening.sort ≡ operator token.open_parenthesis) × CutWith us ParamBehind
 
   to-further : (ts : List Symbol) → HeadWith ParamWithin ts → IsFull FurtherParam k ts
   to-further ts s =
@@ -118,15 +119,15 @@ module _ (k : ℕ) where
   further-decided : (ts : List Symbol) → Decided (IsFull FurtherParam k ts)
   further-decided ts =
       same-decided (to-further ts) (from-further ts)
-      (head-decided ParamWithin (λ opening us. both-decided (equal-decided opening.sort (operator 0))
+      (head-decided ParamWithin (λ opening us. both-decided (equal-decided opening.sort (operator token.open_parenthesis))
       (cut-decided us ParamBehind (λ front vs e. two-decided (ParamBegins front)
-      (λ comma next. both-decided (equal-decided comma.sort (operator 7))
+      (λ comma next. both-decided (equal-decided comma.sort (operator token.comma))
       (both-decided (opens-decided params_from (plain-sound params_from plain-forms.params_from-plain) next)
       (meaning-decided first_params (plain-sound first_params plain-forms.first_params-plain) AllBut front (λ x is. both-decided (false-decided x.1) (most-decided most (k + length x.0)))))) vs))) ts)
 
 -- the first parameter, directly behind the bracket
 abbrev FirstThere : ℕ → Symbol → Symbol → Type 0
-FirstThere k opening next = (opening.sort ≡ operator 0) × (OpensWith first_params next × (most ≤ k + 0))
+FirstThere k opening next = (opening.sort ≡ operator token.open_parenthesis) × (OpensWith first_params next × (most ≤ k + 0))
 
 abbrev FirstFull : ℕ → List Symbol → Type 0
 FirstFull k ts = (opening : Symbol) × (next : Symbol) × (ts ≡ opening ∷ next ∷ []) × FirstThere k opening next
@@ -143,7 +144,7 @@ param-decided : (k : ℕ) (ts : List Symbol) → Decided (IsFull NextParam k ts)
 param-decided k ts =
     same-decided (to-param k ts) (λ full. from-param k ts full.0 full.1 full.2)
     (or-decided (two-decided (FirstThere k)
-    (λ opening next. both-decided (equal-decided opening.sort (operator 0))
+    (λ opening next. both-decided (equal-decided opening.sort (operator token.open_parenthesis))
     (both-decided (opens-decided first_params (plain-sound first_params plain-forms.first_params-plain) next) (most-decided most (k + 0)))) ts)
     (further-decided k ts))
 
@@ -217,8 +218,8 @@ module _ (inside : List Symbol → Type 0) (k : TypeKind) (n : ℕ) (ts : List S
   begins-decided : Decided ((t : Symbol) × (ts ≡ t ∷ []) × OpensWith (modified_form k) t × (most ≤ n))
   begins-decided = same-decided to-begins from-begins (one-decided OneMore (λ t. both-decided (opens-decided (modified_form k) (plain-sound (modified_form k) (plain-of k).modified_form-plain) t) (most-decided most n)) ts)
 
-  fields-decided : Decided ((ms : List MemberAt) × IsPhrase (member_form k) (ts ++ blank (operator 6) ∷ []) ms × (most < n + length ms))
-  fields-decided = meaning-decided (member_form k) (plain-sound (member_form k) (plain-of k).member_form-plain) (λ ms. most < n + length ms) (ts ++ blank (operator 6) ∷ []) (λ ms is. less-decided most (n + length ms))
+  fields-decided : Decided ((ms : List MemberAt) × IsPhrase (member_form k) (ts ++ blank (operator token.semicolon) ∷ []) ms × (most < n + length ms))
+  fields-decided = meaning-decided (member_form k) (plain-sound (member_form k) (plain-of k).member_form-plain) (λ ms. most < n + length ms) (ts ++ blank (operator token.semicolon) ∷ []) (λ ms is. less-decided most (n + length ms))
 
   abbrev HasMany : MemberAt → Type 0
   HasMany m = most < member_children m

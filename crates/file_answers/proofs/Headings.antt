@@ -6,10 +6,11 @@ use Rattle.decl_grammar.specs.Types.{keyword, before, name, annotations, silentl
 use Rattle.decl_grammar.specs.Rule.{WholeAt}
 use Rattle.decl_grammar.specs.File.{IsPhrase}
 use Rattle.decl_limits.specs.Children.{executable_heading}
+use Rattle.decl_grammar.specs.TokenNames as token
 
 -- what a method returns
 abbrev pub returned : Form (Unit {0})
-returned = either (turn silently (keyword 47)) (turn silently type_form)
+returned = either (turn silently (keyword token.void)) (turn silently type_form)
 
 unfoldable pub method_heading : Form ℕ
 method_heading = turn length (before optional_params (pair annotations (pair returned name)))
