@@ -493,9 +493,10 @@ def graph():
 
 
 def changed_since(revision):
-    """The files that differ from a revision."""
-    words = ["git", "diff", "--name-only", revision, "--", "crates", "tools/further_edits"]
-    return subprocess.run(words, cwd=TOP, capture_output=True, text=True, check=True).stdout.split()
+    """The files that differ from a revision, new ones among them."""
+    asked = (["diff", "--name-only", revision], ["ls-files", "--others", "--exclude-standard"])
+    calls = [["git", *words, "--", "crates", "tools/further_edits"] for words in asked]
+    return [path for words in calls for path in subprocess.run(words, cwd=TOP, capture_output=True, text=True, check=True).stdout.split()]
 
 
 def named_by(crate):
