@@ -1,5 +1,6 @@
 pub mod Counted
 pub mod Dotted
 pub mod FieldsLemmas
+pub mod NameSets
 pub mod Readers
 pub mod Written

@@ -1,5 +1,6 @@
 // The reference of an element.
-ghost use Rattle.std.specs.Prelude.{◌≡◌, IfOk};
+ghost use Rattle.std.specs.Prelude.{◌≡◌, ◌↔◌, IsTrue, IfOk};
+ghost use Rattle.apt_base.specs.Elements.{same_element};
 
 use crate::{List, Name, NoMemory};
 use std::alloc::Global;
@@ -20,5 +21,13 @@ impl ElementRef {
             unit: self.unit.copy()?,
             path: List::from_vec(Vec::from_slice(alloc, self.path.as_slice())?),
         })
+    }
+
+    /// Whether both refer to one element: the same unit and the same path. It takes no memory.
+    pub fn is_equal(&self, other: &ElementRef) -> bool
+        ensures same { IsTrue result ↔ self.now ≡ other.now }
+        ensures tests { result ≡ same_element self.now other.now }
+    {
+        self.unit.as_str() == other.unit.as_str() && self.path.as_slice() == other.path.as_slice()
     }
 }

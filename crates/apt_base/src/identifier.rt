@@ -114,8 +114,8 @@ pub fn is_identifier(text: &str) -> bool
     is_word(text) && !is_reserved(text.as_bytes())
 }
 
-// What stands before the first dot and behind it.
-fn split_dot(text: &str) -> Option<(&str, &str)>
+/// What stands before the first dot and behind it, or `None` where there is no dot. It takes no memory.
+pub fn split_dot(text: &str) -> Option<(&str, &str)>
     ensures { MatchOption result (HasNoDot text.now) (λ x. IsSplit text.now x.0.now x.1.now) }
 {
     text.split_once('.')

@@ -18,9 +18,9 @@ use Rattle.decl_tree.specs.declared.compilation.UnitText.{UnitText}
 use Rattle.element_table.specs.TypeTable.{Units}
 use Rattle.element_table.specs.TableElements.{is_type, declares_in, part_has_types}
 use Rattle.element_table.specs.PackageTypes.{declares, types_declared, IsIndexOf}
-use Rattle.name_index.specs.Names.{NameSet, with_names, names_in}
+use Rattle.apt_base.specs.Names.{NameSet, with_names, names_in}
 use Rattle.name_index.specs.Index.{Index, or_empty, names_at, with_name_at, without_name_at}
-use Rattle.name_index.proofs.NameSets.{same_name, contains-empty, with_names-same}
+use Rattle.apt_base.proofs.NameSets.{same_name, contains-empty, with_names-same}
 use Rattle.name_index.proofs.IndexLaws.{has-with, has-without}
 
 abbrev same : List ℕ → List ℕ → Bool

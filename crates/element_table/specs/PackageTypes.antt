@@ -5,7 +5,7 @@ use Rattle.std.specs.FinMap as fin
 use Rattle.decl_tree.specs.declared.compilation.UnitText.{UnitText}
 use Rattle.element_table.specs.TypeTable.{Units, TypeTable}
 use Rattle.element_table.specs.TableElements.{declares_in}
-use Rattle.name_index.specs.Names.{with_names, names_in}
+use Rattle.apt_base.specs.Names.{with_names, names_in}
 use Rattle.name_index.specs.Index.{Index, names_at}
 
 -- whether a unit, if it is there, declares a type of this package

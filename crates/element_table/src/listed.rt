@@ -3,14 +3,14 @@ ghost use Rattle.std.specs.Prelude.{◌≡◌, false, true, is_some, IfOk, IfErr
 ghost use Rattle.std.specs.Option.{option_copied};
 ghost use Rattle.std.specs.FinMap as fin;
 ghost use Rattle.element_table.specs.TableElements.{is_type, part_has_types};
-ghost use Rattle.name_index.specs.Names.{with_names};
+ghost use Rattle.apt_base.specs.Names.{with_names};
 ghost use Rattle.element_table.specs.PackageTypes.{types_declared};
 
 use crate::packages::is_type;
 use crate::units::Units;
-use apt_base::{List, Name, NoMemory};
+use apt_base::{List, Name, Names, NoMemory};
 use decl_tree::Unit;
-use name_index::{NameIndex, Names};
+use name_index::NameIndex;
 use std::alloc::Global;
 use std::marker::Model;
 

@@ -13,9 +13,8 @@ use crate::counting::with_unit;
 use crate::listed::ListedUnits;
 use crate::naming::name_of;
 use crate::{EnterFault, Part};
-use apt_base::{List, Name, NoMemory};
+use apt_base::{List, Name, Names, NoMemory};
 use decl_tree::Unit;
-use name_index::Names;
 use std::alloc::Global;
 use std::marker::Model;
 

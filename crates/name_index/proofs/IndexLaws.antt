@@ -12,10 +12,10 @@ use Rattle.std.specs.FinMap as fin
 use Rattle.std.specs.FinMap.{get-insert, same_map}
 use Rattle.std.specs.declared.alloc.Global.{Global}
 use Rattle.std.proofs.lemmas.Map.Text.{is_eq-slice_cmp}
-use Rattle.name_index.specs.Names.{NameSet, with_name}
+use Rattle.apt_base.specs.Names.{NameSet, with_name}
 use Rattle.name_index.specs.Index.{Index, or_empty, names_at, with_name_at, without_name_at, index_of}
-use Rattle.name_index.proofs.TextMaps.{exact_names, get-shown, shown-insert}
-use Rattle.name_index.proofs.NameSets.{same_name, contains-with_name, contains-remove}
+use Rattle.name_index.proofs.TextMaps.{get-shown, shown-insert}
+use Rattle.apt_base.proofs.NameSets.{exact_names, same_name, contains-with_name, contains-remove}
 
 abbrev same : List ℕ → List ℕ → Bool
 same = eq_by_cmp (slice_cmp nat_cmp)

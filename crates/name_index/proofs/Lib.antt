@@ -1,3 +1,2 @@
 pub mod IndexLaws
-pub mod NameSets
 pub mod TextMaps

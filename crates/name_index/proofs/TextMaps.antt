@@ -3,7 +3,7 @@ use Rattle.std.proofs.Common.{◌≡◌, ℕ, Bool, true, false, cond, T, List, 
 use Rattle.std.specs.BTreeMap as tree
 use Rattle.std.specs.BTreeMap.{BTreeMap, is_at, get_by_text, UpdatesBy}
 use Rattle.std.specs.Map.{lookup, keys_of, values_of, update_all}
-use Rattle.std.specs.Map.Iter.{deref, deref_pair}
+use Rattle.std.specs.Map.Iter.{deref_pair}
 use Rattle.std.specs.String.{string_cmp}
 use Rattle.std.specs.Ordering.{nat_cmp, is_eq, is_lt, eq_by_cmp}
 use Rattle.std.specs.Cmp.{eq_by_cmp_equiv}
@@ -11,7 +11,7 @@ use Rattle.std.specs.Cmp.Lexicographic.{slice_cmp, nat_list_cmp_total, nat_list_
 use Rattle.std.specs.List.{AllByRecursion}
 use Rattle.std.specs.List.Sorted.{IsStrictlySortedBy}
 use Rattle.std.specs.FinMap as fin
-use Rattle.std.specs.FinMap.{FinMap, find, from_entries, is_sorted, get-from_entries, get-insert, same_map, nat_cmp-IsAntisymmetric, slice_cmp-IsAntisymmetric}
+use Rattle.std.specs.FinMap.{FinMap, find, from_entries, is_sorted, get-from_entries, get-insert, same_map}
 use Rattle.std.specs.FinMap.Entries.{same_entries, below_all}
 use Rattle.std.specs.declared.alloc.Global.{Global}
 use Rattle.std.specs.declared.cmp.Ordering.TheVariants.{Less}
@@ -20,11 +20,8 @@ use Rattle.std.proofs.lemmas.Map.Keys.{IsDistinct-from_sorted}
 use Rattle.std.proofs.lemmas.Map.{update_all_push}
 use Rattle.std.proofs.lemmas.Map.Made.{update_all_none}
 use denote.Ref.{Bor}
+use Rattle.apt_base.proofs.NameSets.{exact_names}
 use Rattle.name_index.specs.ShownMaps.{shown_entry}
-
--- names that compare alike are one
-pub exact_names : fin.IsAntisymmetric (slice_cmp nat_cmp)
-exact_names = slice_cmp-IsAntisymmetric nat_cmp-IsAntisymmetric
 
 both : (a b : Bool) → T a → T b → T (a && b)
 both true b p q = q
@@ -113,11 +110,6 @@ module _ {X : Type 0} where
   -- the values in the order of the names
   pub values-shown : (m : BTreeMap (String Global) X) → tree.IsOrdered string_cmp m → fin.values (shown m) ≡ tree.values m
   values-shown m s = ap (map (λ e. e.1)) (entries-shown m s) ∙ values_shown m.entries
-
--- the bytes of borrowed keys
-pub bytes_of_borrowed : (ks : List (Bor (String Global))) → map (λ k. string_bytes k.now) ks ≡ map string_bytes (map deref ks)
-bytes_of_borrowed [] = refl
-bytes_of_borrowed (k ∷ ks) = ap (λ ns. string_bytes k.now ∷ ns) (bytes_of_borrowed ks)
 
 -- borrowed entries as they are shown
 abbrev pub shown_borrowed : {X : Type 0} → Bor (String Global) × Bor X → List ℕ × X

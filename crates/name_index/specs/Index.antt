@@ -7,7 +7,7 @@ use Rattle.std.specs.Cmp.Lexicographic.{slice_cmp}
 use Rattle.std.specs.FinMap as fin
 use Rattle.std.specs.FinMap.{FinMap}
 use Rattle.std.specs.declared.alloc.Global.{Global}
-use Rattle.name_index.specs.Names.{NameSet, with_name, names_code}
+use Rattle.apt_base.specs.Names.{NameSet, with_name, names_code}
 use Rattle.name_index.specs.ShownMaps.{shown_map}
 
 abbrev pub Index : Type 0

@@ -4,8 +4,7 @@ ghost use Rattle.std.specs.Option.{option_copied};
 ghost use Rattle.std.specs.FinMap as fin;
 ghost use Rattle.name_index.specs.Index.{names_at, with_name_at, without_name_at};
 
-use crate::names::Names;
-use apt_base::NoMemory;
+use apt_base::{Names, NoMemory};
 use std::alloc::Global;
 use std::collections::BTreeMap;
 use std::marker::Model;

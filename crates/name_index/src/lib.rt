@@ -1,6 +1,6 @@
-//! Sets of names, and an index of such sets by a name.
+//! An index of sets of names by a name.
 //!
-//! `specs/Names` has sets of names, and `specs/Index` an index of them. Contracts see both as finite maps in the order of the bytes of names. `proofs/TextMaps` ties maps in memory whose keys are texts to such maps, for other crates too.
+//! `specs/Index` has it, over the sets of names of `apt_base`. Contracts see it as a finite map in the order of the bytes of names. `proofs/TextMaps` ties maps in memory whose keys are texts to such maps, for other crates too.
 //!
 //! Looking a name up, adding one and taking one away take logarithmic time.
 //!
@@ -8,7 +8,5 @@
 #![tactic(auto)]
 
 mod index;
-mod names;
 
 pub use index::NameIndex;
-pub use names::Names;

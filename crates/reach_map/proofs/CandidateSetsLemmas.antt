@@ -5,7 +5,7 @@ use Rattle.std.specs.FinMap as fin
 use Rattle.std.proofs.Math.Seq.{drop-cons}
 use Rattle.std.proofs.lemmas.List.{flat_map_more, take_more}
 use Rattle.decl_tree.specs.declared.compilation.UnitText.{UnitText}
-use Rattle.name_index.specs.Names.{NameSet, with_name, with_names}
+use Rattle.apt_base.specs.Names.{NameSet, with_name, with_names}
 use Rattle.reach_map.specs.Chains.{Chains, body_chains, unit_chains}
 use Rattle.reach_map.specs.Candidates.{prefix_names, first_candidates, chain_candidates, implied_names, own_names, prefixes_of_all, import_prefixes, candidates}
 use Rattle.reach_map.specs.CandidateSets.{with_chains, candidate_set}

@@ -12,8 +12,8 @@ use Rattle.std.specs.FinMap.Entries.{below_all}
 use Rattle.std.specs.Str.{bytes_eq}
 use Rattle.std.proofs.lemmas.Map.Text.{is_eq-slice_cmp}
 use Rattle.std.proofs.lemmas.Slice.Eq.{bytes_eq-Decides}
-use Rattle.name_index.specs.Names.{NameSet, with_name, with_names}
-use Rattle.name_index.proofs.NameSets.{contains-with_name, contains-with_names}
+use Rattle.apt_base.specs.Names.{NameSet, with_name, with_names}
+use Rattle.apt_base.proofs.NameSets.{contains-with_name, contains-with_names}
 use Rattle.reach_map.specs.ClosedCuts.{among, HoldsAll}
 use Rattle.reach_map.specs.Reaching.{holds}
 

@@ -3,8 +3,8 @@ use Rattle.std.proofs.Common.{◌≡◌, ℕ, suc, ◌+◌, ◌≤◌, ◌<◌, 
 use Rattle.std.specs.Str.{bytes_eq}
 use Rattle.std.specs.FinMap as fin
 use Rattle.decl_tree.specs.declared.compilation.UnitText.{UnitText}
-use Rattle.name_index.specs.Names.{NameSet, with_name, with_names, names_in}
-use Rattle.name_index.proofs.NameSets.{same_names, contains-with_name, contains-empty}
+use Rattle.apt_base.specs.Names.{NameSet, with_name, with_names, names_in}
+use Rattle.apt_base.proofs.NameSets.{same_names, contains-with_name, contains-empty}
 use Rattle.element_table.specs.TypeTable.{TypeTable}
 use Rattle.reach_map.specs.Candidates.{candidates}
 use Rattle.reach_map.specs.CandidateSets.{candidate_set, candidate_list}

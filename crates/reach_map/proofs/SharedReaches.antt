@@ -4,7 +4,7 @@ use Rattle.std.specs.Cmp.Lexicographic.{nat_list_cmp_total}
 use Rattle.std.specs.FinMap as fin
 use Rattle.std.specs.Str.{bytes_eq}
 use Rattle.element_table.specs.TypeTable.{TypeTable}
-use Rattle.name_index.proofs.TextMaps.{exact_names}
+use Rattle.apt_base.proofs.NameSets.{exact_names}
 use Rattle.reach_map.specs.Agree.{HaveSameSources, IsWithin, ShareReach, ShareReaches}
 use Rattle.reach_map.specs.Candidates.{candidates}
 use Rattle.reach_map.specs.ClosedCuts.{NameSet, among, cut, IsClosedSet}

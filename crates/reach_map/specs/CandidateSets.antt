@@ -3,7 +3,7 @@ use Rattle.std.specs.Prelude.{ℕ, List}
 use Rattle.std.specs.List.{flat_map}
 use Rattle.std.specs.FinMap as fin
 use Rattle.decl_tree.specs.declared.compilation.UnitText.{UnitText}
-use Rattle.name_index.specs.Names.{NameSet, with_names, names_in}
+use Rattle.apt_base.specs.Names.{NameSet, with_names, names_in}
 use Rattle.reach_map.specs.Chains.{Chains}
 use Rattle.reach_map.specs.Candidates.{chain_candidates, candidates}
 

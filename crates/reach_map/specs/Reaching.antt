@@ -2,7 +2,7 @@
 use Rattle.std.specs.Prelude.{ℕ, suc, ◌+◌, Bool, not, ◌&&◌, T, ◌≡◌, false, List, [], ◌∷◌, ◌++◌, length, Option, None, Some, if◌then◌else◌}
 use Rattle.std.specs.FinMap as fin
 use Rattle.decl_tree.specs.declared.compilation.UnitText.{UnitText}
-use Rattle.name_index.specs.Names.{NameSet, with_name, with_names}
+use Rattle.apt_base.specs.Names.{NameSet, with_name, with_names}
 use Rattle.element_table.specs.TypeTable.{TypeTable}
 use Rattle.reach_map.specs.Candidates.{candidates}
 use Rattle.reach_map.specs.CandidateSets.{candidate_list}

@@ -2,16 +2,15 @@
 ghost use Rattle.std.specs.Prelude.{◌≡◌, ◌∷◌, ◌++◌, [], OnOk};
 ghost use Rattle.apt_base.specs.Identifiers.{parts};
 ghost use Rattle.element_table.specs.UnitNames.{in_package};
-ghost use Rattle.name_index.specs.Names.{with_name, with_names};
+ghost use Rattle.apt_base.specs.Names.{with_name, with_names};
 ghost use Rattle.name_resolve.specs.Parts.{lent};
 ghost use Rattle.reach_map.specs.Candidates.{imported_name, imported_names, first_candidates, chain_candidates};
 ghost use Rattle.reach_map.specs.CandidateSets.{with_chains};
 
 use crate::prefixes::add_prefixes;
-use apt_base::NoMemory;
+use apt_base::{Names, NoMemory};
 use decl_tree::{Import, ImportKind, UnitText};
 use element_table::in_package;
-use name_index::Names;
 use name_resolve::{longer, split};
 use std::alloc::Global;
 

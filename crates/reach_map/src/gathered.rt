@@ -1,6 +1,6 @@
 // The candidates of a unit.
 ghost use Rattle.std.specs.Prelude.{◌≡◌, IfOk, OnOk};
-ghost use Rattle.name_index.specs.Names.{with_names};
+ghost use Rattle.apt_base.specs.Names.{with_names};
 ghost use Rattle.name_resolve.specs.Parts.{lent};
 ghost use Rattle.reach_map.specs.Candidates.{prefixes_of_all, import_prefixes, own_names};
 ghost use Rattle.reach_map.specs.CandidateSets.{candidate_set, candidate_list};
@@ -8,10 +8,9 @@ ghost use Rattle.reach_map.specs.CandidateSets.{candidate_set, candidate_list};
 use crate::chains::add_in_package;
 use crate::members::add_body;
 use crate::prefixes::add_text;
-use apt_base::{List, Name, NoMemory};
+use apt_base::{List, Name, Names, NoMemory};
 use decl_tree::{Import, Unit};
 use element_table::unit_name;
-use name_index::Names;
 use std::alloc::Global;
 
 /// The names that declarations imply.

@@ -6,11 +6,10 @@ ghost use Rattle.reach_map.specs.CandidateSets.{with_chains};
 
 use crate::types::add_type;
 use crate::written::{add_all, add_optional};
-use apt_base::NoMemory;
+use apt_base::{Names, NoMemory};
 use decl_tree::{
     Body, ConstantDecl, ConstructorDecl, FieldDecl, Member, MethodDecl, TypeDecl, UnitText,
 };
-use name_index::Names;
 use std::alloc::Global;
 
 #[tactic(auto, using(crate::proofs::CandidateSetsLemmas::adds), unfolding(crate::specs::Chains::field_chains))]

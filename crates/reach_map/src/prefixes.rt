@@ -1,12 +1,11 @@
 // Prefixes of qualified names, put into a set.
 ghost use Rattle.std.specs.Prelude.{◌≡◌, ◌∷◌, OnOk};
 ghost use Rattle.apt_base.specs.Identifiers.{parts};
-ghost use Rattle.name_index.specs.Names.{with_names};
+ghost use Rattle.apt_base.specs.Names.{with_names};
 ghost use Rattle.name_resolve.specs.Parts.{lent};
 ghost use Rattle.reach_map.specs.Candidates.{prefix_names};
 
-use apt_base::NoMemory;
-use name_index::Names;
+use apt_base::{Names, NoMemory};
 use name_resolve::{longer, split};
 use std::alloc::Global;
 

@@ -2,15 +2,14 @@
 ghost use Rattle.std.specs.Prelude.{◌≡◌, IfOk, OnOk};
 ghost use Rattle.std.specs.Option.{option_copied};
 ghost use Rattle.std.specs.FinMap as fin;
-ghost use Rattle.name_index.specs.Names.{with_name, with_names};
+ghost use Rattle.apt_base.specs.Names.{with_name, with_names};
 ghost use Rattle.reach_map.specs.Reach.{IsReachList};
 ghost use Rattle.reach_map.specs.Reaching.{left_with, left_after, reached_behind, left_behind};
 
 use crate::gathered::candidates;
-use apt_base::{List, Name, NoMemory};
+use apt_base::{List, Name, Names, NoMemory};
 use decl_tree::Unit;
 use element_table::{Part, Table};
-use name_index::Names;
 use std::alloc::Global;
 
 /// The source unit of this name.

@@ -6,9 +6,8 @@ ghost use Rattle.reach_map.specs.Chains.{type_chains, argument_chains};
 ghost use Rattle.reach_map.specs.CandidateSets.{with_chains};
 
 use crate::chains::add_chain;
-use apt_base::NoMemory;
+use apt_base::{Names, NoMemory};
 use decl_tree::{BaseType, NamedPart, TypeText, UnitText};
-use name_index::Names;
 use name_resolve::part_names;
 use std::alloc::Global;
 

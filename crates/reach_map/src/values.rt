@@ -6,9 +6,8 @@ ghost use Rattle.reach_map.specs.CandidateSets.{with_chains};
 
 use crate::chains::add_chain_text;
 use crate::types::add_type;
-use apt_base::NoMemory;
+use apt_base::{Names, NoMemory};
 use decl_tree::{AnnotationText, ElementValuePair, UnitText, ValueText};
-use name_index::Names;
 use std::alloc::Global;
 
 /// A value.

@@ -6,9 +6,8 @@ ghost use Rattle.reach_map.specs.CandidateSets.{with_chains};
 
 use crate::types::add_type;
 use crate::values::{add_annotation, add_value};
-use apt_base::NoMemory;
+use apt_base::{Names, NoMemory};
 use decl_tree::{AnnotationText, Param, TypeParam, TypeText, UnitText, ValueText};
-use name_index::Names;
 use std::alloc::Global;
 
 /// A part of a unit in which name chains are written.

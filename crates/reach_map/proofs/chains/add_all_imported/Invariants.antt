@@ -1,5 +1,5 @@
 use Rattle.std.proofs.Common.{◌≡◌, drop}
-use Rattle.name_index.specs.Names.{with_names}
+use Rattle.apt_base.specs.Names.{with_names}
 use Rattle.reach_map.specs.Candidates.{imported_names}
 use Rattle.reach_map.proofs.chains.add_all_imported.Given as goal
 

@@ -1,6 +1,6 @@
 use Rattle.std.proofs.Common.{refl, ap, ◌∙◌}
 use Rattle.apt_base.specs.Identifiers.{parts}
-use Rattle.name_index.specs.Names.{with_names}
+use Rattle.apt_base.specs.Names.{with_names}
 use Rattle.reach_map.specs.Candidates.{prefix_names, import_prefixes}
 use Rattle.reach_map.proofs.CandidateSetsLemmas.{rest_next}
 use Rattle.reach_map.proofs.gathered.add_imports.Goals as goal

@@ -1,5 +1,5 @@
 use Rattle.std.proofs.Common.{◌≡◌, drop}
-use Rattle.name_index.specs.Names.{with_names}
+use Rattle.apt_base.specs.Names.{with_names}
 use Rattle.reach_map.specs.Candidates.{import_prefixes}
 use Rattle.reach_map.proofs.gathered.add_imports.Given as goal
 

@@ -1,5 +1,5 @@
 use Rattle.std.proofs.Common.{◌≡◌, drop}
-use Rattle.name_index.specs.Names.{with_names}
+use Rattle.apt_base.specs.Names.{with_names}
 use Rattle.name_resolve.specs.Parts.{lent}
 use Rattle.reach_map.specs.Candidates.{prefixes_of_all}
 use Rattle.reach_map.proofs.gathered.add_texts.Given as goal

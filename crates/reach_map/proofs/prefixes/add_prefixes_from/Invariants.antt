@@ -1,5 +1,5 @@
 use Rattle.std.proofs.Common.{◌≡◌, drop, map, string_bytes, ◌∷◌}
-use Rattle.name_index.specs.Names.{with_names}
+use Rattle.apt_base.specs.Names.{with_names}
 use Rattle.name_resolve.specs.QualifiedNames.{prefixes_after}
 use Rattle.name_resolve.specs.Parts.{lent}
 use Rattle.reach_map.specs.Candidates.{prefix_names}

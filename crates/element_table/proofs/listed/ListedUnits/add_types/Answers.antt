@@ -1,5 +1,5 @@
 use Rattle.std.proofs.Common.{◌≡◌, OnOk, sym, ap, subst, ◌∙◌}
-use Rattle.name_index.specs.Names.{with_names, names_in}
+use Rattle.apt_base.specs.Names.{with_names, names_in}
 use Rattle.name_index.specs.Index.{or_empty}
 use Rattle.element_table.specs.PackageTypes.{types_declared}
 use Rattle.element_table.proofs.PackageLaws.{with_types, no_types}

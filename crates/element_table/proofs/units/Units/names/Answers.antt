@@ -3,7 +3,8 @@ use Rattle.std.specs.BTreeMap as tree
 use Rattle.std.specs.FinMap.{keys}
 use Rattle.std.specs.Map.Iter.{deref}
 use Rattle.std.proofs.lemmas.Map.Iter.{iter_end}
-use Rattle.name_index.proofs.TextMaps.{keys-shown, bytes_of_borrowed}
+use Rattle.apt_base.proofs.NameSets.{bytes_of_borrowed}
+use Rattle.name_index.proofs.TextMaps.{keys-shown}
 use Rattle.element_table.proofs.units.Units.names.Goals as goal
 
 pub returns : goal.returns

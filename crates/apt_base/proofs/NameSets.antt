@@ -1,5 +1,6 @@
 -- A `BTreeSet` of names as the set of their bytes, and what a set has after names were added.
 use Rattle.std.proofs.Common.{◌≡◌, ℕ, Bool, true, false, cond, not, T, List, [], ◌∷◌, ◌++◌, map, length, is_some, Some, None, Option, String, string_bytes, ◌&&◌, ◌||◌, refl, sym, ap, ◌∙◌, subst, arith}
+use Rattle.std.specs.Map.Iter.{deref}
 use Rattle.std.specs.BTreeSet.{BTreeSet, UpdatesBy, contains_text, IsOrdered}
 use Rattle.std.specs.List.{list_any, AllByRecursion}
 use Rattle.std.specs.List.Sorted.{IsStrictlySortedBy}
@@ -8,15 +9,18 @@ use Rattle.std.specs.String.{string_cmp}
 use Rattle.std.specs.Ordering.{nat_cmp, is_eq, is_lt, eq_by_cmp}
 use Rattle.std.specs.Cmp.Lexicographic.{slice_cmp, nat_list_cmp_total, nat_list_eq_equiv}
 use Rattle.std.specs.FinMap as fin
-use Rattle.std.specs.FinMap.{find, is_sorted, get-from_entries, get-insert, get-remove, get-empty, contains_key-keys, same_map}
+use Rattle.std.specs.FinMap.{find, is_sorted, get-from_entries, get-insert, get-remove, get-empty, contains_key-keys, same_map, nat_cmp-IsAntisymmetric, slice_cmp-IsAntisymmetric}
 use Rattle.std.specs.FinMap.Entries.{same_entries, below_all}
 use Rattle.std.specs.declared.alloc.Global.{Global}
 use Rattle.std.specs.declared.cmp.Ordering.TheVariants.{Less}
 use Rattle.std.proofs.lemmas.Map.Text.{is_eq-slice_cmp, btree_set_updates_text}
 use Rattle.std.proofs.lemmas.Slice.Eq.{bytes_eq-Decides}
 use denote.Ref.{Bor}
-use Rattle.name_index.specs.Names.{NameSet, with_name, with_names, names_in, shown_name, names_of}
-use Rattle.name_index.proofs.TextMaps.{exact_names}
+use Rattle.apt_base.specs.Names.{NameSet, with_name, with_names, names_in, shown_name, names_of}
+
+-- names that compare alike are one
+pub exact_names : fin.IsAntisymmetric (slice_cmp nat_cmp)
+exact_names = slice_cmp-IsAntisymmetric nat_cmp-IsAntisymmetric
 
 pub same_name : (q name : List ℕ) → eq_by_cmp (slice_cmp nat_cmp) q name ≡ true → q ≡ name
 same_name q name e = (bytes_eq-Decides q name).0 (sym (is_eq-slice_cmp q name) ∙ e)
@@ -175,6 +179,11 @@ sorted_shown (name ∷ names) s = both _ _ (less (string_bytes name) names s.0) 
 keys_shown : (names : List (String Global)) → map (λ e. e.0) (map shown_name names) ≡ map string_bytes names
 keys_shown [] = refl
 keys_shown (name ∷ names) = ap (λ ns. string_bytes name ∷ ns) (keys_shown names)
+
+-- the bytes of borrowed names
+pub bytes_of_borrowed : (ks : List (Bor (String Global))) → map (λ k. string_bytes k.now) ks ≡ map string_bytes (map deref ks)
+bytes_of_borrowed [] = refl
+bytes_of_borrowed (k ∷ ks) = ap (λ ns. string_bytes k.now ∷ ns) (bytes_of_borrowed ks)
 
 -- its names in order
 pub names_in-names_of : (held : BTreeSet (String Global)) → IsOrdered string_cmp held → names_in (names_of held) ≡ map string_bytes held.keys

@@ -3,10 +3,10 @@ use Rattle.std.specs.BTreeSet.{IsOrdered}
 use Rattle.std.specs.String.{string_cmp}
 use Rattle.std.specs.Map.Iter.{deref}
 use Rattle.std.proofs.lemmas.Map.Iter.{iter_end}
-use Rattle.name_index.specs.Names.{with_name, with_names, names_in}
-use Rattle.name_index.proofs.TextMaps.{bytes_of_borrowed}
-use Rattle.name_index.proofs.NameSets.{names_in-names_of, with_names-borrowed}
-use Rattle.name_index.proofs.names.Names.insert_all.Goals as goal
+use Rattle.apt_base.specs.Names.{with_name, with_names, names_in}
+use Rattle.apt_base.proofs.NameSets.{bytes_of_borrowed}
+use Rattle.apt_base.proofs.NameSets.{names_in-names_of, with_names-borrowed}
+use Rattle.apt_base.proofs.names.Names.insert_all.Goals as goal
 
 pub loop-name-preserved : goal.loop-name-preserved
 loop-name-preserved c =

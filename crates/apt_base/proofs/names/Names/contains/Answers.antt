@@ -1,7 +1,7 @@
 use Rattle.std.proofs.Common.{sym, ap, ◌∙◌}
 use Rattle.std.specs.FinMap as fin
-use Rattle.name_index.proofs.NameSets.{contains-names_of}
-use Rattle.name_index.proofs.names.Names.contains.Goals as goal
+use Rattle.apt_base.proofs.NameSets.{contains-names_of}
+use Rattle.apt_base.proofs.names.Names.contains.Goals as goal
 
 pub returns : goal.returns
 returns c =

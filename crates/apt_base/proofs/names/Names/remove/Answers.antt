@@ -1,7 +1,7 @@
 use Rattle.std.proofs.Common.{ap, ◌∙◌}
 use Rattle.std.specs.FinMap as fin
-use Rattle.name_index.proofs.NameSets.{names_of-remove}
-use Rattle.name_index.proofs.names.Names.remove.Goals as goal
+use Rattle.apt_base.proofs.NameSets.{names_of-remove}
+use Rattle.apt_base.proofs.names.Names.remove.Goals as goal
 
 pub returns : goal.returns
 returns c =

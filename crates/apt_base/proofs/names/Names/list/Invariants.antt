@@ -1,5 +1,5 @@
 use Rattle.std.proofs.Common.{◌≡◌, map, string_bytes}
-use Rattle.name_index.proofs.names.Names.list.Given as goal
+use Rattle.apt_base.proofs.names.Names.list.Given as goal
 
 -- the names so far
 abbrev pub invariant-loop-name : goal.invariant-loop-name

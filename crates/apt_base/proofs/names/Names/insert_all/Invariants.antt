@@ -1,6 +1,6 @@
 use Rattle.std.proofs.Common.{◌≡◌, map, string_bytes}
-use Rattle.name_index.specs.Names.{with_names}
-use Rattle.name_index.proofs.names.Names.insert_all.Given as goal
+use Rattle.apt_base.specs.Names.{with_names}
+use Rattle.apt_base.proofs.names.Names.insert_all.Given as goal
 
 -- the set with the names so far
 abbrev pub invariant-loop-name : goal.invariant-loop-name

@@ -1,7 +1,7 @@
 use Rattle.std.proofs.Common.{ap, ◌∙◌, string_bytes}
-use Rattle.name_index.specs.Names.{with_name, names_of}
-use Rattle.name_index.proofs.NameSets.{names_of-insert}
-use Rattle.name_index.proofs.names.Names.insert.Goals as goal
+use Rattle.apt_base.specs.Names.{with_name, names_of}
+use Rattle.apt_base.proofs.NameSets.{names_of-insert}
+use Rattle.apt_base.proofs.names.Names.insert.Goals as goal
 
 pub returns-clause-ok : goal.returns-clause-ok
 returns-clause-ok c =

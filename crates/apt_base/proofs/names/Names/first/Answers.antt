@@ -1,7 +1,7 @@
 use Rattle.std.proofs.Common.{ap, sym, ◌∙◌, string_bytes}
 use Rattle.std.specs.FinMap as fin
-use Rattle.name_index.proofs.NameSets.{contains-names_of}
-use Rattle.name_index.proofs.names.Names.first.Goals as goal
+use Rattle.apt_base.proofs.NameSets.{contains-names_of}
+use Rattle.apt_base.proofs.names.Names.first.Goals as goal
 
 pub returns-in-Some-clause-member : goal.returns-in-Some-clause-member
 returns-in-Some-clause-member c =

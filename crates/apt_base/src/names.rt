@@ -1,9 +1,9 @@
 // A set of names.
 ghost use Rattle.std.specs.Prelude.{◌≡◌, true, IfOk, IfSome, IfNone, OnOk, OnErr};
 ghost use Rattle.std.specs.FinMap as fin;
-ghost use Rattle.name_index.specs.Names.{with_name, with_names, names_in};
+ghost use Rattle.apt_base.specs.Names.{with_name, with_names, names_in};
 
-use apt_base::{List, Name, NoMemory};
+use crate::{List, Name, NoMemory};
 use std::alloc::Global;
 use std::collections::BTreeSet;
 use std::marker::Model;
@@ -16,7 +16,7 @@ pub struct Names {
 }
 
 impl Model for Names {
-    ghost use Rattle.name_index.specs.Names.{NameSet, names_of, names_code};
+    ghost use Rattle.apt_base.specs.Names.{NameSet, names_of, names_code};
 
     ghost Value = { NameSet };
 
@@ -36,7 +36,7 @@ impl Names {
         }
     }
 
-    /// Adds a name, or leaves the set as it was for want of memory. It takes logarithmic time.
+    /// Adds a name, or leaves the set as it was where memory is out. It takes logarithmic time.
     pub fn insert(&mut self, name: &str) -> Result<(), NoMemory>
         ensures ok { OnOk result (self.new ≡ with_name self.old name.now) }
         ensures err { OnErr result (self.new ≡ self.old) }
