@@ -12,7 +12,7 @@ use Rattle.decl_tree.specs.declared.declaration.Member.TheVariants as member
 use Rattle.decl_tree.specs.declared.declaration.Member.TheOpen.{Member-F}
 use Rattle.decl_tree.specs.declared.declaration.Member.TheFolds.{fold-roll-Member, fold_out-TypeDecl}
 use Rattle.decl_tree.specs.declared.declaration.TypeDecl.{TypeDecl}
-use Rattle.name_index.specs.Names.{NameSet, with_names}
+use Rattle.apt_base.specs.Names.{NameSet, with_names}
 use Rattle.project_units.specs.Annotations.{Written, written_on, gathered, on_type_params, on_params, in_method, in_constructor, member_step, declaration_step, in_member, in_declaration}
 use Rattle.project_units.proofs.EnteringLemmas.{with_names_append}
 

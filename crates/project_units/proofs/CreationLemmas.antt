@@ -5,7 +5,7 @@ use Rattle.std.specs.Ordering.{nat_cmp}
 use Rattle.std.specs.Cmp.Lexicographic.{slice_cmp}
 use Rattle.std.specs.FinMap as fin
 use Rattle.wire_frames.specs.declared.frame.Creation.{Creation}
-use Rattle.name_index.specs.Names.{NameSet}
+use Rattle.apt_base.specs.Names.{NameSet}
 use Rattle.project_units.specs.Creations.{gathered, unread_among}
 
 -- one creation more behind those that were gathered

@@ -18,7 +18,7 @@ use Rattle.element_table.proofs.TableLaws.{outcome_of-Ok, outcome_of-Duplicate, 
 use Rattle.project_units.specs.declared.unit_fault.UnitFault.{UnitFault}
 use Rattle.project_units.specs.declared.unit_fault.UnitFault.TheVariants as code
 use Rattle.project_units.specs.declared.refusal.Refusal as declared
-use Rattle.name_index.specs.Names.{NameSet, with_name, with_names}
+use Rattle.apt_base.specs.Names.{NameSet, with_name, with_names}
 use Rattle.project_units.specs.Refusals.{Refusal, Stop, Refused, Failed, Memory, OrMemory}
 use Rattle.project_units.specs.Units.{Obstacle, Duplicate, Entered, enter_by, enter_unit, and_then, enter_each, enter_units, Gathered, gather, enter_read, created_reading, enter_created, gather_all, ascending}
 use Rattle.project_units.specs.Entering.{Reports, Obstructs, EntersEach, EntersUnits, RefusesAs, of_unread, of_units, Gathers}

@@ -6,7 +6,7 @@ use Rattle.apt_outside.specs.Files.{Files}
 use Rattle.wire_frames.specs.declared.frame.Creation.{Creation}
 use Rattle.wire_frames.specs.declared.frame.Creation.TheVariants as creation
 use Rattle.apt_filer.specs.Filing.{path_of, content_of}
-use Rattle.name_index.specs.Names.{NameSet, with_name, names_in}
+use Rattle.apt_base.specs.Names.{NameSet, with_name, names_in}
 
 -- files, or names, to which each creation adds what it adds
 abbrev pub gathered : {A : Type 0} → (A → Creation → A) → A → List Creation → A

@@ -12,7 +12,7 @@ use Rattle.project_units.specs.declared.unit_fault.UnitFault.TheVariants as code
 use Rattle.project_units.specs.declared.refusal.Refusal as declared
 use Rattle.project_units.specs.Refusals.{Refusal, Stop, Refused, Failed, Memory}
 use Rattle.project_units.specs.Faults.{stop_of}
-use Rattle.name_index.specs.Names.{NameSet}
+use Rattle.apt_base.specs.Names.{NameSet}
 use Rattle.project_units.specs.Units.{Obstacle, Duplicate, Full, Entered, Gathered, unread_at, unentered, enter_created}
 
 -- the table did not take a unit, which comes back

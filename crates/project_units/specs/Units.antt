@@ -12,7 +12,7 @@ use Rattle.element_table.specs.UnitNames.{unit_name}
 use Rattle.element_table.specs.TypeTable.{TypeTable, unit_of, Against, IsThere, IsFull, outcome_of}
 use Rattle.project_units.specs.Annotations.{in_unit}
 use Rattle.project_units.specs.Limits.{limit_of}
-use Rattle.name_index.specs.Names.{NameSet, with_names, names_in}
+use Rattle.apt_base.specs.Names.{NameSet, with_names, names_in}
 use Rattle.project_units.specs.Refusals.{Refusal, BadGenerated, GeneratedDuplicate, past}
 
 -- ---- annotations

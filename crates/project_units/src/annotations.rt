@@ -1,14 +1,13 @@
 // The annotations that are written in a unit.
 ghost use Rattle.std.specs.Prelude.{◌≡◌, OnOk};
 ghost use Rattle.std.specs.List.{flat_map};
-ghost use Rattle.name_index.specs.Names.{with_names};
+ghost use Rattle.apt_base.specs.Names.{with_names};
 ghost use Rattle.project_units.specs.Annotations.{written_on, on_type_params, on_params, in_method, in_constructor, in_member, in_declaration, in_body};
 
-use apt_base::NoMemory;
+use apt_base::{Names, NoMemory};
 use decl_tree::{
     AnnotationText, Body, ConstructorDecl, Member, MethodDecl, Param, TypeDecl, TypeParam,
 };
-use name_index::Names;
 
 fn add_annotations(names: &mut Names, annotations: &[AnnotationText]) -> Result<(), NoMemory>
     ensures { OnOk result (names.new ≡ with_names names.old (written_on annotations.now)) }

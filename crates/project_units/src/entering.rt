@@ -4,7 +4,7 @@ ghost use Rattle.std.specs.FinMap as fin;
 ghost use Rattle.file_readings.specs.FileReadings.{GivesUnits};
 ghost use Rattle.element_table.specs.UnitNames.{unit_name};
 ghost use Rattle.element_table.specs.declared.part.Part.TheVariants.{Source};
-ghost use Rattle.name_index.specs.Names.{with_names};
+ghost use Rattle.apt_base.specs.Names.{with_names};
 ghost use Rattle.project_units.specs.Units.{enter_unit, enter_each, enter_units, enter_sources, created_reading, gather, enter_all};
 ghost use Rattle.project_units.specs.Creations.{sources_among};
 ghost use Rattle.project_units.specs.Refusals.{named_by, OrMemory};
@@ -15,17 +15,13 @@ use crate::limits::limit_of;
 use crate::refusal::Refusal;
 use crate::sources::sources_among;
 use crate::unit_fault::UnitFault;
-use apt_base::{List, Name, NoMemory, What};
+use apt_base::{List, MAX_FILE_BYTES, Name, Names, NoMemory, What};
 use decl_parser::ParseFault;
 use decl_tree::Unit;
 use element_table::{EnterFault, Part, Table, unit_name};
 use file_readings::read_declarations;
-use name_index::Names;
 use std::alloc::Global;
 use wire_frames::Creation;
-
-// The most bytes of a source that is read.
-const MOST_BYTES: usize = 8_388_608;
 
 // ---- units
 
@@ -110,7 +106,7 @@ fn read_created(alloc: Global, path: &str, content: &[u8]) -> Result<List<Unit>,
     ensures { GivesUnits (created_reading path.now content.now) result }
 {
     let count = content.len();
-    if count > MOST_BYTES {
+    if count > MAX_FILE_BYTES {
         return Err(ParseFault::TooLarge {
             what: What::FileBytes,
         });

@@ -6,9 +6,8 @@ ghost use Rattle.project_units.specs.Held.{files_lent};
 ghost use Rattle.project_units.specs.Creations.{is_source, creates_source, with_source, with_unread, with_file, sources_among, unread_among, files_among};
 
 use crate::files::Files;
-use apt_base::{List, Name, NoMemory};
+use apt_base::{List, Name, Names, NoMemory};
 use apt_filer::path_text;
-use name_index::Names;
 use std::alloc::Global;
 use std::collections::BTreeMap;
 use std::marker::Model;

@@ -1,12 +1,11 @@
 // The units of a project in its type table.
 ghost use Rattle.std.specs.Prelude.{◌≡◌, ◌<◌, ◌^◌, length, IfOk, OnOk};
-ghost use Rattle.name_index.specs.Names.{with_names};
+ghost use Rattle.apt_base.specs.Names.{with_names};
 ghost use Rattle.project_units.specs.Units.{names_at, present_names, unit_names};
 
 use crate::annotations::add_body;
-use apt_base::{List, Name, NoMemory};
+use apt_base::{List, Name, Names, NoMemory};
 use element_table::{Part, Table};
-use name_index::Names;
 use std::alloc::Global;
 
 // Adds the names of the annotations that are written in the unit with this name.

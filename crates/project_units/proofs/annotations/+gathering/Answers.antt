@@ -1,7 +1,7 @@
 use Rattle.std.proofs.Common.{◌≡◌, ◌∷◌, ◌+◌, drop, sym, ap, ◌∙◌, rules}
 use Rattle.std.specs.List.{flat_map}
 use Rattle.std.proofs.lemmas.List.{drop_more}
-use Rattle.name_index.specs.Names.{with_names}
+use Rattle.apt_base.specs.Names.{with_names}
 use Rattle.project_units.specs.Annotations.{written_on, on_type_params, in_method, in_constructor, in_member, in_declaration}
 use Rattle.project_units.proofs.EnteringLemmas.{with_names_append}
 use Rattle.project_units.proofs.AnnotationLemmas.{in_member-Field, in_member-Method, in_member-Constructor, in_member-Constant, in_member-Nested, in_declaration-is, adds-three, adds-same}

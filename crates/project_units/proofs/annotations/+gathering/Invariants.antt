@@ -1,6 +1,6 @@
 use Rattle.std.proofs.Common.{◌≡◌, drop}
 use Rattle.std.specs.List.{flat_map}
-use Rattle.name_index.specs.Names.{with_names}
+use Rattle.apt_base.specs.Names.{with_names}
 use Rattle.project_units.specs.Annotations.{in_member}
 use Rattle.project_units.proofs.annotations.+gathering.Given as goal
 

@@ -1,5 +1,5 @@
 use Rattle.std.proofs.Common.{◌≡◌, drop}
-use Rattle.name_index.specs.Names.{with_names}
+use Rattle.apt_base.specs.Names.{with_names}
 use Rattle.project_units.specs.Annotations.{written_on}
 use Rattle.project_units.proofs.annotations.add_annotations.Given as goal
 

@@ -1,5 +1,5 @@
 use Rattle.std.proofs.Common.{◌≡◌, rules}
-use Rattle.name_index.specs.Names.{with_names}
+use Rattle.apt_base.specs.Names.{with_names}
 use Rattle.project_units.specs.Annotations.{written_on, on_type_params, on_params, in_constructor}
 use Rattle.project_units.proofs.AnnotationLemmas.{in_constructor-is, adds-three}
 use Rattle.project_units.proofs.annotations.add_constructor.Goals as goal

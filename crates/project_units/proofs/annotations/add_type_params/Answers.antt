@@ -1,6 +1,6 @@
 use Rattle.std.proofs.Common.{◌≡◌, ◌∷◌, ◌+◌, drop, sym, ap, ◌∙◌, rules}
 use Rattle.std.proofs.lemmas.List.{drop_more}
-use Rattle.name_index.specs.Names.{with_names}
+use Rattle.apt_base.specs.Names.{with_names}
 use Rattle.project_units.specs.Annotations.{written_on, on_type_params}
 use Rattle.project_units.proofs.EnteringLemmas.{with_names_append}
 use Rattle.project_units.proofs.annotations.add_type_params.Goals as goal

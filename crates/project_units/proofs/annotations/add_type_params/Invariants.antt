@@ -1,5 +1,5 @@
 use Rattle.std.proofs.Common.{◌≡◌, drop}
-use Rattle.name_index.specs.Names.{with_names}
+use Rattle.apt_base.specs.Names.{with_names}
 use Rattle.project_units.specs.Annotations.{on_type_params}
 use Rattle.project_units.proofs.annotations.add_type_params.Given as goal
 

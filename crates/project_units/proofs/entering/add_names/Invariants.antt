@@ -1,5 +1,5 @@
 use Rattle.std.proofs.Common.{◌≡◌, drop}
-use Rattle.name_index.specs.Names.{with_names}
+use Rattle.apt_base.specs.Names.{with_names}
 use Rattle.project_units.proofs.entering.add_names.Given as goal
 
 -- the names that are left decide

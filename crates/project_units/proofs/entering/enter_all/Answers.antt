@@ -4,7 +4,7 @@ use Rattle.std.specs.String.{string_cmp}
 use Rattle.std.specs.FinMap as fin
 use Rattle.std.proofs.lemmas.Result.{err_from_is_err_and}
 use Rattle.project_units.specs.Held.{shown_lent}
-use Rattle.name_index.specs.Names.{names_in}
+use Rattle.apt_base.specs.Names.{names_in}
 use Rattle.project_units.specs.Creations.{sources_among}
 use Rattle.project_units.specs.Units.{enter_created, gather_all, ascending, enter_all}
 use Rattle.project_units.specs.Faults.{stop_of}

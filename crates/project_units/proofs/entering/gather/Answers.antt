@@ -1,6 +1,6 @@
 use Rattle.std.proofs.Common.{ap, ◌∙◌}
 use Rattle.element_table.specs.declared.part.Part.TheVariants.{Source}
-use Rattle.name_index.specs.Names.{with_names}
+use Rattle.apt_base.specs.Names.{with_names}
 use Rattle.project_units.specs.Units.{enter_units}
 use Rattle.project_units.specs.Faults.{stop_of}
 use Rattle.project_units.proofs.EnteringLemmas.{gathers-entered, gathers-unentered}
