@@ -1,17 +1,18 @@
 -- The limits of a build. A quantity that passes one is refused.
 use Rattle.std.specs.Prelude.{ℕ}
+use Rattle.apt_base.specs.Limits.{max_file_bytes, max_name_bytes, max_processors}
 use Rattle.apt_base.specs.declared.kinds.What.{What}
 use Rattle.apt_base.specs.declared.kinds.What.TheVariants as what
 
 abbrev pub limit_of : What → ℕ
 limit_of what.Files = 20000
-limit_of what.FileBytes = 8388608
+limit_of what.FileBytes = max_file_bytes
 limit_of what.SourceBytes = 67108864
 limit_of what.StubBytes = 16777216
 limit_of what.ConfigBytes = 1048576
-limit_of what.Processors = 64
+limit_of what.Processors = max_processors
 limit_of what.Types = 50000
-limit_of what.Name = 1024
+limit_of what.Name = max_name_bytes
 limit_of what.Children = 65535
 limit_of what.Depth = 200
 limit_of what.Frame = 134217728

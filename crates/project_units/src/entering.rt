@@ -15,16 +15,13 @@ use crate::limits::limit_of;
 use crate::refusal::Refusal;
 use crate::sources::sources_among;
 use crate::unit_fault::UnitFault;
-use apt_base::{List, Name, Names, NoMemory, What};
+use apt_base::{List, MAX_FILE_BYTES, Name, Names, NoMemory, What};
 use decl_parser::ParseFault;
 use decl_tree::Unit;
 use element_table::{EnterFault, Part, Table, unit_name};
 use file_readings::read_declarations;
 use std::alloc::Global;
 use wire_frames::Creation;
-
-// The most bytes of a source that is read.
-const MOST_BYTES: usize = 8_388_608;
 
 // ---- units
 
@@ -109,7 +106,7 @@ fn read_created(alloc: Global, path: &str, content: &[u8]) -> Result<List<Unit>,
     ensures { GivesUnits (created_reading path.now content.now) result }
 {
     let count = content.len();
-    if count > MOST_BYTES {
+    if count > MAX_FILE_BYTES {
         return Err(ParseFault::TooLarge {
             what: What::FileBytes,
         });
