@@ -2,7 +2,7 @@
 use Rattle.std.specs.Prelude.{◌≡◌, Bool, true, not, ◌&&◌, List, [], ◌∷◌, map, find, unwrap_or, Option, None}
 use Rattle.std.specs.List.{IsDistinct, AllByRecursion, flat_map, list_any}
 use Rattle.std.specs.Option.{option_map}
-use Rattle.std.specs.Str.{bytes_eq}
+use Rattle.apt_base.specs.Elements.{same_element}
 use Rattle.apt_base.specs.declared.element.ElementRef.{ElementRef}
 use Rattle.type_mirror.specs.declared.mirror.BaseMirror.{BaseMirror}
 use Rattle.type_mirror.specs.declared.mirror.BaseMirror.TheVariants as base
@@ -16,10 +16,6 @@ use Rattle.type_mirror.specs.Parts.{plain, wrapped, base_parts, declared_parts, 
 -- variables, each with the type that is put in its place
 abbrev pub Replacements : Type 0
 Replacements = List (ElementRef × Mirror)
-
--- the same unit and the same path
-abbrev pub same_element : ElementRef → ElementRef → Bool
-same_element one other = bytes_eq one.unit other.unit && bytes_eq one.path other.path
 
 -- no variable stands twice in the list
 abbrev pub AreDistinct : Replacements → Type 0

@@ -2,23 +2,18 @@
 ghost use Rattle.std.specs.Prelude.{◌≡◌, ◌↔◌, map, IsTrue, IfOk};
 ghost use Rattle.std.specs.List.{list_any};
 ghost use Rattle.std.specs.Option.{option_copied};
-ghost use Rattle.type_mirror.specs.Substitution.{same_element, AreDistinct, is_distinct, HasNone, replacement, in_place, substituted, substituted_base, substituted_declared, substituted_executable, variables, variables_in_place};
+ghost use Rattle.apt_base.specs.Elements.{same_element};
+ghost use Rattle.type_mirror.specs.Substitution.{AreDistinct, is_distinct, HasNone, replacement, in_place, substituted, substituted_base, substituted_declared, substituted_executable, variables, variables_in_place};
 
 use crate::mirror::{BaseMirror, DeclaredMirror, ExecutableMirror, Mirror, copy_elements};
 use apt_base::{Boxed, ElementRef, List, NoMemory};
 use std::alloc::Global;
 
-fn is_same(one: &ElementRef, other: &ElementRef) -> bool
-    ensures { result ≡ same_element one.now other.now }
-{
-    one.unit.as_str() == other.unit.as_str() && one.path.as_slice() == other.path.as_slice()
-}
-
 fn is_among(element: &ElementRef, by: &[(ElementRef, Mirror)]) -> bool
     ensures { result ≡ list_any (λ pair. same_element element.now pair.0) by.now }
 {
     for pair in by {
-        if is_same(element, &pair.0) {
+        if element.is_equal(&pair.0) {
             return true;
         }
     }
@@ -47,7 +42,7 @@ fn first_with<'a>(by: &'a [(ElementRef, Mirror)], element: &ElementRef) -> Optio
     ensures { option_copied result ≡ replacement by.now element.now }
 {
     for pair in by {
-        if is_same(&pair.0, element) {
+        if pair.0.is_equal(element) {
             return Some(&pair.1);
         }
     }
@@ -63,7 +58,7 @@ fn found<'a>(by: &'a List<(ElementRef, Mirror)>, element: &ElementRef) -> Option
 {
     if let [.., last] = element.path.as_slice()
         && let Some(pair) = by.get(*last as usize)
-        && is_same(&pair.0, element)
+        && pair.0.is_equal(element)
     {
         return Some(&pair.1);
     }

@@ -1,6 +1,6 @@
 use Rattle.std.proofs.Common.{◌≡◌, drop}
 use Rattle.std.specs.List.{list_any}
-use Rattle.type_mirror.specs.Substitution.{same_element}
+use Rattle.apt_base.specs.Elements.{same_element}
 use Rattle.type_mirror.proofs.substitution.is_among.Given as goal
 
 -- it is among the rest exactly where it is among all
