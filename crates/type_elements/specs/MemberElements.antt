@@ -2,6 +2,7 @@
 use Rattle.std.specs.Prelude.{ℕ, ◌-◌, Bool, true, false, not, ◌&&◌, ◌||◌, List, [], map, filter_map, length, take, codes, Option, None, Some, unwrap_or}
 use Rattle.std.specs.List.{list_any, range_with_len}
 use Rattle.std.specs.Str.{bytes_eq}
+use Rattle.apt_base.specs.Elements.{same_element}
 use Rattle.apt_base.specs.declared.element.ElementRef.{ElementRef}
 use Rattle.decl_tree.specs.declared.compilation.UnitText.{UnitText}
 use Rattle.decl_tree.specs.declared.declaration.Member.{Member, out-Member}
@@ -13,7 +14,6 @@ use Rattle.decl_elements.specs.Nodes.{Node, Inside, DefaultConstructor, Values, 
 use Rattle.element_table.specs.TypeTable.{TypeTable, unit_of}
 use Rattle.element_table.specs.TableElements.{node_at, modifiers_at, children_at}
 use Rattle.type_mirror.specs.declared.mirror.Mirror.{Mirror}
-use Rattle.type_mirror.specs.Substitution.{same_element}
 use Rattle.type_layers.specs.Layers.{Layer, Declared, layer}
 use Rattle.type_relations.specs.Elements.{child, parameters_of, has_type_parameters}
 

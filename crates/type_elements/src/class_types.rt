@@ -1,20 +1,12 @@
 // The elements of class types.
 ghost use Rattle.std.specs.Prelude.{◌≡◌, ◌++◌, [], IfOk, OnOk};
 ghost use Rattle.std.specs.Option.{option_copied, option_to_list};
-ghost use Rattle.type_mirror.specs.Substitution.{same_element};
 ghost use Rattle.type_layers.specs.Layers.{layer_in};
 ghost use Rattle.type_elements.specs.MemberElements as elements;
 
 use apt_base::{ElementRef, List, NoMemory};
 use std::alloc::Global;
 use type_mirror::{Around, BaseMirror, Mirror};
-
-/// Whether both refer to one element.
-pub fn is_same_element(one: &ElementRef, other: &ElementRef) -> bool
-    ensures { result ≡ same_element one.now other.now }
-{
-    one.unit.as_str() == other.unit.as_str() && one.path.as_slice() == other.path.as_slice()
-}
 
 /// Whether there are two elements, and they are the same.
 pub fn same_class(one: Option<&ElementRef>, other: Option<&ElementRef>) -> bool
@@ -24,7 +16,7 @@ pub fn same_class(one: Option<&ElementRef>, other: Option<&ElementRef>) -> bool
         None => false,
         Some(one) => match other {
             None => false,
-            Some(other) => is_same_element(one, other),
+            Some(other) => one.is_equal(other),
         },
     }
 }
@@ -34,15 +26,7 @@ fn base_element(base: &BaseMirror) -> Option<&ElementRef>
 {
     match base {
         BaseMirror::Declared(declared) => Some(&declared.element),
-        BaseMirror::Primitive(_) => None,
-        BaseMirror::Error(_) => None,
-        BaseMirror::Variable(_) => None,
-        BaseMirror::Wildcard => None,
-        BaseMirror::Executable(_) => None,
-        BaseMirror::Nothing => None,
-        BaseMirror::Void => None,
-        BaseMirror::Null => None,
-        BaseMirror::Package(_) => None,
+        _ => None,
     }
 }
 

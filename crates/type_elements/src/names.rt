@@ -5,7 +5,6 @@ ghost use Rattle.decl_elements.specs.Shown.{node_of};
 ghost use Rattle.type_elements.specs.MemberElements as elements;
 ghost use Rattle.type_elements.specs.ShownNames.{shown_name};
 
-use crate::class_types::is_same_element;
 use apt_base::ElementRef;
 use decl_elements::Place;
 use decl_tree::Member;
@@ -120,6 +119,5 @@ fn same_method_name(one: MemberName<'_>, other: MemberName<'_>) -> bool
 pub fn are_namesakes(table: &Table, one: &ElementRef, other: &ElementRef) -> bool
     ensures { result ≡ elements.are_namesakes table.now one.now other.now }
 {
-    !is_same_element(one, other)
-        && same_method_name(member_name(table, one), member_name(table, other))
+    !one.is_equal(other) && same_method_name(member_name(table, one), member_name(table, other))
 }

@@ -1,11 +1,11 @@
 -- The same type: equal mirrors. A wildcard is the same as nothing, and wildcards inside a mirror are compared by their parts.
 use Rattle.std.specs.Prelude.{Bool, true, false, not, ◌&&◌, List, [], ◌∷◌, Option, None, Some}
 use Rattle.std.specs.Str.{bytes_eq}
+use Rattle.apt_base.specs.Elements.{same_element}
 use Rattle.apt_base.specs.declared.element.ElementRef.{ElementRef}
 use Rattle.type_mirror.specs.declared.mirror.PrimitiveKind.{PrimitiveKind}
 use Rattle.type_mirror.specs.declared.mirror.PrimitiveKind.TheVariants as kind
 use Rattle.type_mirror.specs.declared.mirror.Mirror.{Mirror}
-use Rattle.type_mirror.specs.Substitution.{same_element}
 use Rattle.type_layers.specs.Layers.{Layer, Primitive, Declared, Error, Variable, Array, Unbounded, Extends, Super, Executable, Nothing, Void, Null, Package, layer, by_layers}
 
 abbrev pub same_kind : PrimitiveKind → PrimitiveKind → Bool

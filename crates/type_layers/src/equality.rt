@@ -18,12 +18,6 @@ fn is_same_name(one: &Name, other: &Name) -> bool
     one.as_str() == other.as_str()
 }
 
-fn is_same_element(one: &ElementRef, other: &ElementRef) -> bool
-    ensures { IsTrue result ↔ one.now ≡ other.now }
-{
-    one.unit.as_str() == other.unit.as_str() && one.path.as_slice() == other.path.as_slice()
-}
-
 fn are_same_elements(ones: &[ElementRef], others: &[ElementRef]) -> bool
     ensures { IsTrue result ↔ ones.now ≡ others.now }
 {
@@ -31,7 +25,7 @@ fn are_same_elements(ones: &[ElementRef], others: &[ElementRef]) -> bool
         return false;
     }
     for at in 0..ones.len() {
-        if !is_same_element(&ones[at], &others[at]) {
+        if !ones[at].is_equal(&others[at]) {
             return false;
         }
     }
@@ -64,7 +58,7 @@ fn is_equal_base(one: &BaseMirror, other: &BaseMirror) -> bool
             _ => false,
         },
         BaseMirror::Variable(element) => match other {
-            BaseMirror::Variable(other) => is_same_element(element, other),
+            BaseMirror::Variable(other) => element.is_equal(other),
             _ => false,
         },
         BaseMirror::Wildcard => matches!(other, BaseMirror::Wildcard),
@@ -114,7 +108,7 @@ fn is_equal_enclosing(one: &Option<Boxed<Mirror>>, other: &Option<Boxed<Mirror>>
 fn is_equal_declared(one: &DeclaredMirror, other: &DeclaredMirror) -> bool
     ensures { IsTrue result ↔ one.now ≡ other.now }
 {
-    if !is_same_element(&one.element, &other.element) {
+    if !one.element.is_equal(&other.element) {
         return false;
     }
     if !is_equal_enclosing(&one.enclosing, &other.enclosing) {

@@ -5,9 +5,9 @@ use Rattle.std.proofs.lemmas.Slice.Eq.{bytes_eq-Decides}
 use Rattle.std.specs.Prelude.{filter}
 use Rattle.std.specs.List.{list_any}
 use Rattle.std.specs.Str.{bytes_eq}
+use Rattle.apt_base.specs.Elements.{same_element}
 use Rattle.apt_base.specs.declared.element.ElementRef.{ElementRef}
 use Rattle.element_table.specs.TypeTable.{TypeTable}
-use Rattle.type_mirror.specs.Substitution.{same_element}
 use Rattle.type_mirror.proofs.Replacements.{same_element-true}
 use Rattle.type_levels.specs.Answers.{either, any}
 use Rattle.type_levels.specs.declared.answer.Answer.{Answer}

@@ -1,9 +1,9 @@
 -- A member hides and overrides none of another name.
 use Rattle.std.proofs.Common.{◌≡◌, ℕ, Bool, true, false, not, ◌&&◌, ◌||◌, refl, ap, ◌∙◌}
 use Rattle.std.specs.Str.{bytes_eq}
+use Rattle.apt_base.specs.Elements.{same_element}
 use Rattle.apt_base.specs.declared.element.ElementRef.{ElementRef}
 use Rattle.element_table.specs.TypeTable.{TypeTable}
-use Rattle.type_mirror.specs.Substitution.{same_element}
 use Rattle.type_levels.specs.Answers.{of_test, either, both}
 use Rattle.type_levels.specs.declared.answer.Answer.TheVariants.{No}
 use Rattle.type_levels.specs.Steps.{all_steps}

@@ -3,9 +3,9 @@ use Rattle.std.specs.Prelude.{ℕ, zero, suc, Bool, false, not, ◌&&◌, ◌||�
 use Rattle.std.specs.List.{list_any}
 use Rattle.std.specs.Option.{option_and_then}
 use Rattle.std.specs.Str.{bytes_eq}
+use Rattle.apt_base.specs.Elements.{same_element}
 use Rattle.apt_base.specs.declared.element.ElementRef.{ElementRef}
 use Rattle.element_table.specs.TypeTable.{TypeTable}
-use Rattle.type_mirror.specs.Substitution.{same_element}
 use Rattle.type_levels.specs.Answers.{of_test, either, both, any}
 use Rattle.type_levels.specs.declared.answer.Answer.{Answer}
 use Rattle.type_levels.specs.declared.answer.Answer.TheVariants.{Yes, Open, No}

@@ -2,9 +2,9 @@
 use Rattle.std.specs.Prelude.{◌≡◌, ℕ, Bool, false, List, [], ◌∷◌, filter}
 use Rattle.std.specs.List.{list_any}
 use Rattle.std.specs.Str.{bytes_eq}
+use Rattle.apt_base.specs.Elements.{same_element}
 use Rattle.apt_base.specs.declared.element.ElementRef.{ElementRef}
 use Rattle.element_table.specs.TypeTable.{TypeTable}
-use Rattle.type_mirror.specs.Substitution.{same_element}
 use Rattle.type_levels.specs.Answers.{any}
 use Rattle.type_levels.specs.declared.answer.Answer.TheVariants.{No}
 use Rattle.type_elements.specs.MemberElements.{MemberName, FieldName, TypeName, MethodName, OfConstructor, NoName, member_name}

@@ -14,7 +14,7 @@ use crate::remembered::Remembered;
 use apt_base::{ElementRef, List, NoMemory};
 use element_table::Table;
 use std::alloc::Global;
-use type_elements::{class_elements, enclosed, is_same_element};
+use type_elements::{class_elements, enclosed};
 use type_levels::Answer;
 use type_numbers::Types;
 use type_relations::header_types;
@@ -23,33 +23,31 @@ const ALL_STEPS: u32 = 64;
 
 // ---- one member
 
-// Whether a member is in the list: those of its name are compared alone.
+// Whether a member is in the list: those of its name are compared alone, and counted.
 fn is_among(list: &Listing<'_>, at: &ElementRef, budget: &mut Compared) -> Result<bool, NoMemory>
     ensures { IfOk result (λ r. r ≡ members.is_among list.now.list at.now) }
 {
     let places = list.places(at)?;
     budget.take(places.len())?;
     for place in places {
-        if is_same_element(at, list.get(*place)) {
+        if at.is_equal(list.get(*place)) {
             return Ok(true);
         }
     }
     Ok(false)
 }
 
-// Whether one of the list hides or overrides a member in a type: those of its name are asked alone.
+// Whether one of the list hides or overrides a member in a type: those of its name are asked alone, which are counted where it is looked for among them.
 fn is_displaced(
     alloc: Global,
     types: &mut Types,
     within: &ElementRef,
     list: &Listing<'_>,
     at: &ElementRef,
-    budget: &mut Compared,
 ) -> Result<Answer, NoMemory>
     ensures { IfOk result (λ r. r ≡ members.is_displaced list.now.table within.now list.now.list at.now) }
 {
     let places = list.places(at)?;
-    budget.take(places.len())?;
     let mut answer = Answer::No;
     for place in places {
         let one = displaces(alloc, list.table(), types, within, list.get(*place), at)?;
@@ -76,7 +74,7 @@ fn add_inherited(
     if is_among(list, at, budget)? {
         return Ok(true);
     }
-    match is_displaced(alloc, types, within, list, at, budget)? {
+    match is_displaced(alloc, types, within, list, at)? {
         Answer::Yes => Ok(true),
         Answer::Open => Ok(false),
         Answer::No => {
@@ -216,7 +214,7 @@ fn gathered(
 
 /// The members of a type (JLS 8.2, 9.2), its own first and then those that it inherits of the superclass and of the interfaces in order; `None` where the supertypes go on behind 64 levels, or where a question on hiding or overriding between two of them has no answer within 64 steps.
 ///
-/// Each type is listed once, and a member is compared with those of its name alone. Want of memory comes also where more than 1,048,576 pairs of one name would be compared.
+/// Each type is listed once, and a member is compared with those of its name alone. Out of memory comes also where more than 1,048,576 pairs of one name would be compared: each member that a type may inherit is a pair with each one of its name that the list has by then.
 pub fn all_members(
     alloc: Global,
     table: &Table,

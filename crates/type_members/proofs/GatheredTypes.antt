@@ -1,26 +1,22 @@
 -- How the types that are reached are gathered: elements are added behind those that are there, and once all were looked at nothing more is reached.
-use Rattle.std.proofs.Common.{◌≡◌, ◌↔◌, ℕ, ◌+◌, ◌<◌, ◌≤◌, Bool, true, false, cond, ◌||◌, List, [], ◌∷◌, ◌++◌, length, get_or, take, drop, map, unwrap_or, Option, None, Some, eqb, refl, sym, ap, ◌∙◌, subst, arith, if◌then◌else◌}
+use Rattle.std.proofs.Common.{◌≡◌, ◌↔◌, ℕ, ◌+◌, ◌<◌, ◌≤◌, Bool, true, false, ◌||◌, List, [], ◌∷◌, ◌++◌, length, get_or, take, drop, map, Option, None, Some, eqb, refl, sym, ap, ◌∙◌, subst, arith, if◌then◌else◌}
 use Rattle.std.proofs.lemmas.Bool.{eqb-true, false≢true}
-use Rattle.std.proofs.lemmas.List.{append_assoc, append-nil, map-append, length-map, take_all, take-append-le, take-append-drop}
+use Rattle.std.proofs.lemmas.List.{append-nil, map-append, length-map, take_all, take-append-le, take-append-drop}
 use Rattle.std.proofs.lemmas.List.Folds.{list_any-append, list_any_at}
 use Rattle.std.proofs.Math.ListN.{get_or-map}
 use Rattle.std.specs.Prelude.{IsTrue}
 use Rattle.std.specs.List.{AllByRecursion, list_any, cons_option}
+use Rattle.apt_base.specs.Elements.{same_element}
 use Rattle.apt_base.specs.declared.element.ElementRef.{ElementRef}
 use Rattle.element_table.specs.TypeTable.{TypeTable}
 use Rattle.type_mirror.specs.declared.mirror.Mirror.{Mirror}
-use Rattle.type_mirror.specs.Substitution.{same_element}
 use Rattle.type_mirror.proofs.Replacements.{same_element-true}
 use Rattle.type_layers.specs.Layers.{Declared, mirror_of, declared_mirror}
 use Rattle.type_layers.proofs.LayerLaws.{layer-mirror_of}
-use Rattle.type_resolve.specs.Scopes.{is_type}
-use Rattle.type_relations.specs.Direct.{direct}
-use Rattle.type_elements.specs.TypeOf.{type_of}
 use Rattle.type_elements.specs.MemberElements.{class_element, class_elements, element_in, same_class}
 use Rattle.type_numbers.specs.Numbers.{at, IsKnown, AreKnown, Stands, AllStand, Grows}
 use Rattle.type_numbers.proofs.LayerMaps.{all_split, all-at}
-use Rattle.type_numbers.proofs.NumberLaws.{grown-at, grown-all_known, grown-types}
-use Rattle.type_steps.specs.Supertypes.{AllMayStand, direct_at}
+use Rattle.type_numbers.proofs.NumberLaws.{grown-all_known, grown-types}
 use Rattle.type_members.specs.Gathered.{is_among, has_at, Adds, AddsEach, AddsSteps, types_of, IsGathering}
 use Rattle.type_members.specs.MemberOf.{is_of}
 use Rattle.type_members.specs.Once.{with_new}
@@ -34,10 +30,6 @@ all_taken : {M : Type 0} (P : M → Type 0) (n : ℕ) (xs : List M) → AllByRec
 all_taken P n xs all = (all_split P (take n xs) (drop n xs) (subst (AllByRecursion P) (sym (take-append-drop n xs)) all)).0
 
 -- ---- tests
-
-or_joined : (a b c : Bool) → ((a || b) || c) ≡ (a || (b || c))
-or_joined true b c = refl
-or_joined false b c = refl
 
 or_none : (a : Bool) → (a || false) ≡ a
 or_none true = refl
@@ -134,15 +126,6 @@ adds_none t numbers m all none = record {
   has = λ element. sym (ap (λ b. has_at t numbers element || (b || false)) (of_none element m none) ∙ or_none (has_at t numbers element));
 }
 
--- nothing is added
-pub adds_nothing : (t : List Mirror) (numbers : List ℕ) → AreKnown t numbers → Adds t t numbers numbers []
-adds_nothing t numbers all = record {
-  known = all;
-  more = [];
-  behind = sym (append-nil numbers);
-  has = λ element. sym (or_none (has_at t numbers element));
-}
-
 -- a class type of the element is added
 pub adds_class : (t t' : List Mirror) (numbers longer : List ℕ) (m : Mirror) (element : ElementRef) (n : ℕ) → AreKnown t numbers → Grows t t' → class_element m ≡ Some element
     → Stands t' n (declared_mirror element None []) → longer ≡ with_new numbers n → Adds t t' numbers longer (m ∷ [])
@@ -156,40 +139,7 @@ adds_class t t' numbers longer m is n all g of stands e = record {
       ∙ ap (λ b. has_at t numbers element || b) (sym (or_none (is_of element m)));
 }
 
--- more types behind some
-pub adds_both : (t t' t'' : List Mirror) (numbers longer longest : List ℕ) (types others : List Mirror) → Adds t t' numbers longer types → Adds t' t'' longer longest others
-    → Adds t t'' numbers longest (types ++ others)
-adds_both t t' t'' numbers longer longest types others one other = record {
-  known = other.known;
-  more = one.more ++ other.more;
-  behind = other.behind ∙ ap (λ (ns : List ℕ). ns ++ other.more) one.behind ∙ append_assoc numbers one.more other.more;
-  has = λ element.
-      other.has element ∙ ap (λ b. b || list_any (is_of element) others) (one.has element)
-      ∙ or_joined (has_at t numbers element) (list_any (is_of element) types) (list_any (is_of element) others)
-      ∙ ap (λ b. has_at t numbers element || b) (sym (list_any-append (is_of element) types others));
-}
-
--- ---- one type after another
-
-module _ (t t' t'' : List Mirror) (numbers longer longest types : List ℕ) (i : ℕ) where
-  pub adds_next : i < length types → AreKnown t types → Grows t t' → AddsEach t t' numbers longer (take i types)
-      → Adds t' t'' longer longest (at t' (get_or types i 0) ∷ []) → AddsEach t t'' numbers longest (take (i + 1) types)
-  adds_next less all g so_far one =
-      let n = get_or types i 0 in
-      let same : at t' n ≡ at t n = grown-at t t' n g (all-at (IsKnown t) types i 0 all less) in
-      let both = adds_both t t' t'' numbers longer longest (map (at t) (take i types)) (at t' n ∷ []) so_far one in
-      let front : map (at t) (take (i + 1) types) ≡ map (at t) (take i types) ++ at t n ∷ [] =
-      ap (map (at t)) (take_more types i less) ∙ map-append (at t) (take i types) (n ∷ []) in
-      subst (Adds t t'' numbers longest) (ap (λ (m : Mirror). map (at t) (take i types) ++ m ∷ []) same ∙ sym front) both
-
-  pub adds_all : length types ≤ i → AddsEach t t' numbers longer (take i types) → AddsEach t t' numbers longer types
-  adds_all less so_far = subst (AddsEach t t' numbers longer) (take_all i types less) so_far
-
 -- ---- a step
-
-pub adds_no_steps : (table : TypeTable) (t : List Mirror) (numbers : List ℕ) (number : ℕ) → AreKnown t numbers → class_element (at t number) ≡ None
-    → AddsSteps table t t numbers numbers number
-adds_no_steps table t numbers number all none = subst (Adds t t numbers numbers) (sym (ap (types_of table) none)) (adds_nothing t numbers all)
 
 pub adds_steps : (table : TypeTable) (t t' t'' : List Mirror) (numbers longer next : List ℕ) (number : ℕ) (element : ElementRef) → class_element (at t number) ≡ Some element
     → Grows t t' → AreKnown t numbers → AllStand t' next (types_from table element) → AddsEach t' t'' numbers longer next → AddsSteps table t t'' numbers longer number
@@ -201,30 +151,6 @@ adds_steps table t t' t'' numbers longer next number is of g all stand adds = re
       adds.has element
       ∙ (λ i. has_grown t t' numbers element g all i || list_any (is_of element) ((stand.types ∙ sym (ap (types_of table) of)) i));
 }
-
--- ---- the types from which one step leads on
-
-module _ (table : TypeTable) (element : ElementRef) where
-  types_if : (b : Bool) → is_type table element ≡ b → types_from table element ≡ cond b (unwrap_or (direct table (type_of table element)) []) []
-  types_if b e = ap (λ c. cond c (unwrap_or (direct table (type_of table element)) []) []) e
-
-  none_stand : (t : List Mirror) (list : List ℕ) (types : List Mirror) → list ≡ [] → types ≡ [] → AllStand t list types
-  none_stand t list types e none = record { known = subst (AreKnown t) (sym e) tt; types = ap (map (at t)) e ∙ sym none }
-
-  -- of what is no type
-  pub from_none : (t : List Mirror) (list : List ℕ) → list ≡ [] → is_type table element ≡ false → AllStand t list (types_from table element)
-  from_none t list e fails = none_stand t list (types_from table element) e (types_if false fails)
-
-  module _ (t t' : List Mirror) (own : ℕ) (passes : is_type table element ≡ true) (stands : Stands t own (type_of table element)) where
-    from_own : types_from table element ≡ unwrap_or (direct_at table t own) []
-    from_own = types_if true passes ∙ ap (λ (m : Mirror). unwrap_or (direct table m) []) (sym stands.type)
-
-    -- of a type whose supertypes are open
-    pub from_open : (list : List ℕ) → list ≡ [] → AllMayStand t' None (direct_at table t own) → AllStand t' list (types_from table element)
-    from_open list e may = none_stand t' list (types_from table element) e (from_own ∙ ap (λ (o : Option (List Mirror)). unwrap_or o []) (sym may.types))
-
-    pub from_given : (list : List ℕ) → AllMayStand t' (Some list) (direct_at table t own) → AllStand t' list (types_from table element)
-    from_given list may = record { known = may.known; types = sym (from_own ∙ ap (λ (o : Option (List Mirror)). unwrap_or o []) (sym may.types)) }
 
 -- ---- gathering
 

@@ -4,9 +4,9 @@ use Rattle.std.proofs.lemmas.Bool.{false≢true}
 use Rattle.std.proofs.lemmas.Slice.Eq.{bytes_eq-Decides}
 use Rattle.std.specs.List.{list_any}
 use Rattle.std.specs.Str.{bytes_eq}
+use Rattle.apt_base.specs.Elements.{same_element}
 use Rattle.apt_base.specs.declared.element.ElementRef.{ElementRef}
 use Rattle.element_table.specs.TypeTable.{TypeTable}
-use Rattle.type_mirror.specs.Substitution.{same_element}
 use Rattle.type_mirror.proofs.Replacements.{same_element-true}
 use Rattle.type_members.specs.Reached.{steps_from, reached_within}
 use Rattle.type_members.specs.Gathered.{is_among, ClosedTestsHold, StepsReach}

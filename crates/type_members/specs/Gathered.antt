@@ -1,10 +1,10 @@
 -- How the types that are reached from a type are gathered: by the numbers of class types of them, and how many of these were looked at.
 use Rattle.std.specs.Prelude.{◌≡◌, ℕ, Bool, true, false, ◌||◌, List, [], ◌++◌, map, take, Option, None, Some}
 use Rattle.std.specs.List.{list_any}
+use Rattle.apt_base.specs.Elements.{same_element}
 use Rattle.apt_base.specs.declared.element.ElementRef.{ElementRef}
 use Rattle.element_table.specs.TypeTable.{TypeTable}
 use Rattle.type_mirror.specs.declared.mirror.Mirror.{Mirror}
-use Rattle.type_mirror.specs.Substitution.{same_element}
 use Rattle.type_elements.specs.MemberElements.{class_element}
 use Rattle.type_numbers.specs.Numbers.{at, AreKnown}
 use Rattle.type_members.specs.MemberOf.{is_of}

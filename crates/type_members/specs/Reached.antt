@@ -1,10 +1,10 @@
 -- Which types are reached from a type by direct supertypes, as elements and by any number of steps.
 use Rattle.std.specs.Prelude.{ℕ, zero, suc, Bool, ◌||◌, IsTrue, List, [], Option, None, Some, unwrap_or, if◌then◌else◌}
 use Rattle.std.specs.List.{list_any}
+use Rattle.apt_base.specs.Elements.{same_element}
 use Rattle.apt_base.specs.declared.element.ElementRef.{ElementRef}
 use Rattle.element_table.specs.TypeTable.{TypeTable}
 use Rattle.type_mirror.specs.declared.mirror.Mirror.{Mirror}
-use Rattle.type_mirror.specs.Substitution.{same_element}
 use Rattle.type_resolve.specs.Scopes.{is_type}
 use Rattle.type_relations.specs.Direct.{direct}
 use Rattle.type_elements.specs.TypeOf.{type_of}

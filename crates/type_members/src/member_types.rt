@@ -9,7 +9,7 @@ use crate::levels::{Level, further};
 use apt_base::{ElementRef, NoMemory};
 use element_table::Table;
 use std::alloc::Global;
-use type_elements::{is_in_parameterized, is_same_element, is_static, type_of_element};
+use type_elements::{is_in_parameterized, is_static, type_of_element};
 use type_numbers::{Node, Types};
 use type_relations::around_of;
 use type_steps::{erasure_of, is_raw, replaced_in};
@@ -36,7 +36,7 @@ pub(crate) fn is_of(types: &Types, element: &ElementRef, number: usize) -> bool
     ensures { result ≡ members.is_of element.now (at types.now number) }
 {
     match types.node(number) {
-        Node::Declared(other, _, _) => is_same_element(element, other),
+        Node::Declared(other, _, _) => element.is_equal(other),
         _ => false,
     }
 }

@@ -5,10 +5,10 @@ use Rattle.std.specs.Option.{option_map}
 use Rattle.std.specs.Str.{bytes_eq}
 use Rattle.std.proofs.lemmas.Map.Keys.{IsDistinct-head, IsDistinct-tail}
 use Rattle.std.proofs.lemmas.Slice.Eq.{bytes_eq-Decides}
+use Rattle.apt_base.specs.Elements.{same_element}
 use Rattle.apt_base.proofs.FieldsLemmas.{some_is}
 use Rattle.apt_base.specs.declared.element.ElementRef.{ElementRef}
 use Rattle.type_mirror.specs.declared.mirror.Mirror.{Mirror}
-use Rattle.apt_base.specs.Elements.{same_element}
 use Rattle.type_mirror.specs.Substitution.{Replacements, AreDistinct, is_distinct, replacement}
 
 -- both tests hold

@@ -2,7 +2,7 @@
 use Rattle.std.specs.Prelude.{◌≡◌, Bool, true, not, ◌&&◌, List, [], ◌∷◌, map, find, unwrap_or, Option, None}
 use Rattle.std.specs.List.{IsDistinct, AllByRecursion, flat_map, list_any}
 use Rattle.std.specs.Option.{option_map}
-pub use Rattle.apt_base.specs.Elements.{same_element}
+use Rattle.apt_base.specs.Elements.{same_element}
 use Rattle.apt_base.specs.declared.element.ElementRef.{ElementRef}
 use Rattle.type_mirror.specs.declared.mirror.BaseMirror.{BaseMirror}
 use Rattle.type_mirror.specs.declared.mirror.BaseMirror.TheVariants as base

@@ -5,3 +5,5 @@ pub mod KeyLaws
 pub mod LayerMaps
 pub mod NumberLaws
 pub mod RememberedValues
+pub mod ReplacedLayers
+pub mod ReplacedSteps

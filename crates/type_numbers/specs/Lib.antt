@@ -3,3 +3,4 @@ pub mod Keys
 pub mod Nodes
 pub mod Numbers
 pub mod Remembered
+pub mod Replaced

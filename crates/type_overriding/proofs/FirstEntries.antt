@@ -1,5 +1,6 @@
 -- Where a variable stands several times in a list of replacements its first entry counts, so that the others may be left out.
 use Rattle.std.proofs.Common.{◌≡◌, Bool, true, false, cond, ◌||◌, [], ◌∷◌, ◌++◌, find, unwrap_or, Option, Some, option_map, refl, sym, ap, append_assoc, append-nil, ◌∙◌}
+use Rattle.apt_base.specs.Elements.{same_element}
 use Rattle.apt_base.specs.declared.element.ElementRef.{ElementRef}
 use Rattle.type_mirror.specs.declared.mirror.BaseMirror.TheVariants as base
 use Rattle.type_mirror.specs.declared.mirror.BaseMirror.TheOpen.{BaseMirror-F}
@@ -8,7 +9,7 @@ use Rattle.type_mirror.specs.declared.mirror.DeclaredMirror.{DeclaredMirror}
 use Rattle.type_mirror.specs.declared.mirror.ExecutableMirror.{ExecutableMirror}
 use Rattle.type_mirror.specs.declared.mirror.Mirror.{Mirror}
 use Rattle.type_mirror.specs.Parts.{plain}
-use Rattle.type_mirror.specs.Substitution.{Replacements, same_element, in_place, replaced_base, replaced_declared, replaced_executable, replaced_mirror, substituted}
+use Rattle.type_mirror.specs.Substitution.{Replacements, in_place, replaced_base, replaced_declared, replaced_executable, replaced_mirror, substituted}
 use Rattle.type_mirror.proofs.Replacements.{same_element-true}
 use Rattle.type_relations.specs.RawTypes.{has_entry, added, once_behind}
 

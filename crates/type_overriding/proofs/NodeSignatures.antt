@@ -15,7 +15,7 @@ use Rattle.type_numbers.specs.Nodes.{layer_of}
 use Rattle.type_numbers.specs.Numbers.{at, IsKnown, AreKnown, Grows, with_types}
 use Rattle.type_numbers.proofs.AddedTypes.{executable-split}
 use Rattle.type_numbers.proofs.NumberLaws.{grown-types}
-use Rattle.type_substitution.proofs.ReplacedSteps.{all_known-below}
+use Rattle.type_numbers.proofs.ReplacedSteps.{all_known-below}
 use Rattle.type_steps.proofs.LayersOfNumbers.{copy-shows}
 use Rattle.type_subtypes.specs.Subsignature.{same_erased, of_executables, executable_in, subsignature}
 use Rattle.type_subtypes.proofs.SignatureLaws.{no-one, no-other}

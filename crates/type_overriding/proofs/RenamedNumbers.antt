@@ -9,8 +9,8 @@ use Rattle.type_layers.specs.Layers.{Variable, mirror_of}
 use Rattle.type_numbers.specs.Numbers.{at, IsKnown, Stands, Grows}
 use Rattle.type_numbers.proofs.LayerMaps.{all_joined}
 use Rattle.type_numbers.proofs.NumberLaws.{grows-itself, grows-on}
-use Rattle.type_substitution.specs.Replaced.{Numbered, AreKnownIn, replacements_in}
-use Rattle.type_substitution.proofs.ReplacedSteps.{grown-known_in, grown-replacements}
+use Rattle.type_numbers.specs.Replaced.{Numbered, AreKnownIn, replacements_in}
+use Rattle.type_numbers.proofs.ReplacedSteps.{grown-known_in, grown-replacements}
 use Rattle.type_subtypes.specs.Subsignature.{as_types}
 use Rattle.type_subtypes.proofs.RenamedVariables.{as_type, entries_from}
 

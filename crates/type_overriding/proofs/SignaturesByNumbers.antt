@@ -15,8 +15,8 @@ use Rattle.type_numbers.specs.Numbers.{at, IsKnown, AreKnown, Stands, OptionStan
 use Rattle.type_numbers.proofs.LayerMaps.{all-at}
 use Rattle.type_numbers.proofs.NumberLaws.{grown-at, grown-known, grown-types, grows-itself, grows-on}
 use Rattle.type_relations.specs.Erasure.{erasure}
-use Rattle.type_substitution.specs.Replaced.{Numbered, AreKnownIn, replacements_in, replaced_at}
-use Rattle.type_substitution.proofs.ReplacedSteps.{grown-replaced}
+use Rattle.type_numbers.specs.Replaced.{Numbered, AreKnownIn, replacements_in, replaced_at}
+use Rattle.type_numbers.proofs.ReplacedSteps.{grown-replaced}
 use Rattle.type_steps.specs.Supertypes.{erasure_at}
 use Rattle.type_subtypes.specs.Subsignature.{all_same, as_types, renamed, is_erased, same_erased}
 use Rattle.type_subtypes.proofs.SignatureLaws.{all_same-apart, all_same-broken, all_same-next, all_same-all, same_renamed-paired, erased-apart, erased-next, erased-all}

@@ -11,7 +11,7 @@ use Rattle.type_levels.specs.declared.answer.Answer.{Answer}
 use Rattle.type_numbers.specs.Nodes.{layer_of}
 use Rattle.type_numbers.specs.Numbers.{at, with_types}
 use Rattle.type_numbers.specs.declared.node.Node.{Node}
-use Rattle.type_substitution.specs.Replaced.{Numbered, replacements_in}
+use Rattle.type_numbers.specs.Replaced.{Numbered, replacements_in}
 use Rattle.type_relations.specs.Closed.{both_closed}
 use Rattle.type_steps.specs.Supertypes.{erasure_at}
 use Rattle.type_subtypes.specs.Subsignature.{all_same, same_renamed, is_erased, same_erased, of_executables, subsignature}

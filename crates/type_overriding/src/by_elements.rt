@@ -12,7 +12,6 @@ use apt_base::{ElementRef, NoMemory};
 use element_table::Table;
 use std::alloc::Global;
 use std::marker::Model;
-use type_elements::is_same_element;
 use type_levels::{Answer, Next, Pair, Relation, related};
 use type_members::number_of;
 use type_mirror::Mirror;
@@ -44,7 +43,7 @@ fn are_of_one_element(one: &Node, other: &Node) -> bool
 {
     match one {
         Node::Declared(at, _, _) => match other {
-            Node::Declared(element, _, _) => is_same_element(at, element),
+            Node::Declared(element, _, _) => at.is_equal(element),
             _ => false,
         },
         _ => false,

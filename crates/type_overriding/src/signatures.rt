@@ -5,7 +5,7 @@ ghost use Rattle.type_layers.specs.Layers.{parts_of};
 ghost use Rattle.type_layers.specs.Same as sameness;
 ghost use Rattle.type_numbers.specs.Numbers.{at, IsKnown, AreKnown, Grows};
 ghost use Rattle.type_numbers.specs.Nodes.{layer_of};
-ghost use Rattle.type_substitution.specs.Replaced.{AreKnownIn, replacements_in};
+ghost use Rattle.type_numbers.specs.Replaced.{AreKnownIn, replacements_in};
 ghost use Rattle.type_subtypes.specs.Subsignature.{as_types};
 ghost use Rattle.type_overriding.specs.ByNumbers.{same_at, renamed_at, is_erased_at, erased_at};
 ghost use Rattle.type_overriding.specs.ByNumbers.{SignAt, nodes_signature, signature_at};
@@ -14,9 +14,8 @@ use apt_base::{ElementRef, List, NoMemory};
 use element_table::Table;
 use std::alloc::Global;
 use type_levels::Answer;
-use type_numbers::{Node, Types};
+use type_numbers::{Node, Types, substitute};
 use type_steps::erasure_of;
-use type_substitution::substitute;
 
 // ---- the same types
 

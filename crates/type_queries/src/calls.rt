@@ -1,4 +1,6 @@
 // The questions on types, one call each.
+ghost use Rattle.std.specs.Prelude.{◌≢◌, Err};
+ghost use Rattle.type_queries.specs.declared.fault.QueryFault.TheVariants as fault;
 ghost use Rattle.type_queries.specs.Questions.{same_question, type_question, print_question, boxed_question, unboxed_question, direct_question, erasure_question};
 ghost use Rattle.type_queries.specs.Verdicts.{Gives};
 
@@ -15,10 +17,11 @@ use type_relations::{box_of, boxed_kind, direct, erasure_within, is_there, primi
 
 const ALL_STEPS: u32 = 64;
 
-/// Whether both are the same type, as `isSameType` of `javax.lang.model.util.Types` tells: equal mirrors, of which a wildcard is the same as nothing. `NoSuch` where one names an element that is not there. It takes no memory.
+/// Whether both are the same type, as `isSameType` of `javax.lang.model.util.Types` tells: equal mirrors, of which a wildcard is the same as nothing. `NoSuch` where one names an element that is not there, which is the only fault that comes: it takes no memory.
 #[tactic(auto, unfolding(crate::specs::Questions::same_question))]
 pub fn is_same(table: &Table, a: &Mirror, b: &Mirror) -> Result<bool, QueryFault>
-    ensures { Gives result (same_question table.now a.now b.now) }
+    ensures value { Gives result (same_question table.now a.now b.now) }
+    ensures memory { result ≢ Err fault.Memory }
 {
     if !are_there(table, a) {
         return Err(QueryFault::NoSuch);

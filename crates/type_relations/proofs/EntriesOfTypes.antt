@@ -4,6 +4,7 @@ use Rattle.std.proofs.lemmas.List.{map-append}
 use Rattle.std.proofs.lemmas.List.Sums.{fold-append}
 use Rattle.std.specs.List.{zip, IsDistinct, AllByRecursion}
 use Rattle.std.specs.Option.{option_map}
+use Rattle.apt_base.specs.Elements.{same_element}
 use Rattle.apt_base.specs.declared.element.ElementRef.{ElementRef}
 use Rattle.element_table.specs.TypeTable.{TypeTable}
 use Rattle.type_mirror.specs.declared.mirror.PrimitiveKind.{PrimitiveKind}
@@ -15,7 +16,7 @@ use Rattle.type_mirror.specs.declared.mirror.BaseMirror.TheVariants as base
 use Rattle.type_mirror.specs.declared.mirror.DeclaredMirror.{DeclaredMirror, out-DeclaredMirror}
 use Rattle.type_mirror.specs.declared.mirror.ExecutableMirror.{ExecutableMirror}
 use Rattle.type_mirror.specs.Parts.{plain}
-use Rattle.type_mirror.specs.Substitution.{Replacements, AreDistinct, same_element}
+use Rattle.type_mirror.specs.Substitution.{Replacements, AreDistinct}
 use Rattle.type_layers.specs.Layers.{Layer, layer, layer_in, map_layer, declared_layer, by_parts}
 use Rattle.type_layers.proofs.LayerLaws.{MirrorLayer}
 use Rattle.type_layers.proofs.BaseLayers.{layer-Primitive, layer-Declared, layer-Error, layer-Variable, layer-Wildcard, layer-Executable, layer-Nothing, layer-Void, layer-Null, layer-Package}

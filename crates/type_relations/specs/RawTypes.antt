@@ -1,13 +1,14 @@
 -- Raw types (JLS 4.8), and what a class type puts in the place of type parameters (JLS 4.10.2).
 use Rattle.std.specs.Prelude.{Bool, false, List, [], ◌∷◌, ◌++◌, map, fold, Option, None, Some, if◌then◌else◌}
 use Rattle.std.specs.List.{zip, list_any}
+use Rattle.apt_base.specs.Elements.{same_element}
 use Rattle.apt_base.specs.declared.element.ElementRef.{ElementRef}
 use Rattle.element_table.specs.TypeTable.{TypeTable}
 use Rattle.type_mirror.specs.declared.mirror.Mirror.{Mirror}
 use Rattle.type_mirror.specs.declared.mirror.BaseMirror.TheVariants as base
 use Rattle.type_mirror.specs.declared.mirror.DeclaredMirror.{DeclaredMirror}
 use Rattle.type_mirror.specs.Parts.{plain}
-use Rattle.type_mirror.specs.Substitution.{Replacements, same_element, substituted}
+use Rattle.type_mirror.specs.Substitution.{Replacements, substituted}
 use Rattle.type_layers.specs.Layers.{Layer, Declared, layer, Held, by_parts}
 use Rattle.type_relations.specs.Elements.{type_parameters, has_type_parameters}
 

@@ -40,15 +40,7 @@ fn primitive_base(base: &BaseMirror) -> Option<PrimitiveKind>
 {
     match base {
         BaseMirror::Primitive(kind) => Some(*kind),
-        BaseMirror::Declared(_) => None,
-        BaseMirror::Error(_) => None,
-        BaseMirror::Variable(_) => None,
-        BaseMirror::Wildcard => None,
-        BaseMirror::Executable(_) => None,
-        BaseMirror::Nothing => None,
-        BaseMirror::Void => None,
-        BaseMirror::Null => None,
-        BaseMirror::Package(_) => None,
+        _ => None,
     }
 }
 

@@ -192,18 +192,10 @@ fn base_erasure(
     ensures { IfOk result (λ e. e ≡ base_erasure table.now steps base.now) }
 {
     match base {
-        BaseMirror::Primitive(_) => itself(alloc, base),
-        BaseMirror::Declared(declared) => bare_class(alloc, &declared.element),
-        BaseMirror::Error(_) => itself(alloc, base),
-        BaseMirror::Variable(at) => variable_erasure(alloc, table, steps, at),
-        BaseMirror::Wildcard => some_object(alloc, table),
         BaseMirror::Executable(executable) => {
             executable_erasure(alloc, table, steps, executable)
         }
-        BaseMirror::Nothing => itself(alloc, base),
-        BaseMirror::Void => itself(alloc, base),
-        BaseMirror::Null => itself(alloc, base),
-        BaseMirror::Package(_) => itself(alloc, base),
+        _ => simple_erasure(alloc, table, steps, base),
     }
 }
 

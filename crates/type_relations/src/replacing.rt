@@ -2,7 +2,7 @@
 ghost use Rattle.std.specs.Prelude.{◌≡◌, map, OnOk, IfOk};
 ghost use Rattle.std.specs.List.{zip};
 ghost use Rattle.type_mirror.specs.Parts.{plain};
-ghost use Rattle.type_mirror.specs.Substitution.{same_element, substituted, AreDistinct};
+ghost use Rattle.type_mirror.specs.Substitution.{substituted, AreDistinct};
 ghost use Rattle.type_relations.specs.RawTypes as raw;
 ghost use Rattle.type_relations.specs.RawTypes.{added, entries, once_behind};
 
@@ -12,17 +12,11 @@ use element_table::Table;
 use std::alloc::Global;
 use type_mirror::{BaseMirror, DeclaredMirror, Mirror, substitute};
 
-fn is_same(one: &ElementRef, other: &ElementRef) -> bool
-    ensures { result ≡ same_element one.now other.now }
-{
-    one.unit.as_str() == other.unit.as_str() && one.path.as_slice() == other.path.as_slice()
-}
-
 fn has_entry(by: &[(ElementRef, Mirror)], at: &ElementRef) -> bool
     ensures { result ≡ raw.has_entry by.now at.now }
 {
     for pair in by {
-        if is_same(&pair.0, at) {
+        if pair.0.is_equal(at) {
             return true;
         }
     }

@@ -7,8 +7,8 @@ use Rattle.type_mirror.specs.Substitution.{Replacements, substituted}
 use Rattle.type_numbers.specs.Numbers.{at, AreKnown, Stands, AllStand, Grows}
 use Rattle.type_relations.specs.Named.{declared_supertypes}
 use Rattle.type_relations.specs.RawTypes.{replacements}
-use Rattle.type_substitution.specs.Replaced.{Numbered, AreKnownIn, replacements_in, replaced_at, all_replaced}
-use Rattle.type_substitution.proofs.ReplacedSteps.{grown-known_in, grown-replacements}
+use Rattle.type_numbers.specs.Replaced.{Numbered, AreKnownIn, replacements_in, replaced_at, all_replaced}
+use Rattle.type_numbers.proofs.ReplacedSteps.{grown-known_in, grown-replacements}
 use Rattle.type_steps.specs.Entries.{Replaces, in_class}
 use Rattle.type_steps.specs.Supertypes.{header_at}
 

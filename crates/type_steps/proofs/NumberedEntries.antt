@@ -6,10 +6,11 @@ use Rattle.std.proofs.lemmas.List.Sums.{fold-append}
 use Rattle.std.proofs.lemmas.Slice.Zip.{length-zip, get_or-zip}
 use Rattle.std.specs.List.{zip, AllByRecursion}
 use Rattle.std.specs.Option.{option_map, option_to_list}
+use Rattle.apt_base.specs.Elements.{same_element}
 use Rattle.apt_base.specs.declared.element.ElementRef.{ElementRef}
 use Rattle.element_table.specs.TypeTable.{TypeTable}
 use Rattle.type_mirror.specs.declared.mirror.Mirror.{Mirror}
-use Rattle.type_mirror.specs.Substitution.{Replacements, same_element}
+use Rattle.type_mirror.specs.Substitution.{Replacements}
 use Rattle.type_layers.specs.Layers.{Layer, Declared, layer, map_layer, by_parts, parts_of}
 use Rattle.type_numbers.specs.declared.node.Node.{Node}
 use Rattle.type_numbers.specs.declared.node.Node.TheVariants as node
@@ -19,7 +20,7 @@ use Rattle.type_numbers.proofs.LayerMaps.{all_joined, all_split, all_given}
 use Rattle.type_relations.specs.Elements.{type_parameters}
 use Rattle.type_relations.specs.RawTypes.{has_entry, added, once_behind, entries, entries_in, of_enclosing, replacements}
 use Rattle.type_relations.proofs.PartsByLayers.{held, held-mirrors, by_parts-layer}
-use Rattle.type_substitution.specs.Replaced.{Numbered, AreKnownIn, replacements_in}
+use Rattle.type_numbers.specs.Replaced.{Numbered, AreKnownIn, replacements_in}
 use Rattle.type_steps.specs.Entries.{has_number, with_number, with_numbers, entries_at, LeavesEntries, Replaces}
 use Rattle.type_steps.proofs.LayersOfNumbers.{NoClass, node-layer, node-falls}
 
@@ -126,17 +127,6 @@ own-known t number n element enclosing arguments before after ps ns known fall i
     let parts = all_split (λ (part : ℕ). part < number) (option_to_list enclosing) arguments (node-falls number n (node.Declared element enclosing arguments) fall is) in
     let inner : AreKnown t arguments = all_given (λ (part : ℕ). part < number) (IsKnown t) arguments (λ (part : ℕ) (less : part < number). omega (arith, less, known)) parts.1 in
     subst (AreKnownIn t) (sym e) (known-numbers t before (zip ps ns) all (known-zip t ps ns (subst (AreKnown t) (sym same) inner)))
-
-below_some : (number : ℕ) (enclosing : Option ℕ) → AllByRecursion (λ part. part < number) (option_to_list enclosing) → IfSome enclosing (λ o. o < number)
-below_some number None all = tt
-below_some number (Some o) all = all.0
-
--- the enclosing type has a smaller number
-pub enclosing-falls : (number : ℕ) (n : Node) (element : ElementRef) (enclosing : Option ℕ) (arguments : List ℕ)
-    → AllByRecursion (λ part. part < number) (parts_of (layer_of n)) → n ≡ node.Declared element enclosing arguments → IfSome enclosing (λ o. o < number)
-enclosing-falls number n element enclosing arguments fall is =
-    let parts = all_split (λ (part : ℕ). part < number) (option_to_list enclosing) arguments (node-falls number n (node.Declared element enclosing arguments) fall is) in
-    below_some number enclosing parts.0
 
 -- ---- the entries of a type
 

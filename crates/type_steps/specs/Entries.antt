@@ -1,12 +1,13 @@
 -- What a class type puts in the place of type parameters, with the numbers of types.
 use Rattle.std.specs.Prelude.{◌≡◌, Bool, ℕ, List, [], ◌∷◌, ◌++◌, fold, if◌then◌else◌, Option, None, Some}
 use Rattle.std.specs.List.{list_any}
+use Rattle.apt_base.specs.Elements.{same_element}
 use Rattle.apt_base.specs.declared.element.ElementRef.{ElementRef}
 use Rattle.element_table.specs.TypeTable.{TypeTable}
 use Rattle.type_mirror.specs.declared.mirror.Mirror.{Mirror}
-use Rattle.type_mirror.specs.Substitution.{Replacements, same_element, substituted}
+use Rattle.type_mirror.specs.Substitution.{Replacements, substituted}
 use Rattle.type_numbers.specs.Numbers.{at}
-use Rattle.type_substitution.specs.Replaced.{Numbered, replacements_in}
+use Rattle.type_numbers.specs.Replaced.{Numbered, replacements_in}
 use Rattle.type_relations.specs.RawTypes.{entries, once_behind, replacements}
 
 abbrev pub has_number : Numbered → ElementRef → Bool

@@ -1,29 +1,21 @@
 // What a class type with a number puts in the place of type parameters, by numbers.
 ghost use Rattle.std.specs.Prelude.{◌≡◌, ◌<◌, OnOk, IfOk, IfSome};
 ghost use Rattle.std.specs.List.{zip};
-ghost use Rattle.type_mirror.specs.Substitution.{same_element};
 ghost use Rattle.type_numbers.specs.Numbers.{IsKnown, Stands, Grows};
-ghost use Rattle.type_substitution.specs.Replaced.{AreKnownIn};
+ghost use Rattle.type_numbers.specs.Replaced.{AreKnownIn};
 ghost use Rattle.type_steps.specs.Entries.{has_number, with_number, with_numbers, LeavesEntries, Replaces, in_class};
 
 use apt_base::{ElementRef, List, NoMemory};
 use element_table::Table;
 use std::alloc::Global;
-use type_numbers::{Node, Types};
+use type_numbers::{Node, Types, substitute};
 use type_relations::type_parameters;
-use type_substitution::substitute;
-
-fn is_same(one: &ElementRef, other: &ElementRef) -> bool
-    ensures { result ≡ same_element one.now other.now }
-{
-    one.unit.as_str() == other.unit.as_str() && one.path.as_slice() == other.path.as_slice()
-}
 
 fn has_entry(by: &[(ElementRef, usize)], element: &ElementRef) -> bool
     ensures { result ≡ has_number by.now element.now }
 {
     for pair in by {
-        if is_same(&pair.0, element) {
+        if pair.0.is_equal(element) {
             return true;
         }
     }

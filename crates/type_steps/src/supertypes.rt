@@ -2,7 +2,7 @@
 ghost use Rattle.std.specs.Prelude.{[], Some, unwrap_or, IfOk};
 ghost use Rattle.type_numbers.specs.Numbers.{IsKnown, AreKnown, AllStand, Grows};
 ghost use Rattle.type_relations.specs.Direct as directs;
-ghost use Rattle.type_substitution.specs.Replaced.{AreKnownIn, all_replaced};
+ghost use Rattle.type_numbers.specs.Replaced.{AreKnownIn, all_replaced};
 ghost use Rattle.type_steps.specs.Arrays.{array_types};
 ghost use Rattle.type_steps.specs.Supertypes.{AllMayStand, direct_at, item_at, header_at, in_array};
 
@@ -14,9 +14,8 @@ use apt_base::{ElementRef, List, NoMemory};
 use element_table::Table;
 use std::alloc::Global;
 use type_mirror::{BaseMirror, Mirror, PrimitiveKind};
-use type_numbers::{Node, Types};
+use type_numbers::{Node, Types, substitute};
 use type_relations::{array_of, class_type, declared_supertypes, direct};
-use type_substitution::substitute;
 
 // Of a type that is small as a tree.
 fn of_mirror(

@@ -1,8 +1,8 @@
 -- What two types decide by themselves, by the nodes of their numbers.
 use Rattle.std.proofs.Common.{◌≡◌, ℕ, Bool, true, false, ◌&&◌, List, Option, None, Some, option_map, refl, sym, ap, ap₂, ◌∙◌, if◌then◌else◌}
+use Rattle.apt_base.specs.Elements.{same_element}
 use Rattle.apt_base.specs.declared.element.ElementRef.{ElementRef}
 use Rattle.type_mirror.specs.declared.mirror.Mirror.{Mirror}
-use Rattle.type_mirror.specs.Substitution.{same_element}
 use Rattle.type_layers.specs.Layers.{Layer, layer}
 use Rattle.type_layers.specs.Same.{same}
 use Rattle.type_levels.specs.Numbered.{Stands}

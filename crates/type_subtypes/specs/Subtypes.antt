@@ -1,8 +1,8 @@
 -- Subtypes (JLS 4.10) and contained type arguments (JLS 4.5.1) over a table, within a number of steps: what two types decide by themselves, and else the direct supertypes of the first one.
 use Rattle.std.specs.Prelude.{ℕ, Bool, true, false, ◌&&◌, List, Option, None, Some, if◌then◌else◌}
+use Rattle.apt_base.specs.Elements.{same_element}
 use Rattle.element_table.specs.TypeTable.{TypeTable}
 use Rattle.type_mirror.specs.declared.mirror.Mirror.{Mirror}
-use Rattle.type_mirror.specs.Substitution.{same_element}
 use Rattle.type_layers.specs.Layers.{Layer, Declared, Variable, Array, Unbounded, Extends, Super, Null, layer}
 use Rattle.type_layers.specs.Same.{same}
 use Rattle.type_levels.specs.Containment as argument

@@ -1,7 +1,6 @@
 // Subtypes by numbers: what a question about two types asks next.
 ghost use Rattle.std.specs.Prelude.{◌≡◌, IfOk, length};
 ghost use Rattle.std.specs.Option.{option_to_list};
-ghost use Rattle.type_mirror.specs.Substitution.{same_element};
 ghost use Rattle.type_layers.specs.Layers.{parts_of};
 ghost use Rattle.type_layers.specs.Same as sameness;
 ghost use Rattle.type_levels.specs.Numbered.{IsKnownQuestion};
@@ -56,12 +55,6 @@ pub(crate) fn is_same(types: &Types, one: usize, other: usize) -> bool
         return false;
     }
     types.is_equal(one, other)
-}
-
-fn is_same_element(one: &ElementRef, other: &ElementRef) -> bool
-    ensures { result ≡ same_element one.now other.now }
-{
-    one.unit.as_str() == other.unit.as_str() && one.path.as_slice() == other.path.as_slice()
 }
 
 fn same_enclosing(types: &Types, one: &Option<usize>, other: &Option<usize>) -> bool
@@ -165,7 +158,7 @@ impl<'a> Subtypes<'a> {
         match one {
             Node::Declared(at, enclosing, arguments) => match other {
                 Node::Declared(element, around, bounds) => {
-                    if !is_same_element(at, element) {
+                    if !at.is_equal(element) {
                         return Ok(None);
                     }
                     if !same_enclosing(types, enclosing, around) {

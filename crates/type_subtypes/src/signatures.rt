@@ -1,7 +1,7 @@
 // Subsignatures: the parameters of two methods or constructors.
 ghost use Rattle.std.specs.Prelude.{◌≡◌, [], IfOk, OnOk, length, map};
 ghost use Rattle.std.specs.Option.{option_copied, option_map};
-ghost use Rattle.type_mirror.specs.Substitution.{same_element, substituted, AreDistinct};
+ghost use Rattle.type_mirror.specs.Substitution.{substituted, AreDistinct};
 ghost use Rattle.type_layers.specs.Layers as layers;
 ghost use Rattle.type_layers.specs.Layers.{executable_layer, layer, layer_in, mirror_of};
 ghost use Rattle.type_levels.specs.Steps.{all_steps};
@@ -23,17 +23,11 @@ const ALL_STEPS: u32 = 64;
 
 // ---- variables renamed
 
-fn is_same_element(one: &ElementRef, other: &ElementRef) -> bool
-    ensures { result ≡ same_element one.now other.now }
-{
-    one.unit.as_str() == other.unit.as_str() && one.path.as_slice() == other.path.as_slice()
-}
-
 fn has_entry(by: &[(ElementRef, Mirror)], at: &ElementRef) -> bool
     ensures { result ≡ raw.has_entry by.now at.now }
 {
     for pair in by {
-        if is_same_element(&pair.0, at) {
+        if pair.0.is_equal(at) {
             return true;
         }
     }

@@ -5,7 +5,7 @@ use Rattle.type_layers.proofs.equality.+equality.Goals as goal
 pub is_equal_declared-returns : goal.is_equal_declared-returns
 is_equal_declared-returns t c =
     declared_by_arguments c.args.one.now c.args.other.now c.are_equal.result
-    (c.is_same_element.ensures.0 c.if-not-is_same_element.false)
+    (c.is_equal.ensures.same.0 c.if-not-is_equal.false)
     (c.is_equal_enclosing.ensures.0 c.if-not-is_equal_enclosing.false)
     (λ h. sym c.as_slice.ensures ∙ c.are_equal.ensures.0 h ∙ c.as_slice-2.ensures, λ same. c.are_equal.ensures.1 (c.as_slice.ensures ∙ same ∙ sym c.as_slice-2.ensures))
 

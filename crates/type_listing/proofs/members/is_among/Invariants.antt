@@ -1,6 +1,6 @@
 use Rattle.std.proofs.Common.{◌≡◌, drop}
 use Rattle.std.specs.List.{list_any}
-use Rattle.type_mirror.specs.Substitution.{same_element}
+use Rattle.apt_base.specs.Elements.{same_element}
 use Rattle.type_listing.specs.Listings.{member_at}
 use Rattle.type_listing.proofs.members.is_among.Given as goal
 

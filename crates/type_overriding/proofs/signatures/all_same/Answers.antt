@@ -1,5 +1,5 @@
 use Rattle.type_numbers.proofs.NumberLaws.{grows-on}
-use Rattle.type_substitution.proofs.ReplacedSteps.{grown-known_in}
+use Rattle.type_numbers.proofs.ReplacedSteps.{grown-known_in}
 use Rattle.type_overriding.proofs.SignaturesByNumbers.{place-known, within-both, same-broken, same-next, same-all}
 use Rattle.type_overriding.proofs.signatures.all_same.Goals as goal
 

@@ -1,6 +1,6 @@
 use Rattle.std.proofs.Common.{sym, ap, subst, ◌∙◌}
 use Rattle.type_numbers.proofs.NumberLaws.{grown-all_known}
-use Rattle.type_substitution.specs.Replaced.{AreKnownIn, replacements_in}
+use Rattle.type_numbers.specs.Replaced.{AreKnownIn, replacements_in}
 use Rattle.type_overriding.proofs.SignaturesByNumbers.{renamed-paired}
 use Rattle.type_overriding.proofs.signatures.same_renamed.Goals as goal
 

@@ -8,7 +8,7 @@ use Rattle.type_numbers.proofs.LayerMaps.{all-at}
 use Rattle.type_numbers.proofs.NumberLaws.{grown-known, grows-itself, grows-on}
 use Rattle.type_relations.specs.Direct.{all_steps}
 use Rattle.type_relations.specs.Erasure.{erasure}
-use Rattle.type_substitution.proofs.ReplacedSteps.{known-below, all_known-below}
+use Rattle.type_numbers.proofs.ReplacedSteps.{known-below, all_known-below}
 use Rattle.type_steps.specs.Supertypes.{AllMayStand, erasure_at, erasures_at}
 use Rattle.type_steps.proofs.LayersOfNumbers.{copy-shows, node-falls}
 use Rattle.type_steps.proofs.ErasuresByLayers.{AreErased, optional-same, erased-Declared, erased-Variable, erased-Unbounded, erased-Super, erased-Executable, erased-itself, erased-next, executable-parts, first-open, second-open, third-open, all-there}

@@ -2,8 +2,8 @@ use Rattle.std.proofs.Common.{◌+◌, ℕ, List, take, sym, subst}
 use Rattle.type_numbers.specs.Numbers.{IsKnown, AllStand}
 use Rattle.type_numbers.proofs.LayerMaps.{all-at}
 use Rattle.type_numbers.proofs.NumberLaws.{grows-on}
-use Rattle.type_substitution.specs.Replaced.{all_replaced}
-use Rattle.type_substitution.proofs.ReplacedSteps.{each-next}
+use Rattle.type_numbers.specs.Replaced.{all_replaced}
+use Rattle.type_numbers.proofs.ReplacedSteps.{each-next}
 use Rattle.type_steps.proofs.supertypes.substitute_each.Goals as goal
 
 pub loop-number-preserved : goal.loop-number-preserved

@@ -1,6 +1,6 @@
 use Rattle.std.proofs.Common.{take}
 use Rattle.type_numbers.specs.Numbers.{AllStand, Grows}
-use Rattle.type_substitution.specs.Replaced.{all_replaced}
+use Rattle.type_numbers.specs.Replaced.{all_replaced}
 use Rattle.type_steps.proofs.supertypes.substitute_each.Given as goal
 
 -- the types so far are replaced

@@ -3,9 +3,10 @@ use Rattle.std.specs.Prelude.{◌≡◌, ℕ, List, map, find, Option, Some}
 use Rattle.std.specs.List.{AllByRecursion}
 use Rattle.std.specs.Option.{option_map}
 use Rattle.std.specs.BTreeMap.{BTreeMap}
+use Rattle.apt_base.specs.Elements.{same_element}
 use Rattle.apt_base.specs.declared.element.ElementRef.{ElementRef}
 use Rattle.type_mirror.specs.declared.mirror.Mirror.{Mirror}
-use Rattle.type_mirror.specs.Substitution.{Replacements, same_element, in_place, substituted}
+use Rattle.type_mirror.specs.Substitution.{Replacements, in_place, substituted}
 use Rattle.type_layers.specs.Layers.{Layer, Variable, mirror_of, map_layer}
 use Rattle.type_numbers.specs.declared.node.Node.{Node}
 use Rattle.type_numbers.specs.Nodes.{layer_of}

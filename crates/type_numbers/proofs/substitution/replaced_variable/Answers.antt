@@ -1,8 +1,8 @@
 use Rattle.std.proofs.Common.{IfOk, sym, subst}
 use Rattle.type_mirror.specs.declared.mirror.Mirror.{Mirror}
 use Rattle.type_numbers.specs.Numbers.{Stands}
-use Rattle.type_substitution.proofs.ReplacedSteps.{stands-for, stays-without}
-use Rattle.type_substitution.proofs.substitution.replaced_variable.Goals as goal
+use Rattle.type_numbers.proofs.ReplacedSteps.{stands-for, stays-without}
+use Rattle.type_numbers.proofs.substitution.replaced_variable.Goals as goal
 
 pub returns-in-Some-clause-stands : goal.returns-in-Some-clause-stands
 returns-in-Some-clause-stands c = stands-for c.args.types.now c.args.by.now c.args.element c.in-Some.number c.requires (sym c.in-Some.ensures)

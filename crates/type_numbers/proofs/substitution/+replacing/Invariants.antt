@@ -1,8 +1,8 @@
 use Rattle.std.proofs.Common.{◌+◌, ◌*◌, ◌<◌, map, take, drop}
 use Rattle.std.specs.List.{AllByRecursion}
 use Rattle.type_numbers.specs.Numbers.{AllStand, Grows}
-use Rattle.type_substitution.specs.Replaced.{Remembers, replaced_at}
-use Rattle.type_substitution.proofs.substitution.+replacing.Given as goal
+use Rattle.type_numbers.specs.Replaced.{Remembers, replaced_at}
+use Rattle.type_numbers.proofs.substitution.+replacing.Given as goal
 
 -- each part has a smaller number
 abbrev pub decreases-replaced : goal.decreases-replaced

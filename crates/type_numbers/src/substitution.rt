@@ -3,29 +3,22 @@ ghost use Rattle.std.specs.Prelude.{◌≡◌, ◌<◌, IfOk};
 ghost use Rattle.std.specs.List.{AllByRecursion};
 ghost use Rattle.std.specs.Option.{option_to_list};
 ghost use Rattle.type_layers.specs.Layers.{parts_of};
-ghost use Rattle.type_mirror.specs.Substitution.{same_element};
 ghost use Rattle.type_numbers.specs.Nodes.{layer_of};
 ghost use Rattle.type_numbers.specs.Numbers.{IsKnown, Stands, AllStand, OptionStands, Grows};
-ghost use Rattle.type_substitution.specs.Replaced.{AreKnownIn, Remembers, number_for, replaced_at, replaced_node};
-ghost use Rattle.type_substitution.specs.Replaced.{replaced_variable, replaced_option, all_replaced};
+ghost use Rattle.type_numbers.specs.Replaced.{AreKnownIn, Remembers, number_for, replaced_at, replaced_node, replaced_variable, replaced_option, all_replaced};
 
+use crate::node::Node;
+use crate::types::Types;
 use apt_base::{ElementRef, List, NoMemory};
 use std::alloc::Global;
 use std::collections::BTreeMap;
-use type_numbers::{Node, Types};
-
-fn is_same(one: &ElementRef, other: &ElementRef) -> bool
-    ensures { result ≡ same_element one.now other.now }
-{
-    one.unit.as_str() == other.unit.as_str() && one.path.as_slice() == other.path.as_slice()
-}
 
 // The number of what is put in the place of that variable, where the list has it.
 fn number_for(by: &[(ElementRef, usize)], element: &ElementRef) -> Option<usize>
     ensures { result ≡ number_for by.now element.now }
 {
     for pair in by {
-        if is_same(&pair.0, element) {
+        if pair.0.is_equal(element) {
             return Some(pair.1);
         }
     }

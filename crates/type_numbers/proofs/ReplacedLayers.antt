@@ -14,7 +14,7 @@ use Rattle.type_mirror.specs.Substitution.{Replacements, substituted, substitute
 use Rattle.type_mirror.proofs.Replaced.{substituted-is, substituted_base-Primitive, substituted_base-Declared, substituted_base-Error, substituted_base-Variable, substituted_base-Wildcard, substituted_base-Executable, substituted_base-Nothing, substituted_base-Void, substituted_base-Null, substituted_base-Package, substituted_declared-roll, substituted_executable-roll}
 use Rattle.type_layers.specs.Layers.{Layer, Primitive, Declared, Error, Variable, Array, Unbounded, Extends, Super, Executable, Nothing, Void, Null, Package, layer, mirror_of, map_layer, declared_mirror, executable_mirror}
 use Rattle.type_layers.proofs.LayerLaws.{MirrorLayer, rolled_mirror, mirror_of-layer}
-use Rattle.type_substitution.specs.Replaced.{replaced_layer}
+use Rattle.type_numbers.specs.Replaced.{replaced_layer}
 
 wrapped_none : (m : Mirror) → wrapped [] m ≡ m
 wrapped_none m = roll-out-Mirror m

@@ -1,6 +1,6 @@
 use Rattle.std.proofs.Common.{◌≡◌, drop}
-use Rattle.type_substitution.specs.Replaced.{number_for}
-use Rattle.type_substitution.proofs.substitution.number_for.Given as goal
+use Rattle.type_numbers.specs.Replaced.{number_for}
+use Rattle.type_numbers.proofs.substitution.number_for.Given as goal
 
 -- what is left has the same for the variable
 abbrev pub invariant-loop-pair : goal.invariant-loop-pair

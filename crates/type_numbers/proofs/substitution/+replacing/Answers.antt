@@ -9,9 +9,9 @@ use Rattle.type_numbers.proofs.AddedTypes.{executable-split, executable-known}
 use Rattle.type_numbers.proofs.LayerMaps.{all-at}
 use Rattle.type_numbers.proofs.NumberLaws.{grown-known, grows-on}
 use Rattle.type_numbers.proofs.RememberedValues.{each-found, each-more, each-same}
-use Rattle.type_substitution.specs.Replaced.{IsMade, replaced_at, replaced_node, all_replaced}
-use Rattle.type_substitution.proofs.ReplacedSteps.{known-below, all_known-below, grown-known_in, grown-replaced, grown-remembers, replaced-node, declared-split, declared-replaced, executable-replaced, all-dropped, each-next}
-use Rattle.type_substitution.proofs.substitution.+replacing.Goals as goal
+use Rattle.type_numbers.specs.Replaced.{IsMade, replaced_at, replaced_node, all_replaced}
+use Rattle.type_numbers.proofs.ReplacedSteps.{known-below, all_known-below, grown-known_in, grown-replaced, grown-remembers, replaced-node, declared-split, declared-replaced, executable-replaced, all-dropped, each-next}
+use Rattle.type_numbers.proofs.substitution.+replacing.Goals as goal
 
 pub replaced-returns-in-Some-clause-stands : goal.replaced-returns-in-Some-clause-stands
 replaced-returns-in-Some-clause-stands t c =

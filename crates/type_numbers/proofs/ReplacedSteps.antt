@@ -5,22 +5,23 @@ use Rattle.std.proofs.Math.Seq.{take-suc}
 use Rattle.std.specs.BTreeMap.{BTreeMap}
 use Rattle.std.specs.List.{AllByRecursion}
 use Rattle.std.specs.Option.{option_map, option_to_list}
+use Rattle.apt_base.specs.Elements.{same_element}
 use Rattle.apt_base.proofs.FieldsLemmas.{some_is}
 use Rattle.apt_base.specs.declared.element.ElementRef.{ElementRef}
 use Rattle.type_mirror.specs.declared.mirror.Mirror.{Mirror}
 use Rattle.type_mirror.specs.declared.mirror.BaseMirror.TheVariants as base
 use Rattle.type_mirror.specs.Parts.{plain}
-use Rattle.type_mirror.specs.Substitution.{Replacements, same_element, replacement, in_place, substituted}
+use Rattle.type_mirror.specs.Substitution.{Replacements, replacement, in_place, substituted}
 use Rattle.type_layers.specs.Layers.{Layer, Primitive, Declared, Error, Variable, Array, Unbounded, Extends, Super, Executable, Nothing, Void, Null, Package, layer, map_layer, parts_of, mirror_of}
 use Rattle.type_numbers.specs.declared.node.Node.{Node}
 use Rattle.type_numbers.specs.declared.node.Node.TheVariants as node
 use Rattle.type_numbers.specs.Nodes.{layer_of}
 use Rattle.type_numbers.specs.Numbers.{at, IsKnown, AreKnown, Stands, AllStand, OptionStands, Grows, with_types, mirror_with}
-use Rattle.type_substitution.specs.Replaced.{Numbered, replacements_in, AreKnownIn, number_for, replaced_at, replaced_layer, replaced_node, IsMade, Remembers}
-use Rattle.type_numbers.proofs.LayerMaps.{all_given, all_joined, parts-split}
+use Rattle.type_numbers.specs.Replaced.{Numbered, replacements_in, AreKnownIn, number_for, replaced_at, replaced_layer, replaced_node, IsMade, Remembers}
+use Rattle.type_numbers.proofs.LayerMaps.{all_given, parts-split}
 use Rattle.type_numbers.proofs.NumberLaws.{grown-known, grown-at, grown-stands, grown-all, grown-option, grows-on, all-next}
 use Rattle.type_numbers.proofs.RememberedValues.{each-weaker}
-use Rattle.type_substitution.proofs.ReplacedLayers.{substituted-layer}
+use Rattle.type_numbers.proofs.ReplacedLayers.{substituted-layer}
 
 -- ---- more types
 
@@ -166,11 +167,6 @@ pub declared-replaced : (t t' t'' : List Mirror) (by : Numbered) (element : Elem
 declared-replaced t t' t'' by element enclosing outer arguments inner all known g first g' second =
     ap (λ (x : Option Mirror). mirror_of (Declared element x (map (at t'') inner))) (grown-option t' t'' outer (option_map (replaced_at t by) enclosing) g' first).type
     ∙ ap (λ (xs : List Mirror). mirror_of (Declared element (option_map (replaced_at t by) enclosing) xs)) (second.types ∙ grown-all_replaced t t' by arguments g all known)
-
-pub declared-known : (t' t'' : List Mirror) (outer : Option ℕ) (o : Option Mirror) (inner : List ℕ) (ms : List Mirror)
-    → OptionStands t' outer o → Grows t' t'' → AllStand t'' inner ms → AreKnown t'' (option_to_list outer ++ inner)
-declared-known t' t'' outer o inner ms first g second =
-    all_joined (IsKnown t'') (option_to_list outer) inner (grown-option t' t'' outer o g first).known second.known
 
 pub executable-replaced : (t t' t'' t''' : List Mirror) (by : Numbered) (variables : List ElementRef) (parameters ps : List ℕ) (outcome o : ℕ) (thrown ts : List ℕ)
     → AreKnownIn t by → AreKnown t thrown → IsKnown t outcome → Grows t t' → AllStand t' ps (map (replaced_at t by) parameters) → Grows t' t''

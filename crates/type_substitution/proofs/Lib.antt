@@ -1,2 +1,0 @@
-pub mod ReplacedLayers
-pub mod ReplacedSteps
