@@ -7,12 +7,10 @@ ghost use Rattle.frame_decoder.specs.QuestionReadings.{about, about_names, about
 
 use crate::mirror_reading::{read_mirror, read_mirrors};
 use apt_base::{ElementRef, FieldReader, FormFault, Name, read_text};
+use frame_forms::MOST_NESTED;
 use std::alloc::Global;
 use type_mirror::Mirror;
 use wire_frames::{Question, read_element, read_step, tags};
-
-/// How deep mirrors and values may be nested in each other.
-pub(crate) const MOST_NESTED: u16 = 256;
 
 // ---- the question with a tag about something
 

@@ -6,11 +6,11 @@ ghost use Rattle.apt_base.specs.Readings.{Gives};
 ghost use Rattle.frame_decoder.specs.HostReadings.{info_next, entry_next, annotation_next, all_created, all_refused, reply_next};
 
 use crate::mirror_reading::read_mirrors;
-use crate::question_reading::MOST_NESTED;
 use crate::value_reading::{read_annotation, read_value};
 use apt_base::{
     FieldReader, FormFault, List, Name, read_byte, read_count, read_text, read_texts, read_truth,
 };
+use frame_forms::MOST_NESTED;
 use std::alloc::Global;
 use type_mirror::{Annotation, Value};
 use wire_frames::{Created, Info, Refused, Reply, read_below, read_elements, read_step, tags};

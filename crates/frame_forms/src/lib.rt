@@ -7,6 +7,8 @@
 
 mod bad_kind;
 mod laws;
+mod nesting;
 
 pub use bad_kind::BadKind;
 pub use laws::{bad_byte_rules_hold, examples_hold, field_rules_hold, frame_laws_hold};
+pub use nesting::MOST_NESTED;

@@ -1,7 +1,7 @@
 -- What the parts of a step come to.
 use Rattle.std.proofs.Common.{◌≡◌, ℕ, zero, suc, ◌-◌, Bool, true, false, List, [], ◌∷◌, ◌++◌, length, take, drop, slice_get, option_to_list, Option, Some, None, refl, sym, ap, ◌∙◌, subst, append_assoc, arith}
 use Rattle.std.specs.Int.{w32, from_be_bytes}
-use Rattle.std.specs.FinSet as set
+use Rattle.std.specs.FinMap as fin
 use Rattle.std.proofs.lemmas.List.{length-append}
 use Rattle.frame_forms.specs.declared.bad_kind.BadKind.{BadKind}
 use Rattle.frame_forms.specs.Scans.{bad}
@@ -18,7 +18,7 @@ use Rattle.frame_reader.specs.declared.task.Task.{Task}
 use Rattle.frame_reader.specs.declared.task.TextList.{TextList}
 use Rattle.frame_reader.specs.declared.task.TextRule.{TextRule}
 use Rattle.frame_reader.specs.declared.task.Then.TheVariants as thens
-use Rattle.frame_reader.specs.Texts.{TextSet}
+use Rattle.apt_base.specs.Names.{NameSet, with_name}
 use Rattle.frame_reader.specs.Rests.{Reading, number_of, texts_left}
 use Rattle.frame_reader.specs.Steps.{Left, node_left, first_kind, head_node, head_room, left_behind, left_tasks, items_task, inner_tasks, behind_task, gather_at, left_of, IsLeft}
 use Rattle.frame_reader.specs.Stands.{KeepsTexts, Stands, IsTextEnd}
@@ -28,17 +28,17 @@ use Rattle.frame_reader.proofs.Stepping.{drop_after, gathers_on, skips, counts, 
 
 -- ---- texts that are kept
 
-pub kept_distinct : (rule : ListRule) → rule ≡ rules.DistinctTexts → (text : List ℕ) (earlier earlier' : TextSet) (last : Option (List ℕ)) → earlier' ≡ set.insert earlier text
+pub kept_distinct : (rule : ListRule) → rule ≡ rules.DistinctTexts → (text : List ℕ) (earlier earlier' : NameSet) (last : Option (List ℕ)) → earlier' ≡ with_name earlier text
     → (before : List (List ℕ)) → KeepsTexts rule before earlier last → KeepsTexts rule (text ∷ before) earlier' last
 kept_distinct rule is text earlier earlier' last e before =
     subst (λ (r : ListRule). KeepsTexts r before earlier last → KeepsTexts r (text ∷ before) earlier' last) (sym is)
-    (λ k q. ap (λ (s : TextSet). set.contains s q) e ∙ one_more_text before earlier text q k)
+    (λ k q. ap (λ (s : NameSet). fin.contains_key s q) e ∙ one_more_text before earlier text q k)
 
-pub kept_patterns : (rule : ListRule) → rule ≡ rules.DistinctPatterns → (text : List ℕ) (earlier earlier' : TextSet) (last : Option (List ℕ)) → earlier' ≡ set.insert earlier text
+pub kept_patterns : (rule : ListRule) → rule ≡ rules.DistinctPatterns → (text : List ℕ) (earlier earlier' : NameSet) (last : Option (List ℕ)) → earlier' ≡ with_name earlier text
     → (before : List (List ℕ)) → KeepsTexts rule before earlier last → KeepsTexts rule (text ∷ before) earlier' last
 kept_patterns rule is text earlier earlier' last e before =
     subst (λ (r : ListRule). KeepsTexts r before earlier last → KeepsTexts r (text ∷ before) earlier' last) (sym is)
-    (λ k q. ap (λ (s : TextSet). set.contains s q) e ∙ one_more_text before earlier text q k)
+    (λ k q. ap (λ (s : NameSet). fin.contains_key s q) e ∙ one_more_text before earlier text q k)
 
 -- ---- the end of gathered bytes
 
@@ -47,7 +47,7 @@ pub skip_finishes : (gather : Gather) (old : FieldsReader) (bytes : List ℕ) (b
     → Stands None old.list old.stack old.earlier old.last (held ++ byte ∷ []) (λ later. reading (byte ∷ later))
 skip_finishes gather old bytes byte more is held split reading s = skips old.earlier old.last held byte reading gather old.list old.stack more is s
 
-worth_of : (gather : Gather) (list : Option TextList) (stack : List Task) (earlier : TextSet) (last : Option (List ℕ)) (held bytes : List ℕ) (byte count : ℕ) (reading : Reading) → bytes ≡ held ++ byte ∷ []
+worth_of : (gather : Gather) (list : Option TextList) (stack : List Task) (earlier : NameSet) (last : Option (List ℕ)) (held bytes : List ℕ) (byte count : ℕ) (reading : Reading) → bytes ≡ held ++ byte ∷ []
     → Stands (Some gather) list stack earlier last held reading → count ≡ from_be_bytes w32 (drop gather.from bytes) → number_of (drop gather.from held) byte ≡ count
 worth_of gather list stack earlier last held bytes byte count reading split s e =
     ap (from_be_bytes w32) (sym (drop_after earlier last held byte reading gather.from s.gathering.have s.gathering.from)) ∙ ap (λ (t : List ℕ). from_be_bytes w32 (drop gather.from t)) (sym split) ∙ sym e
@@ -76,7 +76,7 @@ items_finish gather item room count old new bytes byte more is worth e = λ held
     (counts old.earlier old.last held byte reading gather item room count old.list old.stack more is (worth_of gather old.list old.stack old.earlier old.last held bytes byte count reading split s worth) s)
 
 pub texts_finish : (gather : Gather) (rule : ListRule) (count : ℕ) (old new : FieldsReader) (bytes : List ℕ) (byte : ℕ) → gather.more ≡ 0 → gather.then ≡ thens.ListCount rule
-    → count ≡ from_be_bytes w32 (drop gather.from bytes) → new ≡ record old { gather = None; list = texts_left rule count; earlier = set.empty; last = None } → Finishes gather old new bytes byte takens.On
+    → count ≡ from_be_bytes w32 (drop gather.from bytes) → new ≡ record old { gather = None; list = texts_left rule count; earlier = fin.empty; last = None } → Finishes gather old new bytes byte takens.On
 texts_finish gather rule count old new bytes byte more is worth e = λ held split reading s.
     subst (λ (r : FieldsReader). Means r (held ++ byte ∷ []) (λ later. reading (byte ∷ later))) (sym e)
     (list_counts old.earlier old.last held byte reading gather rule count old.list old.stack more is (worth_of gather old.list old.stack old.earlier old.last held bytes byte count reading split s worth) s)

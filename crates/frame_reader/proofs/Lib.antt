@@ -4,7 +4,6 @@ pub mod Forming
 pub mod Tables
 pub mod Lists
 pub mod Begins
-pub mod TextSets
 pub mod Sizes
 pub mod Stepping
 pub mod Following

@@ -1,8 +1,6 @@
 -- What is kept, from byte to byte.
 use Rattle.std.proofs.Common.{◌≡◌, ℕ, zero, suc, ◌+◌, Bool, true, false, not, cond, ◌&&◌, ◌||◌, List, [], ◌∷◌, ◌++◌, length, map, reverse, drop, Option, Some, None, refl, sym, ap, ◌∙◌, append-nil, subst, lit<, arith}
-use Rattle.std.specs.FinSet as set
-use Rattle.std.specs.Cmp.Lexicographic.{slice_cmp}
-use Rattle.std.specs.Ordering.{nat_cmp}
+use Rattle.std.specs.FinMap as fin
 use Rattle.std.specs.List.{list_any}
 use Rattle.std.specs.Str.{bytes_eq}
 use Rattle.std.proofs.lemmas.List.{drop-append-le, drop_at, length-append, map-append, reverse-append}
@@ -27,13 +25,13 @@ use Rattle.frame_reader.specs.declared.task.Task.TheVariants as tasks
 use Rattle.frame_reader.specs.declared.task.TextList.{TextList}
 use Rattle.frame_reader.specs.Rests.{Reading, forgotten, then_read, node_rest, fields_rest, items_rest, texts_rest, text_rest, value_rest, turn_rest, list_rest, task_rest, tasks_rest, tail_rest, gathered, number_of, judged_rest, plain_fault, pattern_fault, listed_fault, passes, texts_left, behind_text, text_done, text_behind, gather_done, rest_of}
 use Rattle.frame_reader.specs.Steps.{Left, node_left, first_kind, behind_rest, behind_task, inner_tasks, left_tasks, items_task, head_node, head_room, left_behind, gather_at}
-use Rattle.frame_reader.specs.Texts.{TextSet}
+use Rattle.apt_base.specs.Names.{NameSet, with_name}
 use Rattle.frame_reader.specs.Stands.{KeepsTexts, Keeps, is_above, passes_kept, kept_fault, IsNone, IsSized, Begins, IsGathering, Stands, IsTextEnd}
 use Rattle.frame_reader.specs.Follows.{EndsPlain}
 use Rattle.frame_reader.proofs.Forgetting.{and_then-and_then, then_read-forgotten, then_read-whole, then_read-then_read, then_read-same, tasks_rest-append, tasks_rest-one, tasks_rest-last}
 use Rattle.frame_reader.proofs.Gathering.{gathered-same, gathered-slice, then_read-gathered, run_done, run_behind, run_gathered}
 use Rattle.frame_reader.proofs.Begins.{gather_start, started, outcome, text_behind-is, node_begins}
-use Rattle.frame_reader.proofs.TextSets.{contains-insert_text}
+use Rattle.apt_base.proofs.NameSets.{contains-empty, contains-with_name}
 use Rattle.frame_reader.proofs.Sizes.{GatherFits, LeftFits, node_left-fits, node_rest-none}
 
 -- ---- lists
@@ -114,7 +112,7 @@ unfolding tasks_rest items_rest
 items_rests item room zero bytes = refl
 items_rests item room (suc more) bytes = refl
 
-module _ (earlier : TextSet) (last : Option (List ℕ)) (held : List ℕ) (b : ℕ) (reading : Reading) where
+module _ (earlier : NameSet) (last : Option (List ℕ)) (held : List ℕ) (b : ℕ) (reading : Reading) where
   abbrev after : List ℕ
   after = held ++ b ∷ []
 
@@ -186,21 +184,21 @@ module _ (earlier : TextSet) (last : Option (List ℕ)) (held : List ℕ) (b : �
   texts_rests rule before zero bytes = refl
   texts_rests rule before (suc more) bytes = refl
 
-  keeps_none : (rule : ListRule) (count : ℕ) → Keeps (texts_left rule count) [] set.empty None
+  keeps_none : (rule : ListRule) (count : ℕ) → Keeps (texts_left rule count) [] fin.empty None
   keeps_none rule zero = tt
-  keeps_none rules.DistinctTexts (suc more) = λ text. set.contains-empty (slice_cmp nat_cmp) text
-  keeps_none rules.DistinctPatterns (suc more) = λ text. set.contains-empty (slice_cmp nat_cmp) text
+  keeps_none rules.DistinctTexts (suc more) = λ text. contains-empty text
+  keeps_none rules.DistinctPatterns (suc more) = λ text. contains-empty text
   keeps_none rules.AscendingTexts (suc more) = refl
   keeps_none rules.AscendingOptions (suc more) = refl
 
   pub list_counts : (gather : Gather) (rule : ListRule) (count : ℕ) (list : Option TextList) (stack : List Task) → gather.more ≡ 0 → gather.then ≡ thens.ListCount rule
       → number_of (drop gather.from held) b ≡ count
-      → Stands (Some gather) list stack earlier last held reading → Stands None (texts_left rule count) stack set.empty None after on
+      → Stands (Some gather) list stack earlier last held reading → Stands None (texts_left rule count) stack fin.empty None after on
   list_counts gather rule count list stack e f worth s = go list s (finished_by gather (thens.ListCount rule) list stack e f s) (subst (λ (n : Then). IsSized n list (s.gathering.have + suc gather.more)) f s.gathering.sized).1
     where
       go : (texts : Option TextList) (t : Stands (Some gather) texts stack earlier last held reading)
           → ((later : List ℕ) → on later ≡ gather_done (thens.ListCount rule) t.before texts stack (drop gather.from held) b later) → IsNone texts
-          → Stands None (texts_left rule count) stack set.empty None after on
+          → Stands None (texts_left rule count) stack fin.empty None after on
       go (Some texts) t same none = absurd none
       go None t same none = record {
         before = [];
@@ -275,7 +273,7 @@ module _ (earlier : TextSet) (last : Option (List ℕ)) (held : List ℕ) (b : �
   fault_same : (rule : ListRule) (before : List (List ℕ)) (text : List ℕ) → KeepsTexts rule before earlier last → listed_fault rule before text ≡ kept_fault rule earlier last text
   fault_same rule before text k = ap (λ (x : Bool). cond (is_text text && x) (pattern_fault rule text) (Some kinds.Field)) (sym (kept_same rule before text k))
 
-  pub listed_passes : (list : TextList) (stack : List Task) (text : List ℕ) (before : List (List ℕ)) (earlier' : TextSet) (last' : Option (List ℕ)) → kept_fault list.rule earlier last text ≡ None
+  pub listed_passes : (list : TextList) (stack : List Task) (text : List ℕ) (before : List (List ℕ)) (earlier' : NameSet) (last' : Option (List ℕ)) → kept_fault list.rule earlier last text ≡ None
       → Keeps (behind_text list.rule list.more) (text ∷ before) earlier' last'
       → IsTextEnd earlier last b reading texts.Listed (Some list) stack text before → Stands None (behind_text list.rule list.more) stack earlier' last' after on
   listed_passes list stack text before earlier' last' e k t = record {
@@ -455,7 +453,7 @@ module _ (earlier : TextSet) (last : Option (List ℕ)) (held : List ℕ) (b : �
 
 -- ---- many bytes at once
 
-pub gathers_many : (earlier : TextSet) (last : Option (List ℕ)) (held chunk : List ℕ) (reading : Reading) (gather : Gather) (fewer : ℕ) (list : Option TextList) (stack : List Task) → gather.more ≡ length chunk + fewer
+pub gathers_many : (earlier : NameSet) (last : Option (List ℕ)) (held chunk : List ℕ) (reading : Reading) (gather : Gather) (fewer : ℕ) (list : Option TextList) (stack : List Task) → gather.more ≡ length chunk + fewer
     → Stands (Some gather) list stack earlier last held reading → Stands (Some (record { from = gather.from; more = fewer; then = gather.then })) list stack earlier last (held ++ chunk) (λ later. reading (chunk ++ later))
 gathers_many earlier last held chunk reading gather fewer list stack e s = record {
   before = s.before;
@@ -476,7 +474,7 @@ gathers_many earlier last held chunk reading gather fewer list stack e s = recor
 
 -- ---- the end of the bytes
 
-module _ (earlier : TextSet) (last : Option (List ℕ)) (held : List ℕ) (reading : Reading) where
+module _ (earlier : NameSet) (last : Option (List ℕ)) (held : List ℕ) (reading : Reading) where
   pub all_read : Stands None None [] earlier last held reading → reading [] ≡ whole tt []
   unfolding tasks_rest
   all_read s = s.same []
@@ -510,7 +508,7 @@ module _ (earlier : TextSet) (last : Option (List ℕ)) (held : List ℕ) (readi
 
 -- ---- texts that are kept
 
-pub keeps_behind : (rule : ListRule) (more : ℕ) (before : List (List ℕ)) (earlier : TextSet) (last : Option (List ℕ)) → KeepsTexts rule before earlier last → Keeps (behind_text rule more) before earlier last
+pub keeps_behind : (rule : ListRule) (more : ℕ) (before : List (List ℕ)) (earlier : NameSet) (last : Option (List ℕ)) → KeepsTexts rule before earlier last → Keeps (behind_text rule more) before earlier last
 keeps_behind rules.DistinctTexts zero before earlier last k = tt
 keeps_behind rules.DistinctTexts (suc more) before earlier last k = k
 keeps_behind rules.DistinctPatterns zero before earlier last k = tt
@@ -520,5 +518,5 @@ keeps_behind rules.AscendingTexts (suc more) before earlier last k = k
 keeps_behind rules.AscendingOptions more before earlier last k = k
 
 -- one text more in the set
-pub one_more_text : (before : List (List ℕ)) (earlier : TextSet) (text q : List ℕ) → ((t : List ℕ) → set.contains earlier t ≡ list_any (bytes_eq t) before) → set.contains (set.insert earlier text) q ≡ list_any (bytes_eq q) (text ∷ before)
-one_more_text before earlier text q k = contains-insert_text earlier text q ∙ ap (λ (x : Bool). bytes_eq q text || x) (k q)
+pub one_more_text : (before : List (List ℕ)) (earlier : NameSet) (text q : List ℕ) → ((t : List ℕ) → fin.contains_key earlier t ≡ list_any (bytes_eq t) before) → fin.contains_key (with_name earlier text) q ≡ list_any (bytes_eq q) (text ∷ before)
+one_more_text before earlier text q k = contains-with_name earlier text q ∙ ap (λ (x : Bool). bytes_eq q text || x) (k q)

@@ -1,9 +1,10 @@
 -- What a byte does to what is kept.
 use Rattle.std.specs.Prelude.{◌≡◌, ◌-◌, ℕ, zero, suc, Bool, true, false, length, List, [], ◌∷◌, ◌++◌, Option, None, Some}
-use Rattle.std.specs.FinSet as set
+use Rattle.std.specs.FinMap as fin
 use Rattle.frame_forms.specs.declared.bad_kind.BadKind.{BadKind}
 use Rattle.frame_reader.specs.declared.node.Item.{Item}
 use Rattle.frame_reader.specs.Steps.{items_task}
+use Rattle.frame_forms.specs.Frames.{most_nested}
 use Rattle.frame_forms.specs.Scans.{Scan, whole, begun, bad}
 use Rattle.frame_reader.specs.declared.fields.FieldsReader.{FieldsReader}
 use Rattle.frame_reader.specs.declared.task.Gather.{Gather}
@@ -97,7 +98,7 @@ pub record GoesBehind (list : TextList) (text : List ℕ) (old new : FieldsReade
 pub record IsAtTag (reader : FieldsReader) : Type 0 where
   pub gather : reader.gather ≡ None
   pub list : reader.list ≡ None
-  pub stack : reader.stack ≡ tasks.Field nodes.Tagged 256 ∷ []
+  pub stack : reader.stack ≡ tasks.Field nodes.Tagged most_nested ∷ []
 
 -- what no more bytes come to
 abbrev pub ended : Bool → Scan (Unit {0})
@@ -124,7 +125,7 @@ with_items reader item room count = record reader { gather = None; stack = reade
 
 -- a list of texts begins
 abbrev pub with_texts : FieldsReader → ListRule → ℕ → FieldsReader
-with_texts reader rule count = record reader { gather = None; list = texts_left rule count; earlier = set.empty; last = None }
+with_texts reader rule count = record reader { gather = None; list = texts_left rule count; earlier = fin.empty; last = None }
 
 -- a text of a list begins at a place
 abbrev pub with_text : FieldsReader → TextList → ℕ → FieldsReader

@@ -1,7 +1,6 @@
 pub mod Nodes
 pub mod Rests
 pub mod Steps
-pub mod Texts
 pub mod Stands
 pub mod Follows
 pub mod Stages

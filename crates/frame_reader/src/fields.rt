@@ -1,7 +1,7 @@
 // Reads the fields of a frame byte by byte.
 ghost use Rattle.std.specs.Prelude.{◌≡◌, ◌-◌, ◌<◌, ◌≤◌, ◌++◌, ◌∷◌, [], List, ℕ, None, Some, true, false, length, IfOk, OnOk, OnErr, IfErr, IfSome, IfNone, slice_get, option_to_list};
 ghost use Rattle.std.specs.Int.{w32, from_be_bytes};
-ghost use Rattle.std.specs.FinSet as set;
+ghost use Rattle.std.specs.FinMap as fin;
 ghost use Rattle.apt_base.specs.Fields.{is_text};
 ghost use Rattle.frame_reader.specs.Rests.{Reading, plain_fault, texts_left, behind_text};
 ghost use Rattle.frame_reader.specs.Steps.{first_kind, items_task, head_node, head_room, left_behind, behind_task, gather_at};
@@ -13,13 +13,9 @@ use crate::beginning::{BEHIND_SECOND_OF_FOUR, node_begun};
 use crate::node::{Item, ListRule, Node};
 use crate::stack::Stack;
 use crate::task::{Gather, Taken, Task, TextList, TextRule, Then};
-use crate::texts::Texts;
-use apt_base::{Name, NoMemory, is_pattern};
-use frame_forms::BadKind;
+use apt_base::{Name, Names, NoMemory, is_pattern};
+use frame_forms::{BadKind, MOST_NESTED};
 use std::alloc::Global;
-
-/// How deep mirrors and values may be nested in each other.
-const MOST_NESTED: u16 = 256;
 
 /// Reads the fields of a frame byte by byte: what is still to come, and the texts that the next one of a list is compared with.
 #[derive(Drop)]
@@ -28,7 +24,7 @@ pub(crate) struct FieldsReader {
     gather: Option<Gather>,
     list: Option<TextList>,
     stack: Stack,
-    earlier: Texts,
+    earlier: Names,
     last: Option<Name>,
 }
 
@@ -164,7 +160,7 @@ impl FieldsReader {
             gather: None,
             list: None,
             stack: Stack::new(alloc),
-            earlier: Texts::new(alloc),
+            earlier: Names::new(alloc),
             last: None,
         }
     }
@@ -288,9 +284,9 @@ impl FieldsReader {
     }
 
     fn forget_texts(&mut self)
-        ensures { self.new ≡ record self.old { earlier = set.empty; last = None } }
+        ensures { self.new ≡ record self.old { earlier = fin.empty; last = None } }
     {
-        self.earlier = Texts::new(self.alloc);
+        self.earlier = Names::new(self.alloc);
         self.last = None;
     }
 

@@ -13,7 +13,6 @@ mod scanner;
 mod stack;
 mod stage;
 mod task;
-mod texts;
 
 pub use found::{Found, Interrupted};
 pub use scanner::FrameScanner;

@@ -3,6 +3,7 @@ use Rattle.std.specs.Prelude.{ℕ, zero, suc, Bool, true, false, List, [], ◌�
 use Rattle.std.specs.List.{list_any}
 use Rattle.std.specs.Str.{bytes_eq}
 use Rattle.apt_base.specs.Identifiers.{parts}
+use Rattle.apt_base.specs.Limits.{max_type_steps}
 use Rattle.decl_tree.specs.declared.compilation.ImportKind.{ImportKind}
 use Rattle.decl_tree.specs.declared.compilation.ImportKind.TheVariants as import
 use Rattle.decl_tree.specs.declared.compilation.Import.{Import}
@@ -183,12 +184,9 @@ met_from Source at u = top_of at u u.body
 met_from Stub Source u = Nothing
 met_from Stub Stub u = top_of Stub u u.body
 
--- supertypes are followed through this many levels
-abbrev pub all_levels : ℕ
-all_levels = 64
-
+-- the member types of a name, with supertypes followed through as many levels as a question on types goes steps
 unfoldable pub members : TypeTable → Members
-members table = members_within (tops_of table) all_levels
+members table = members_within (tops_of table) max_type_steps
 
 -- the type or type parameter that the names mean there, if there is one
 unfoldable pub meaning : TypeTable → Scope → List (List ℕ) → Finds

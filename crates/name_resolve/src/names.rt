@@ -1,21 +1,14 @@
 // Names in texts and in types.
-ghost use Rattle.std.specs.Prelude.{◌≡◌, ◌++◌, ◌∷◌, [], map, string_bytes, IfOk, MatchOption};
-ghost use Rattle.apt_base.specs.Identifiers.{parts, HasNoDot, IsSplit};
+ghost use Rattle.std.specs.Prelude.{◌≡◌, ◌++◌, ◌∷◌, [], map, string_bytes, IfOk};
+ghost use Rattle.apt_base.specs.Identifiers.{parts};
 ghost use Rattle.decl_tree.specs.declared.type_text.BaseType.{out-BaseType};
 ghost use Rattle.name_resolve.specs.Supertypes.{part_name, base_names, names_in};
 ghost use Rattle.name_resolve.specs.Meaning.{ends_in};
 ghost use Rattle.name_resolve.specs.Parts.{lent};
 
-use apt_base::NoMemory;
+use apt_base::{NoMemory, split_dot};
 use decl_tree::{BaseType, NamedPart, TypeText};
 use std::alloc::Global;
-
-// What stands before the first dot and behind it.
-fn split_dot(text: &str) -> Option<(&str, &str)>
-    ensures { MatchOption result (HasNoDot text.now) (λ x. IsSplit text.now x.0.now x.1.now) }
-{
-    text.split_once('.')
-}
 
 /// The parts of a text that dots join.
 pub fn split<'t>(alloc: Global, text: &'t str) -> Result<Vec<&'t str>, NoMemory>

@@ -13,10 +13,7 @@ use crate::looks::Looks;
 use crate::memory::Stop;
 use crate::names::names_in;
 use crate::tops::top_named;
-use apt_base::NoMemory;
-
-// Supertypes are followed through this many levels.
-const ALL_LEVELS: u32 = 64;
+use apt_base::{MAX_TYPE_STEPS, NoMemory};
 
 impl<'a> Looks<'a> {
     // What names in front of another name mean: the first one as a type in scope, or else the shortest prefix.
@@ -147,11 +144,11 @@ impl<'a> Looks<'a> {
         ensures kept { self.new ≡ self.old }
     {
         for _ in 0..usize::MAX {
-            match self.found(ALL_LEVELS, header, at, names) {
+            match self.found(MAX_TYPE_STEPS, header, at, names) {
                 Ok(finds) => return Ok(finds),
                 Err(Stop::Memory) => return Err(NoMemory),
                 Err(Stop::Wanted(of, name)) => {
-                    self.learn(ALL_LEVELS, &of, name.as_str())?;
+                    self.learn(MAX_TYPE_STEPS, &of, name.as_str())?;
                 }
             }
         }
@@ -170,11 +167,11 @@ impl<'a> Looks<'a> {
         ensures kept { self.new ≡ self.old }
     {
         for _ in 0..usize::MAX {
-            match self.qualifier(ALL_LEVELS, header, at, names) {
+            match self.qualifier(MAX_TYPE_STEPS, header, at, names) {
                 Ok(finds) => return Ok(finds),
                 Err(Stop::Memory) => return Err(NoMemory),
                 Err(Stop::Wanted(of, name)) => {
-                    self.learn(ALL_LEVELS, &of, name.as_str())?;
+                    self.learn(MAX_TYPE_STEPS, &of, name.as_str())?;
                 }
             }
         }

@@ -74,14 +74,14 @@ gathered-all names = all (each_once names)
     all [] = refl
     all (x ∷ xs) = ap (λ rest. x ∷ rest) (all xs)
 
--- an insertion into a set of texts, as it is seen
-pub insert_key-shown : (held : List (String Global)) (name : String Global) → map string_bytes (insert_key string_eq held name) ≡ with_name (map string_bytes held) (string_bytes name)
-insert_key-shown held name = rw (← any held) (by (list_any (string_eq name) held))
-  where
-    any : (held : List (String Global)) → list_any (string_eq name) held ≡ list_any (bytes_eq (string_bytes name)) (map string_bytes held)
-    any [] = refl
-    any (x ∷ xs) = ap (λ (b : Bool). string_eq name x || b) (any xs)
+-- whether a text is among those of a set, and an insertion into it, as they are seen
+pub any-shown : (held : List (String Global)) (name : String Global) → list_any (string_eq name) held ≡ list_any (bytes_eq (string_bytes name)) (map string_bytes held)
+any-shown [] name = refl
+any-shown (x ∷ xs) name = ap (λ (b : Bool). string_eq name x || b) (any-shown xs name)
 
+pub insert_key-shown : (held : List (String Global)) (name : String Global) → map string_bytes (insert_key string_eq held name) ≡ with_name (map string_bytes held) (string_bytes name)
+insert_key-shown held name = rw (← any-shown held name) (by (list_any (string_eq name) held))
+  where
     by : (b : Bool) → map string_bytes (cond b held (held ++ name ∷ [])) ≡ cond b (map string_bytes held) (map string_bytes held ++ string_bytes name ∷ [])
     by true = refl
     by false = map-append string_bytes held (name ∷ [])

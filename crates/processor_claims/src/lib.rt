@@ -10,6 +10,7 @@
 mod fault;
 mod kinds_file;
 mod lines;
+mod ordered_names;
 mod pattern;
 mod services;
 mod supported;
@@ -17,6 +18,7 @@ mod turn;
 
 pub use fault::LineFault;
 pub use kinds_file::kinds;
+pub use ordered_names::OrderedNames;
 pub use pattern::Pattern;
 pub use services::service_names;
 pub use supported::Supported;

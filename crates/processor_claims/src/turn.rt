@@ -1,5 +1,6 @@
 // Who is asked in a round, one after another.
 ghost use Rattle.std.specs.Prelude.{◌≡◌, ◌==◌, ◌&&◌, ◌<◌, ◌≤◌, ◌^◌, ℕ, Bool, List, true, false, [], not, length, filter, slice_set, if◌then◌else◌, IfOk, IfNone, IfSome, OnSome};
+ghost use Rattle.apt_base.specs.Limits.{max_processors};
 ghost use Rattle.processor_claims.specs.Patterns.{supports, supports_all};
 ghost use Rattle.processor_claims.specs.Asked.{asked, offer_of, positions};
 ghost use Rattle.processor_claims.specs.Turns.{offered, is_open, claimed_at, asks, waiting_count, with_asked, IsComing, IsWithin, IsOver, Asks, AsksNobody, TakesAnswer};
@@ -98,7 +99,7 @@ fn candidates(
     names: &[Name],
 ) -> Result<VecDeque<Candidate>, NoMemory>
     requires same { length processors.now ≡ length contributed.now }
-    requires few { length processors.now ≤ 64 }
+    requires few { length processors.now ≤ max_processors }
     requires names { length names.now < 2 ^ 32 }
     ensures { IfOk result (λ list. list.items ≡ candidates_of names.now 0 processors.now contributed.now) }
 {
@@ -147,7 +148,7 @@ impl Turn {
         last: bool,
     ) -> Result<Turn, NoMemory>
         requires same { length processors.now ≡ length contributed.now }
-        requires few { length processors.now ≤ 64 }
+        requires few { length processors.now ≤ max_processors }
         requires names { length present.now < 2 ^ 32 }
         ensures coming { IfOk result (IsComing (asked processors.now contributed.now present.now last)) }
         ensures within { IfOk result (λ turn. IsWithin (length processors.now) (length present.now) turn) }

@@ -14,6 +14,7 @@ use Rattle.std.proofs.lemmas.Bool.Decides.{same_from_decides}
 use Rattle.std.proofs.lemmas.Slice.Eq.{bytes_eq-Decides}
 use Rattle.std.proofs.lemmas.List.{length-map}
 use Rattle.std.proofs.lemmas.List.Folds.{list_any-append}
+use Rattle.apt_base.specs.Limits.{max_processors}
 use Rattle.apt_base.specs.declared.kinds.Kind.{Kind}
 use Rattle.processor_claims.specs.Lines.{first_bad, said_in, name_in, readings}
 use Rattle.processor_claims.specs.Services.{each_once, names_of}
@@ -146,11 +147,11 @@ names-differ None services names of is = by (first_bad name_in (said_in services
 
 -- ---- the processors
 
-few-only : (all names : List (List ℕ)) → few all ≡ Ok names → (all ≡ names) × (length all ≤ 64)
-few-only all names is = by (nat_le (length all) 64) refl is
+few-only : (all names : List (List ℕ)) → few all ≡ Ok names → (all ≡ names) × (length all ≤ max_processors)
+few-only all names is = by (nat_le (length all) max_processors) refl is
   where
-    by : (b : Bool) → nat_le (length all) 64 ≡ b → cond b (Ok all) (Err TooManyProcessors) ≡ Ok names → (all ≡ names) × (length all ≤ 64)
-    by true e is = (ok_same all names is, leb-true (length all) 64 e)
+    by : (b : Bool) → nat_le (length all) max_processors ≡ b → cond b (Ok all) (Err TooManyProcessors) ≡ Ok names → (all ≡ names) × (length all ≤ max_processors)
+    by true e is = (ok_same all names is, leb-true (length all) max_processors e)
     by false e is = absurd (cc)
 
 abbrev Starts : Processor → Type 0
@@ -184,7 +185,7 @@ processors-made rows kinds (name ∷ names) processors all is =
     subst (λ (ps : List Processor). (name ∷ names ≡ map (λ (p : Processor). p.name) ps) × AllByRecursion Starts ps) parts.4 (same, (made.1, later.1))
 
 record AreDiscovered (processors : List Processor) : Type 0 where
-  pub few : length processors ≤ 64
+  pub few : length processors ≤ max_processors
   pub names : IsDistinct bytes_eq (map (λ (processor : Processor). processor.name) processors)
   pub commands : AllByRecursion Starts processors
 
@@ -197,7 +198,7 @@ discovered-holds config services file processors read is =
     let made = processors-made config.processors said.0 names.0 processors read.rows names.2 in
     let same : all.0 ≡ map (λ (p : Processor). p.name) processors = few.0 ∙ made.0 in
     record {
-      few = subst (λ n. n ≤ 64) (ap length same ∙ length-map processors (λ (p : Processor). p.name)) few.1;
+      few = subst (λ n. n ≤ max_processors) (ap length same ∙ length-map processors (λ (p : Processor). p.name)) few.1;
       names = subst (IsDistinct bytes_eq) same (names-differ config.order services all.0 read.order all.1);
       commands = made.1;
     }

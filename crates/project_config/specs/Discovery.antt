@@ -1,6 +1,7 @@
 -- Which processors a project has, in which order, how each is started and of which kind it is.
 use Rattle.std.specs.Prelude.{ℕ, List, [], ◌∷◌, length, nat_le, Option, Some, None, Ok, Err, if◌then◌else◌}
 use Rattle.std.specs.Str.{bytes_eq}
+use Rattle.apt_base.specs.Limits.{max_processors}
 use Rattle.apt_base.specs.declared.kinds.Kind.{Kind}
 use Rattle.apt_base.specs.declared.kinds.Kind.TheVariants.{Undeclared}
 use Rattle.processor_claims.specs.Lines.{first_bad, said_in, name_in}
@@ -31,7 +32,7 @@ kinds_in file = lines_as KindLine (first_bad kind_in (said_in file)) (kinds_of f
 
 -- a project has at most 64 processors
 abbrev pub few : List (List ℕ) → Reading (List (List ℕ))
-few names = if nat_le (length names) 64 then Ok names else Err TooManyProcessors
+few names = if nat_le (length names) max_processors then Ok names else Err TooManyProcessors
 
 -- the row of a name
 abbrev pub row_named : List ℕ → List ProcessorRow → Option ProcessorRow

@@ -6,7 +6,7 @@ ghost use Rattle.project_config.specs.Discovery.{names_in, kinds_in, few, row_na
 
 use crate::lookup::{kind_of, row_named};
 use crate::{Config, ConfigFault, Processor, ProcessorRow};
-use apt_base::{Kind, List, Name, NoMemory, copy_names};
+use apt_base::{Kind, List, MAX_PROCESSORS, Name, NoMemory, copy_names};
 use processor_claims::{LineFault, kinds, service_names};
 use std::alloc::Global;
 
@@ -49,7 +49,7 @@ fn kinds_in(alloc: Global, file: &[u8]) -> Result<List<(Name, Kind)>, ConfigFaul
 fn few(names: List<Name>) -> Result<List<Name>, ConfigFault>
     ensures { OrMemory result (few names) }
 {
-    if names.len() <= 64 {
+    if names.len() <= MAX_PROCESSORS {
         Ok(names)
     } else {
         Err(ConfigFault::TooManyProcessors)

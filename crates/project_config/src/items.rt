@@ -1,18 +1,14 @@
 // The items of the configuration, each as it is read from an object.
-ghost use Rattle.std.specs.Prelude.{◌≡◌, codes, [], IfOk, OnOk, not, option_and_then};
-ghost use Rattle.std.specs.List.{list_any};
-ghost use Rattle.std.specs.Str.{bytes_eq};
+ghost use Rattle.std.specs.Prelude.{◌≡◌, codes, [], IfOk, option_and_then};
 ghost use Rattle.serde_json.specs.View.{view};
 ghost use Rattle.serde_json.specs.Find.{get};
-ghost use Rattle.processor_claims.specs.Services.{with_name};
 ghost use Rattle.project_config.specs.Items.{level_in, texts_in, order_in, if_names, options_in, if_some_word, command_in, version_in, are_names_after};
 
 use crate::texts::{named_texts, texts_in};
 use apt_base::{List, Name, NoMemory, is_dotted};
-use indexmap::IndexSet;
+use processor_claims::OrderedNames;
 use serde_json::Value;
 use std::alloc::Global;
-use std::marker::Model;
 
 /// The level, or `None` where it is off its form.
 pub(crate) fn level(config: &Value) -> Option<u16>
@@ -27,45 +23,10 @@ pub(crate) fn level(config: &Value) -> Option<u16>
     }
 }
 
-/// Names that were met. Contracts see them as the list of their bytes.
-#[derive(Drop)]
-struct Names {
-    alloc: Global,
-    held: IndexSet<String>,
-}
-
-impl Model for Names {
-    ghost use Rattle.std.specs.Prelude.{List, ℕ, map, string_bytes};
-
-    ghost Value = { List (List ℕ) };
-
-    ghost view = { λ a. map string_bytes a.held.keys };
-}
-
-impl Names {
-    fn new(alloc: Global) -> Names
-        ensures { result ≡ [] }
-    {
-        Names {
-            alloc,
-            held: IndexSet::new(alloc),
-        }
-    }
-
-    // Adds a name, and says whether it was not there.
-    fn add(&mut self, name: &str) -> Result<bool, NoMemory>
-        ensures new { IfOk result (λ new. new ≡ not (list_any (bytes_eq name.now) self.old)) }
-        ensures added { OnOk result (self.new ≡ with_name self.old name.now) }
-    {
-        let name = String::from_str(self.alloc, name)?;
-        Ok(self.held.insert(name)?)
-    }
-}
-
 fn are_names(alloc: Global, texts: &[Name]) -> Result<bool, NoMemory>
     ensures { IfOk result (λ answer. answer ≡ are_names_after [] texts.now) }
 {
-    let mut met = Names::new(alloc);
+    let mut met = OrderedNames::new(alloc);
     for text in texts {
         if !is_dotted(text.as_str()) {
             return Ok(false);

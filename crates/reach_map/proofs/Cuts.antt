@@ -12,7 +12,8 @@ use Rattle.element_table.specs.declared.part.Part.{Part}
 use Rattle.element_table.specs.declared.part.Part.TheVariants.{Source, Stub}
 use Rattle.element_table.specs.TypeTable.{TypeTable, unit_of, part_of, IsTable}
 use Rattle.name_resolve.specs.Finds.{Find, Finds}
-use Rattle.name_resolve.specs.Meaning.{Scope, Header, scope_at, qualifier, found, all_levels, top_of, top_in, tops_of, members, meaning, qualifier_meaning}
+use Rattle.apt_base.specs.Limits.{max_type_steps}
+use Rattle.name_resolve.specs.Meaning.{Scope, Header, scope_at, qualifier, found, top_of, top_in, tops_of, members, meaning, qualifier_meaning}
 use Rattle.name_resolve.specs.Annotations.{found_annotation, annotation_meaning}
 use Rattle.name_resolve.specs.Mirrors.{Meant, look_at, type_meaning, superclass, interfaces}
 use Rattle.name_resolve.proofs.TopTypes.{part_by}
@@ -104,7 +105,7 @@ module _ (table : TypeTable) (names : List ℕ → Bool) where
 
     members_same : (f : Find) → Lies f.part f.unit → (name : List ℕ) → SameFinds (members table f name) (members (cut table names) f name)
     unfolding members
-    members_same = members-same (tops_of table) (tops_of (cut table names)) Lies is_closed all_levels
+    members_same = members-same (tops_of table) (tops_of (cut table names)) Lies is_closed max_type_steps
 
     qualifier_same : (scope : Scope) → Lies (scope_at scope).part (scope_at scope).unit → (chain : List (List ℕ)) → asks_at scope chain
         → SameFinds (qualifier (tops_of table) (members table) scope chain) (qualifier (tops_of (cut table names)) (members (cut table names)) scope chain)

@@ -14,7 +14,8 @@ use Rattle.tree_store.specs.declared.sources.Folder.{Folder}
 use Rattle.tree_store.specs.declared.sources.RawSource.{RawSource}
 use Rattle.tree_store.specs.declared.sources.RawSources.{RawSources}
 use Rattle.tree_store.proofs.Reading.{source_more, none_more}
-use Rattle.tree_store.specs.Sources.{most_files, most_in_one, most_in_all, limit_in_all, is_java, is_java_text, source_of, source_at, sources_at, files_at, java_paths, java_files, passed, unless_passed, limited, files_in, both, Gives, AreShort, GivesOne, IsWithin}
+use Rattle.apt_base.specs.Limits.{max_file_bytes}
+use Rattle.tree_store.specs.Sources.{most_files, most_in_all, limit_in_all, is_java, is_java_text, source_of, source_at, sources_at, files_at, java_paths, java_files, passed, unless_passed, limited, files_in, both, Gives, AreShort, GivesOne, IsWithin}
 
 -- ---- one file
 
@@ -23,18 +24,18 @@ abbrev by_tests : Folder → Bool → Bool → Option What → Option What
 by_tests folder long heavy behind = cond long (Some what.FileBytes) (cond heavy (Some (limit_in_all folder)) behind)
 
 module _ (folder : Folder) (left : ℕ) (source : RawSource) where
-  pub passed-one : (sources : List RawSource) → most_in_one < length source.bytes → passed folder left (source ∷ sources) ≡ Some what.FileBytes
-  passed-one sources long = ap (λ b. by_tests folder b (nat_lt left (length source.bytes)) (passed folder (left - length source.bytes) sources)) (lt-ltb most_in_one (length source.bytes) long)
+  pub passed-one : (sources : List RawSource) → max_file_bytes < length source.bytes → passed folder left (source ∷ sources) ≡ Some what.FileBytes
+  passed-one sources long = ap (λ b. by_tests folder b (nat_lt left (length source.bytes)) (passed folder (left - length source.bytes) sources)) (lt-ltb max_file_bytes (length source.bytes) long)
 
-  pub passed-all : (sources : List RawSource) → length source.bytes ≤ most_in_one → left < length source.bytes → passed folder left (source ∷ sources) ≡ Some (limit_in_all folder)
+  pub passed-all : (sources : List RawSource) → length source.bytes ≤ max_file_bytes → left < length source.bytes → passed folder left (source ∷ sources) ≡ Some (limit_in_all folder)
   passed-all sources short heavy =
-      ap (λ b. by_tests folder b (nat_lt left (length source.bytes)) (passed folder (left - length source.bytes) sources)) (le-ltb most_in_one (length source.bytes) short)
+      ap (λ b. by_tests folder b (nat_lt left (length source.bytes)) (passed folder (left - length source.bytes) sources)) (le-ltb max_file_bytes (length source.bytes) short)
       ∙ ap (λ b. by_tests folder false b (passed folder (left - length source.bytes) sources)) (lt-ltb left (length source.bytes) heavy)
 
   -- one that is within them leaves less for those behind it
-  pub passed-on : (sources : List RawSource) → length source.bytes ≤ most_in_one → length source.bytes ≤ left → passed folder left (source ∷ sources) ≡ passed folder (left - length source.bytes) sources
+  pub passed-on : (sources : List RawSource) → length source.bytes ≤ max_file_bytes → length source.bytes ≤ left → passed folder left (source ∷ sources) ≡ passed folder (left - length source.bytes) sources
   passed-on sources short light =
-      ap (λ b. by_tests folder b (nat_lt left (length source.bytes)) (passed folder (left - length source.bytes) sources)) (le-ltb most_in_one (length source.bytes) short)
+      ap (λ b. by_tests folder b (nat_lt left (length source.bytes)) (passed folder (left - length source.bytes) sources)) (le-ltb max_file_bytes (length source.bytes) short)
       ∙ ap (λ b. by_tests folder false b (passed folder (left - length source.bytes) sources)) (le-ltb left (length source.bytes) light)
 
   stops : (long heavy : Bool) (behind : Option What) (limit : What) → by_tests folder long heavy None ≡ Some limit → by_tests folder long heavy behind ≡ Some limit
@@ -44,43 +45,43 @@ module _ (folder : Folder) (left : ℕ) (source : RawSource) where
 
   -- a limit that one passes is passed, whatever stands behind it
   pub passed-first : (sources : List RawSource) (limit : What) → passed folder left (source ∷ []) ≡ Some limit → passed folder left (source ∷ sources) ≡ Some limit
-  passed-first sources limit is = stops (nat_lt most_in_one (length source.bytes)) (nat_lt left (length source.bytes)) (passed folder (left - length source.bytes) sources) limit is
+  passed-first sources limit is = stops (nat_lt max_file_bytes (length source.bytes)) (nat_lt left (length source.bytes)) (passed folder (left - length source.bytes) sources) limit is
 
 -- ---- its bytes up to one past the limit
 
 module _ (path bytes : List ℕ) where
   abbrev front : List ℕ
-  front = take (most_in_one + 1) bytes
+  front = take (max_file_bytes + 1) bytes
 
-  whole : length front ≤ most_in_one → front ≡ bytes
+  whole : length front ≤ max_file_bytes → front ≡ bytes
   whole short =
-      let cut : length front ≡ min (most_in_one + 1) (length bytes) = length-take (most_in_one + 1) bytes in
-      take_all (most_in_one + 1) bytes (omega (arith, cut, short))
+      let cut : length front ≡ min (max_file_bytes + 1) (length bytes) = length-take (max_file_bytes + 1) bytes in
+      take_all (max_file_bytes + 1) bytes (omega (arith, cut, short))
 
-  cut_by : (folder : Folder) (left : ℕ) (long : Bool) → nat_lt most_in_one (length front) ≡ long → passed folder left (source_of path front ∷ []) ≡ passed folder left (source_of path bytes ∷ [])
+  cut_by : (folder : Folder) (left : ℕ) (long : Bool) → nat_lt max_file_bytes (length front) ≡ long → passed folder left (source_of path front ∷ []) ≡ passed folder left (source_of path bytes ∷ [])
   cut_by folder left true is =
-      let cut : length front ≡ min (most_in_one + 1) (length bytes) = length-take (most_in_one + 1) bytes in
-      let past : most_in_one < length front = ltb-true most_in_one (length front) is in
+      let cut : length front ≡ min (max_file_bytes + 1) (length bytes) = length-take (max_file_bytes + 1) bytes in
+      let past : max_file_bytes < length front = ltb-true max_file_bytes (length front) is in
       passed-one folder left (source_of path front) [] past ∙ sym (passed-one folder left (source_of path bytes) [] (omega (arith, cut, past)))
-  cut_by folder left false is = ap (λ (bs : List ℕ). passed folder left (source_of path bs ∷ [])) (whole (ltb-false most_in_one (length front) is))
+  cut_by folder left false is = ap (λ (bs : List ℕ). passed folder left (source_of path bs ∷ [])) (whole (ltb-false max_file_bytes (length front) is))
 
   -- tell which limit it passes
   pub passed-cut : (folder : Folder) (left : ℕ) → passed folder left (source_of path front ∷ []) ≡ passed folder left (source_of path bytes ∷ [])
-  passed-cut folder left = cut_by folder left (nat_lt most_in_one (length front)) refl
+  passed-cut folder left = cut_by folder left (nat_lt max_file_bytes (length front)) refl
 
-  of_source : (source : RawSource) → Some (source_of path front) ≡ Some source → length source.bytes ≤ most_in_one → Some (source_of path bytes) ≡ Some source
+  of_source : (source : RawSource) → Some (source_of path front) ≡ Some source → length source.bytes ≤ max_file_bytes → Some (source_of path bytes) ≡ Some source
   of_source source is short =
       let same : source_of path front ≡ source = (let e : Some (source_of path front) ≡ Some source = is in cc) in
-      ap (λ (bs : List ℕ). Some (source_of path bs)) (sym (whole (subst (λ (s : RawSource). length s.bytes ≤ most_in_one) (sym same) short))) ∙ is
+      ap (λ (bs : List ℕ). Some (source_of path bs)) (sym (whole (subst (λ (s : RawSource). length s.bytes ≤ max_file_bytes) (sym same) short))) ∙ is
 
 -- what a call gave of these bytes it gave of the file
 pub gives-whole : (folder : Folder) (left : ℕ) (path : List ℕ) (stands : Option (List ℕ)) (result : Result (Option RawSource) SourceReadFault) → IfOk result (IsWithin left)
-    → GivesOne folder left (option_map (source_of path) (option_map (take (most_in_one + 1)) stands)) result → GivesOne folder left (option_map (source_of path) stands) result
+    → GivesOne folder left (option_map (source_of path) (option_map (take (max_file_bytes + 1)) stands)) result → GivesOne folder left (option_map (source_of path) stands) result
 gives-whole folder left path None result within gives = gives
-gives-whole folder left path (Some bytes) (Ok None) within gives = absurd (let e : Some (source_of path (take (most_in_one + 1) bytes)) ≡ None = gives in cc)
+gives-whole folder left path (Some bytes) (Ok None) within gives = absurd (let e : Some (source_of path (take (max_file_bytes + 1) bytes)) ≡ None = gives in cc)
 gives-whole folder left path (Some bytes) (Ok (Some source)) within gives = of_source path bytes source gives within.0
 gives-whole folder left path (Some bytes) (Err (TooLarge limit)) within gives =
-    let same : source_of path (take (most_in_one + 1) bytes) ≡ gives.0 = (let e : Some (source_of path (take (most_in_one + 1) bytes)) ≡ Some gives.0 = gives.1 in cc) in
+    let same : source_of path (take (max_file_bytes + 1) bytes) ≡ gives.0 = (let e : Some (source_of path (take (max_file_bytes + 1) bytes)) ≡ Some gives.0 = gives.1 in cc) in
     (source_of path bytes, refl, sym (passed-cut path bytes folder left) ∙ subst (λ (s : RawSource). passed folder left (s ∷ []) ≡ Some limit) (sym same) gives.2)
 gives-whole folder left path (Some bytes) (Err Failed) within gives = tt
 gives-whole folder left path (Some bytes) (Err Memory) within gives = tt
@@ -191,6 +192,6 @@ both-given sources stubs given others is are = ap (λ o. both o stubs) is ∙ ap
 
 -- ---- whatever the tree tells
 
-pub short-push : (sources : List RawSource) (source : RawSource) → AreShort sources → length source.bytes ≤ most_in_one → AreShort (sources ++ source ∷ [])
+pub short-push : (sources : List RawSource) (source : RawSource) → AreShort sources → length source.bytes ≤ max_file_bytes → AreShort (sources ++ source ∷ [])
 short-push [] source all short = (short, tt)
 short-push (s ∷ sources) source all short = (all.0, short-push sources source all.1 short)

@@ -7,6 +7,7 @@ use Rattle.std.specs.declared.cmp.Ordering.TheVariants.{Less}
 use Rattle.std.specs.declared.alloc.Global.{Global}
 use Rattle.apt_base.specs.declared.kinds.What.{What}
 use Rattle.apt_base.specs.declared.kinds.What.TheVariants as what
+use Rattle.apt_base.specs.Limits.{max_file_bytes}
 use Rattle.apt_outside.specs.Files.{Files, file_at, paths_below}
 use Rattle.tree_store.specs.declared.fault.SourceReadFault.{SourceReadFault}
 use Rattle.tree_store.specs.declared.fault.SourceReadFault.TheVariants.{Failed, TooLarge, Memory}
@@ -15,12 +16,9 @@ use Rattle.tree_store.specs.declared.sources.Folder.TheVariants.{Sources, Stubs}
 use Rattle.tree_store.specs.declared.sources.RawSource.{RawSource}
 use Rattle.tree_store.specs.declared.sources.RawSources.{RawSources}
 
--- the most files in one folder, and the most bytes of one of them
+-- the most files in one folder
 abbrev pub most_files : ℕ
 most_files = 20000
-
-abbrev pub most_in_one : ℕ
-most_in_one = 8388608
 
 -- ---- the folders
 
@@ -80,7 +78,7 @@ java_files folder files = sources_at files (paths_below files (folder_path folde
 abbrev pub passed : Folder → ℕ → List RawSource → Option What
 passed folder left [] = None
 passed folder left (source ∷ sources) =
-    if nat_lt most_in_one (length source.bytes) then Some what.FileBytes
+    if nat_lt max_file_bytes (length source.bytes) then Some what.FileBytes
     else if nat_lt left (length source.bytes) then Some (limit_in_all folder)
     else passed folder (left - length source.bytes) sources
 
@@ -115,7 +113,7 @@ Gives due (Err Memory) = Unit {0}
 
 -- whatever the tree tells, none of these has more bytes than one file may have
 abbrev pub AreShort : List RawSource → Type 0
-AreShort sources = AllByRecursion (λ (source : RawSource). length source.bytes ≤ most_in_one) sources
+AreShort sources = AllByRecursion (λ (source : RawSource). length source.bytes ≤ max_file_bytes) sources
 
 -- nor has any of both
 pub record AreAllShort (raw : RawSources) : Type 0 where
@@ -132,7 +130,7 @@ GivesOne folder left found (Err Memory) = Unit {0}
 -- and what it gave passes none
 abbrev pub IsWithin : ℕ → Option RawSource → Type 0
 IsWithin left None = Unit {0}
-IsWithin left (Some source) = (length source.bytes ≤ most_in_one) × (length source.bytes ≤ left)
+IsWithin left (Some source) = (length source.bytes ≤ max_file_bytes) × (length source.bytes ≤ left)
 
 -- ---- the order of the files
 

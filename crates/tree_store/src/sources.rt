@@ -6,15 +6,12 @@ ghost use Rattle.tree_store.specs.Cause.{HasSourceCause};
 ghost use Rattle.tree_store.specs.Sources.{folder_path, most_in_all, limit_in_all, is_java, is_java_text, source_of, source_at, files_at, found_at, limited, files_in, sources_of, Gives, GivesOne, IsWithin, AreShort, AreAllShort};
 
 use crate::SourceReadFault;
-use apt_base::{List, Name, NoMemory, What};
+use apt_base::{List, MAX_FILE_BYTES, Name, NoMemory, What};
 use apt_outside::Tree;
 use std::alloc::Global;
 
 /// The most `.java` files in one folder.
 const MOST_FILES: usize = 20_000;
-
-/// The most bytes of one of them.
-const MOST_IN_ONE: usize = 8_388_608;
 
 /// A folder of Java files in the tree of a project.
 #[derive(Clone, Copy, Debug, PartialEq, Eq)]
@@ -135,7 +132,7 @@ fn sized(
     ensures unfailed { result ≢ Err Failed }
 {
     let count = bytes.len();
-    if count > MOST_IN_ONE {
+    if count > MAX_FILE_BYTES {
         return Err(SourceReadFault::TooLarge {
             what: What::FileBytes,
         });
@@ -186,7 +183,7 @@ fn read_source<T: Tree>(
     if !is_java(path) {
         return Ok(None);
     }
-    let found = tree.read(path, MOST_IN_ONE)?;
+    let found = tree.read(path, MAX_FILE_BYTES)?;
     within_limits(alloc, folder, path, found, left)
 }
 

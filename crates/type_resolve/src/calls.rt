@@ -1,7 +1,8 @@
 // The calls that give mirrors.
-ghost use Rattle.std.specs.Prelude.{◌≡◌, [], ◌∷◌, None, is_some, true, IfOk};
+ghost use Rattle.std.specs.Prelude.{◌≡◌, [], ◌∷◌, None, Some, is_some, true, IfOk};
 ghost use Rattle.decl_elements.specs.Shown.{node_of};
-ghost use Rattle.element_table.specs.TypeTable.{unit_of};
+ghost use Rattle.element_table.specs.TypeTable.{unit_of, IsTable};
+ghost use Rattle.element_table.specs.UnitNames.{unit_name};
 ghost use Rattle.name_resolve.specs.Meaning.{Within};
 ghost use Rattle.name_resolve.specs.Mirrors.{type_meaning, class_mirror, ref_of, superclass, interfaces};
 ghost use Rattle.name_resolve.specs.Placed.{IsPlaced};
@@ -204,6 +205,29 @@ pub fn is_type(table: &Table, at: &ElementRef) -> bool
     }
 }
 
+// Where the names in the header of a type are looked up.
+fn header_of<'a>(
+    alloc: Global,
+    table: &'a Table,
+    unit: &'a Unit,
+    at: &ElementRef,
+) -> Result<Scope<'a>, NoMemory>
+    requires held { unit_of table.now at.now.unit ≡ Some unit.now }
+    requires named { unit_name unit.now ≡ at.now.unit }
+    requires table { IsTable table.now }
+    ensures scope { IfOk result (λ scope. IsScope scope) }
+    ensures header { IfOk result (λ scope. scope.header ≡ true) }
+    ensures table { IfOk result (λ scope. scope.table.now ≡ table.now) }
+    ensures value { IfOk result (λ scope. find_of scope.at ≡ find_in table.now at.now) }
+{
+    let at = found_in(alloc, table, unit, at)?;
+    Ok(Scope {
+        table,
+        header: true,
+        at,
+    })
+}
+
 /// The superclass of a type of the table, which it is as a condition: as its header says, or implied (JLS 8.1.4, 8.9). `Nothing` for an interface and for `java.lang.Object`. Where the table has no implied one it is an error type with that name.
 pub fn superclass(alloc: Global, table: &Table, at: &ElementRef) -> Result<Mirror, NoMemory>
     requires { IsType table.now at.now }
@@ -211,13 +235,8 @@ pub fn superclass(alloc: Global, table: &Table, at: &ElementRef) -> Result<Mirro
 {
     match table.find(&at.unit) {
         Some(unit) => {
-            let of = found_in(alloc, table, unit, at)?;
-            let scope = Scope {
-                table,
-                header: true,
-                at: of,
-            };
-            superclass_in(alloc, &scope)
+            let header = header_of(alloc, table, unit, at)?;
+            superclass_in(alloc, &header)
         }
         None => Ok(Mirror::plain(alloc, BaseMirror::Nothing)),
     }
@@ -230,13 +249,8 @@ pub fn interfaces(alloc: Global, table: &Table, at: &ElementRef) -> Result<List<
 {
     match table.find(&at.unit) {
         Some(unit) => {
-            let of = found_in(alloc, table, unit, at)?;
-            let scope = Scope {
-                table,
-                header: true,
-                at: of,
-            };
-            interfaces_in(alloc, &scope)
+            let header = header_of(alloc, table, unit, at)?;
+            interfaces_in(alloc, &header)
         }
         None => Ok(List::new(alloc)),
     }

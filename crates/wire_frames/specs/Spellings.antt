@@ -18,7 +18,7 @@ use Rattle.frame_forms.specs.Forms as forms
 use Rattle.frame_forms.specs.Forms.{mirror_part, value_part, spelled_with, opt_spelling}
 use Rattle.frame_forms.specs.MirrorForms.{element, named_value, annotation, bool_number}
 use Rattle.frame_forms.specs.FrameTable.{frame_form, Fields}
-use Rattle.frame_forms.specs.Frames.{part_spelling, spelled}
+use Rattle.frame_forms.specs.Frames.{part_spelling, spelled, most_nested}
 use Rattle.wire_frames.specs.declared.output.Output.{Output}
 use Rattle.wire_frames.specs.Outputs.{Adds}
 
@@ -91,7 +91,7 @@ round_spelled number over error offered roots = fields_spelled (2, (number, (ove
 
 -- values with their names, as the values of an annotation with its defaults
 abbrev pub values_with_names_spelled : List (List ℕ × Value) → List ℕ
-values_with_names_spelled values = list_spelled (value_with_name_spelled 256) values
+values_with_names_spelled values = list_spelled (value_with_name_spelled most_nested) values
 
 -- a source or class file that is created: its name, its bytes and its originating elements
 abbrev pub file_spelled : List ℕ → List ℕ → List ElementRef → List ℕ
@@ -117,12 +117,12 @@ abbrev pub override_spelled : ElementRef → ElementRef → ElementRef → List 
 override_spelled overrider overridden in_type = 95 ∷ (element_spelled overrider ++ (element_spelled overridden ++ element_spelled in_type))
 
 abbrev pub two_mirrors_spelled : Mirror → Mirror → List ℕ
-two_mirrors_spelled one other = mirror_spelled 256 one ++ mirror_spelled 256 other
+two_mirrors_spelled one other = mirror_spelled most_nested one ++ mirror_spelled most_nested other
 
 -- a type, and the element that is looked at as its member
 abbrev pub member_spelled : Mirror → ElementRef → List ℕ
-member_spelled container at = mirror_spelled 256 container ++ element_spelled at
+member_spelled container at = mirror_spelled most_nested container ++ element_spelled at
 
 -- a class or interface, and the arguments of a type of it
 abbrev pub type_spelled : ElementRef → List Mirror → List ℕ
-type_spelled at arguments = element_spelled at ++ list_spelled (mirror_spelled 256) arguments
+type_spelled at arguments = element_spelled at ++ list_spelled (mirror_spelled most_nested) arguments

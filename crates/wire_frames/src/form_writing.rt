@@ -14,9 +14,6 @@ use type_mirror::{
     PrimitiveKind, Value, WholeKind,
 };
 
-/// How deep mirrors and values may be nested in a frame, counted together.
-pub(crate) const MOST_NESTED: u16 = 256;
-
 // ---- texts and elements
 
 /// Texts behind their number.

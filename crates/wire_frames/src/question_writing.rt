@@ -6,13 +6,13 @@ ghost use Rattle.wire_frames.specs.Outputs.{Adds};
 ghost use Rattle.wire_frames.specs.Spellings.{fields_spelled, mirror_spelled, numbered_spelled, override_spelled, two_mirrors_spelled, member_spelled, type_spelled};
 
 use crate::form_writing::{
-    MOST_NESTED, put_element, put_mirror, put_mirrors, put_tagged_element, put_tagged_mirror,
-    put_tagged_text,
+    put_element, put_mirror, put_mirrors, put_tagged_element, put_tagged_mirror, put_tagged_text,
 };
 use crate::output::Output;
 use crate::question::Question;
 use crate::tags;
 use apt_base::{ElementRef, List, NoMemory};
+use frame_forms::MOST_NESTED;
 use type_mirror::Mirror;
 
 #[tactic(auto, using(crate::proofs::Added::adds))]
@@ -71,7 +71,7 @@ fn put_type(
 }
 
 fn put_about_mirror(output: &mut Output, tag: u8, mirror: &Mirror) -> Result<(), NoMemory>
-    ensures { Adds result output.old output.new (tag ∷ mirror_spelled 256 mirror.now) }
+    ensures { Adds result output.old output.new (tag ∷ mirror_spelled MOST_NESTED mirror.now) }
 {
     put_tagged_mirror(output, tag, mirror, MOST_NESTED)
 }

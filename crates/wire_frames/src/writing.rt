@@ -11,7 +11,7 @@ ghost use Rattle.wire_frames.specs.Spellings.{list_spelled, fields_spelled, elem
 ghost use Rattle.wire_frames.specs.declared.writing.FrameFault.TheVariants as faults;
 
 use crate::form_writing::{
-    MOST_NESTED, put_annotations, put_element, put_elements, put_mirrors, put_texts, put_value,
+    put_annotations, put_element, put_elements, put_mirrors, put_texts, put_value,
 };
 use crate::frame::{Creation, Frame, Hello, Init, Message};
 use crate::output::Output;
@@ -19,6 +19,7 @@ use crate::question_writing::put_question;
 use crate::reply::{Created, Info, Refused, Reply};
 use crate::tags;
 use apt_base::{Claim, ElementRef, FieldWriter, List, Name, NoMemory};
+use frame_forms::MOST_NESTED;
 use std::alloc::Global;
 use type_mirror::Value;
 

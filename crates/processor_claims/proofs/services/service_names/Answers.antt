@@ -18,7 +18,7 @@ loop-line-preserved c =
     record {
       bad = sym (first_bad-goes name_in here later c.in-Some.line.number c.in-Some.line.text.now c.in-Some.ensures.some c.in-Some-name_in.name.now c.in-Some-name_in.ensures) ∙ c.loop-line.invariant.bad;
       all =
-          ap (λ names. gathered names (readings name_in later)) c.in_ok-add-in-Some-name_in.ensures
+          ap (λ names. gathered names (readings name_in later)) c.in_ok-add-in-Some-name_in.ensures.added
           ∙ gathered-more c.loop-line.names c.in-Some-name_in.name.now (readings name_in later)
           ∙ ap (gathered c.loop-line.names) (sym (readings-goes name_in here later c.in-Some.line.number c.in-Some.line.text.now c.in-Some.ensures.some c.in-Some-name_in.name.now c.in-Some-name_in.ensures))
           ∙ c.loop-line.invariant.all;

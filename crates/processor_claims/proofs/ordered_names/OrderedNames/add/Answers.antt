@@ -2,8 +2,8 @@ use Rattle.std.proofs.Common.{map, not, ap, ◌∙◌, string_bytes}
 use Rattle.std.specs.List.{list_any}
 use Rattle.std.specs.Str.{bytes_eq}
 use Rattle.processor_claims.specs.Services.{with_name}
-use Rattle.project_config.proofs.NameSets.{any-shown, insert_key-shown}
-use Rattle.project_config.proofs.items.Names.add.Goals as goal
+use Rattle.processor_claims.proofs.NameLaws.{any-shown, insert_key-shown}
+use Rattle.processor_claims.proofs.ordered_names.OrderedNames.add.Goals as goal
 
 pub returns-clause-new : goal.returns-clause-new
 returns-clause-new c =

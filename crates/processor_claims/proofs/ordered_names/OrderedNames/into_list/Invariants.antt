@@ -1,5 +1,5 @@
 use Rattle.std.proofs.Common.{◌≡◌, ◌++◌, map, string_bytes}
-use Rattle.processor_claims.proofs.services.Names.into_list.Given as goal
+use Rattle.processor_claims.proofs.ordered_names.OrderedNames.into_list.Given as goal
 
 -- the names so far, and those to come
 abbrev pub invariant-loop-name : goal.invariant-loop-name
