@@ -7,11 +7,14 @@ ghost use Rattle.decl_grammar.specs.SymbolList.{word_sort, operator_sort, sort_o
 use crate::sorts::{
     ABSTRACT, AT, AT_INTERFACE, CHARACTER, EQUALS, FLOATING, GREATER_THAN, IDENTIFIER, INTEGER,
     INTERFACE, NAMED, NULL, OPEN_PARENTHESIS, SHIFT_RIGHT, TEXT, TEXT_BLOCK, TRUTH, UNDERSCORE,
-    UNSIGNED_SHIFT_RIGHT,
+    UNSIGNED_SHIFT_RIGHT, UNSIGNED_SHIFT_RIGHT_EQUALS,
 };
 use crate::symbol::{Symbol, TokenText};
 use java_tokens::{Chars, TextFault, Token, TokenKind, TokenReader};
 use std::alloc::Global;
+
+// A sort of which no form has a symbol.
+const NO_SORT: u8 = 255;
 
 // The sort of a keyword with this number.
 fn word_sort_of(number: u8) -> u8
@@ -20,7 +23,7 @@ fn word_sort_of(number: u8) -> u8
     if number <= UNDERSCORE - ABSTRACT {
         ABSTRACT + number
     } else {
-        255
+        NO_SORT
     }
 }
 
@@ -28,10 +31,10 @@ fn word_sort_of(number: u8) -> u8
 fn operator_sort_of(number: u8) -> u8
     ensures { result ≡ operator_sort number }
 {
-    if number <= 49 {
+    if number <= UNSIGNED_SHIFT_RIGHT_EQUALS - OPEN_PARENTHESIS {
         OPEN_PARENTHESIS + number
     } else {
-        255
+        NO_SORT
     }
 }
 

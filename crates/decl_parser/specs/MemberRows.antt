@@ -10,6 +10,8 @@ use Rattle.decl_grammar.specs.Form.{Form, many, turned, with_front, modifier_wor
 use Rattle.decl_grammar.specs.Grammar.{enum_members, unmodified_of, plain_modified, class_modified, modified_form, member_from, member_form}
 use Rattle.decl_grammar.specs.Rule.{reads}
 use Rattle.decl_types.specs.Members.{with_members}
+use Rattle.decl_grammar.specs.Symbols.{operator}
+use Rattle.decl_grammar.specs.TokenNames as token
 
 -- a member of a class whose first modifier is not `static`
 abbrev pub plain_of_class : Form (Modifiers × Unmodified)
@@ -37,4 +39,4 @@ enum_behind front room ts = with_front front (reads room enum_members ts)
 
 -- the sorts of symbol that begin a top-level type, or a `;`
 abbrev pub top_type_firsts : List ℕ
-top_type_firsts = (67 ∷ []) ++ ((modifier_words ++ 71 ∷ []) ++ first_of nested_type)
+top_type_firsts = (operator token.semicolon ∷ []) ++ ((modifier_words ++ operator token.at ∷ []) ++ first_of nested_type)

@@ -8,6 +8,7 @@ ghost use Rattle.decl_types.specs.Members.{has_blocks};
 ghost use Rattle.decl_parser.specs.MemberRows.{enum_behind, plain_of_class, modified_of_class, declared_behind, member_behind, members_behind};
 
 use crate::declarations::nested_type_of;
+use decl_grammar::sorts::{CLOSE_BRACE, OPEN_BRACE, SEMICOLON, VOID};
 use decl_grammar::{MemberAt, MemberRest, Modifiers, ReadFault, Symbol, Unmodified};
 use decl_members::{
     add_members, generic_member_of, named_member_of, primitive_member_of, void_method_of,
@@ -48,7 +49,7 @@ fn bare_member_of<'a, 's>(
     if starts_type_word(symbols) {
         return nested_member_of(alloc, room, symbols);
     }
-    if is_next(symbols, 57) {
+    if is_next(symbols, VOID) {
         return void_method_of(alloc, room, symbols);
     }
     if starts_primitive(symbols) {
@@ -98,8 +99,8 @@ fn static_rest_of<'a, 's>(
 ) -> Result<((Modifiers, Unmodified), &'s [Symbol<'a>]), ReadFault>
     ensures { Gives (λ x. (x.0, x.1.now)) result (reads room (static_rest (unmodified_of true)) symbols.now) }
 {
-    if is_next(symbols, 63) {
-        let rest = read_over(alloc, 63, symbols)?;
+    if is_next(symbols, OPEN_BRACE) {
+        let rest = read_over(alloc, OPEN_BRACE, symbols)?;
         return Ok(((none(alloc), Unmodified::Nothing), rest));
     }
     let (modifiers, rest) = optional_modifiers_of(alloc, room, symbols)?;
@@ -209,11 +210,11 @@ fn documented_of<'a, 's>(
 
 /// Whether a type of this kind may have an initialiser here.
 pub fn is_initialiser(kind: TypeKind, symbols: &[Symbol<'_>]) -> bool
-    ensures { result ≡ (has_blocks kind && starts (63 ∷ []) symbols.now) }
+    ensures { result ≡ (has_blocks kind && starts (OPEN_BRACE ∷ []) symbols.now) }
 {
     match kind {
-        TypeKind::Enum => is_next(symbols, 63),
-        TypeKind::Class => is_next(symbols, 63),
+        TypeKind::Enum => is_next(symbols, OPEN_BRACE),
+        TypeKind::Class => is_next(symbols, OPEN_BRACE),
         TypeKind::AnnotationType => false,
         TypeKind::Interface => false,
     }
@@ -230,12 +231,12 @@ pub fn member_of<'a, 's>(
 ) -> Result<(Vec<MemberAt>, &'s [Symbol<'a>]), ReadFault>
     ensures { Gives (λ x. (x.0.items, x.1.now)) result (member_behind front.items room kind symbols.now) }
 {
-    if is_next(symbols, 67) {
-        let (_, rest) = one(symbols, 67)?;
+    if is_next(symbols, SEMICOLON) {
+        let (_, rest) = one(symbols, SEMICOLON)?;
         return Ok((front, rest));
     }
     if is_initialiser(kind, symbols) {
-        let rest = read_over(alloc, 63, symbols)?;
+        let rest = read_over(alloc, OPEN_BRACE, symbols)?;
         return Ok((front, rest));
     }
     documented_of(alloc, room, kind, front, symbols)
@@ -272,10 +273,10 @@ pub fn members_of<'a, 's>(
 ) -> Result<(Vec<MemberAt>, &'s [Symbol<'a>]), ReadFault>
     ensures { Gives (λ x. (x.0.items, x.1.now)) result (reads room (members_in kind) symbols.now) }
 {
-    let (_, rest) = one(symbols, 63)?;
+    let (_, rest) = one(symbols, OPEN_BRACE)?;
     let front = Vec::new(alloc);
     let (all, rest) = more_members_of(alloc, room, kind, front, rest)?;
-    let (_, rest) = one(rest, 64)?;
+    let (_, rest) = one(rest, CLOSE_BRACE)?;
     Ok((all, rest))
 }
 
@@ -290,8 +291,8 @@ pub fn more_enum_members_of<'a, 's>(
 ) -> Result<(Vec<MemberAt>, &'s [Symbol<'a>]), ReadFault>
     ensures { Gives (λ x. (x.0.items, x.1.now)) result (enum_behind front.items room symbols.now) }
 {
-    if is_next(symbols, 67) {
-        let (_, rest) = one(symbols, 67)?;
+    if is_next(symbols, SEMICOLON) {
+        let (_, rest) = one(symbols, SEMICOLON)?;
         let (all, rest) = more_members_of(alloc, room, TypeKind::Enum, front, rest)?;
         return Ok((all, rest));
     }

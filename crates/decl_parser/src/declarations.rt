@@ -7,6 +7,7 @@ ghost use Rattle.decl_grammar.specs.Rule.{reads, read_nest};
 
 use crate::bodies::{members_of, more_enum_members_of};
 use apt_base::List;
+use decl_grammar::sorts::{AT_INTERFACE, CLASS, CLOSE_BRACE, ENUM, INTERFACE, OPEN_BRACE};
 use decl_grammar::{ReadFault, Symbol, TypeRest};
 use decl_members::{constants_of, extended_of, implemented_of, superclass_of};
 use decl_tree::TypeKind;
@@ -39,7 +40,7 @@ fn class_of<'a, 's>(
 ) -> Result<(TypeRest, &'s [Symbol<'a>]), ReadFault>
     ensures { Gives (λ x. (x.0, x.1.now)) result (reads room class_form symbols.now) }
 {
-    let (_, rest) = one(symbols, 18)?;
+    let (_, rest) = one(symbols, CLASS)?;
     let (name, rest) = read_name_at(alloc, room, rest)?;
     let (parameters, rest) = optional_params_of(alloc, room, rest)?;
     let parameters = List::from_vec(parameters);
@@ -72,7 +73,7 @@ fn interface_of<'a, 's>(
 ) -> Result<(TypeRest, &'s [Symbol<'a>]), ReadFault>
     ensures { Gives (λ x. (x.0, x.1.now)) result (reads room interface_form symbols.now) }
 {
-    let (_, rest) = one(symbols, 37)?;
+    let (_, rest) = one(symbols, INTERFACE)?;
     let (name, rest) = read_name_at(alloc, room, rest)?;
     let (parameters, rest) = optional_params_of(alloc, room, rest)?;
     let parameters = List::from_vec(parameters);
@@ -105,8 +106,8 @@ fn annotation_interface_of<'a, 's>(
 ) -> Result<(TypeRest, &'s [Symbol<'a>]), ReadFault>
     ensures { Gives (λ x. (x.0, x.1.now)) result (reads room annotation_form symbols.now) }
 {
-    let (_, rest) = one(symbols, 9)?;
-    let (_, rest) = one(rest, 37)?;
+    let (_, rest) = one(symbols, AT_INTERFACE)?;
+    let (_, rest) = one(rest, INTERFACE)?;
     let (name, rest) = read_name_at(alloc, room, rest)?;
     let parameters = List::new(alloc);
     let interfaces = List::new(alloc);
@@ -137,15 +138,15 @@ fn enum_of<'a, 's>(
 ) -> Result<(TypeRest, &'s [Symbol<'a>]), ReadFault>
     ensures { Gives (λ x. (x.0, x.1.now)) result (reads room enum_form symbols.now) }
 {
-    let (_, rest) = one(symbols, 25)?;
+    let (_, rest) = one(symbols, ENUM)?;
     let (name, rest) = read_name_at(alloc, room, rest)?;
     let parameters = List::new(alloc);
     let (interfaces, rest) = implemented_of(alloc, room, rest)?;
     let interfaces = List::from_vec(interfaces);
-    let (_, rest) = one(rest, 63)?;
+    let (_, rest) = one(rest, OPEN_BRACE)?;
     let (front, rest) = constants_of(alloc, room, rest)?;
     let (members, rest) = more_enum_members_of(alloc, room, front, rest)?;
-    let (_, rest) = one(rest, 64)?;
+    let (_, rest) = one(rest, CLOSE_BRACE)?;
     let members = List::from_vec(members);
     let superclass = None;
     let kind = TypeKind::Enum;
@@ -172,13 +173,13 @@ pub fn type_rest_of<'a, 's>(
 ) -> Result<(TypeRest, &'s [Symbol<'a>]), ReadFault>
     ensures { Gives (λ x. (x.0, x.1.now)) result (reads room type_rest symbols.now) }
 {
-    if is_next(symbols, 18) {
+    if is_next(symbols, CLASS) {
         return class_of(alloc, room, symbols);
     }
-    if is_next(symbols, 37) {
+    if is_next(symbols, INTERFACE) {
         return interface_of(alloc, room, symbols);
     }
-    if is_next(symbols, 9) {
+    if is_next(symbols, AT_INTERFACE) {
         return annotation_interface_of(alloc, room, symbols);
     }
     enum_of(alloc, room, symbols)

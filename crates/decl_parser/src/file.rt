@@ -9,6 +9,7 @@ ghost use Rattle.decl_grammar.specs.File.{IsPhrase, IsShallow, phrase_at, Found,
 
 use crate::top_types::top_types_of;
 use apt_base::List;
+use decl_grammar::sorts::PACKAGE;
 use decl_grammar::{NameAt, ParseFault, ReadFault, Symbol, TypeAt};
 use decl_tree::Import;
 use decl_types::package_of;
@@ -35,7 +36,7 @@ pub fn optional_package_of<'a, 's>(
 ) -> Result<(Option<NameAt>, &'s [Symbol<'a>]), ReadFault>
     ensures { Gives (λ x. (x.0, x.1.now)) result (reads room (maybe package_form) symbols.now) }
 {
-    if is_next(symbols, 41) {
+    if is_next(symbols, PACKAGE) {
         let (name, rest) = package_of(alloc, room, symbols)?;
         return Ok((Some(name), rest));
     }

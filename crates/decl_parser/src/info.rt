@@ -10,6 +10,7 @@ ghost use Rattle.decl_grammar.specs.File.{IsPhrase, IsShallow, phrase_at, Found,
 
 use crate::info_file::{InfoFile, PackageText};
 use apt_base::List;
+use decl_grammar::sorts::{PACKAGE, SEMICOLON};
 use decl_grammar::{NameAt, ParseFault, ReadFault, Symbol};
 use decl_tree::AnnotationText;
 use decl_types::package_of;
@@ -54,9 +55,9 @@ fn annotated_package_of<'a, 's>(
 
 // Whether a package declaration begins here, or an annotation before one.
 fn starts_package(symbols: &[Symbol<'_>]) -> bool
-    ensures { result ≡ starts (ats ++ (41 ∷ [])) symbols.now }
+    ensures { result ≡ starts (ats ++ (PACKAGE ∷ [])) symbols.now }
 {
-    starts_annotation(symbols) || is_next(symbols, 41)
+    starts_annotation(symbols) || is_next(symbols, PACKAGE)
 }
 
 // A package declaration with annotations, where there is one.
@@ -83,7 +84,7 @@ fn semicolon_of<'a, 's>(
 ) -> Result<(&'s Symbol<'a>, &'s [Symbol<'a>]), ReadFault>
     ensures { Gives (λ x. (x.0.now, x.1.now)) result (reads room semicolon symbols.now) }
 {
-    one(symbols, 67)
+    one(symbols, SEMICOLON)
 }
 
 // What is behind the semicolons that stand here.
@@ -94,7 +95,7 @@ fn semicolons_of<'a, 's>(
     ensures { Gives (λ x. (tt, x.now)) result (turned silently (reads room (many semicolon) symbols.now)) }
 {
     let mut rest = begin(symbols)?;
-    'row: while is_next(rest, 67) {
+    'row: while is_next(rest, SEMICOLON) {
         let (_, after) = semicolon_of(room, rest)?;
         rest = after;
     }

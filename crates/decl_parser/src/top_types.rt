@@ -8,6 +8,7 @@ ghost use Rattle.decl_grammar.specs.Grammar.{modified_type, top_type};
 ghost use Rattle.decl_grammar.specs.Rule.{reads};
 
 use crate::declarations::type_rest_of;
+use decl_grammar::sorts::{AT, SEMICOLON};
 use decl_grammar::{Modifiers, ReadFault, Symbol, TypeAt, TypeRest};
 use decl_members::type_at;
 use decl_types::{starts_modifier, starts_type_word, type_modifiers_of};
@@ -37,8 +38,8 @@ fn top_type_of<'a, 's>(
 ) -> Result<(Option<TypeAt>, &'s [Symbol<'a>]), ReadFault>
     ensures { Gives (λ x. (x.0, x.1.now)) result (reads room top_type symbols.now) }
 {
-    if is_next(symbols, 67) {
-        let (_, rest) = one(symbols, 67)?;
+    if is_next(symbols, SEMICOLON) {
+        let (_, rest) = one(symbols, SEMICOLON)?;
         return Ok((None, rest));
     }
     let ((modifiers, declaration), rest) = modified_type_of(alloc, room, symbols)?;
@@ -49,7 +50,7 @@ fn top_type_of<'a, 's>(
 
 // Whether a type begins here, or its modifiers.
 fn starts_modified(symbols: &[Symbol<'_>]) -> bool
-    ensures { result ≡ starts ((modifier_words ++ (71 ∷ [])) ++ first_of nested_type) symbols.now }
+    ensures { result ≡ starts ((modifier_words ++ (AT ∷ [])) ++ first_of nested_type) symbols.now }
 {
     starts_modifier(symbols) || starts_type_word(symbols)
 }
@@ -58,7 +59,7 @@ fn starts_modified(symbols: &[Symbol<'_>]) -> bool
 fn starts_top_type(symbols: &[Symbol<'_>]) -> bool
     ensures { result ≡ starts top_type_firsts symbols.now }
 {
-    is_next(symbols, 67) || starts_modified(symbols)
+    is_next(symbols, SEMICOLON) || starts_modified(symbols)
 }
 
 // The top-level types that stand here, put behind others.
