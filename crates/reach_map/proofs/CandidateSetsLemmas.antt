@@ -31,11 +31,6 @@ pub with_chains-one : (u : UnitText) (names : NameSet) (chain : List (List ℕ))
 unfolding with_chains
 with_chains-one u names chain = ap (with_names names) (append-nil (chain_candidates u chain))
 
--- all of them in one list
-pub with_chains-all : (u : UnitText) (names : NameSet) (chains : Chains) → with_chains u names chains ≡ with_names names (flat_map (chain_candidates u) chains)
-unfolding with_chains
-with_chains-all u names chains = refl
-
 -- one item more
 pub with_next : {A : Type 0} (u : UnitText) (f : A → Chains) (names p q : NameSet) (items : List A) (i : ℕ) (item d : A) → i < length items → item ≡ get_or items i d
     → p ≡ with_chains u names (flat_map f (take i items)) → q ≡ with_chains u p (f item) → q ≡ with_chains u names (flat_map f (take (i + 1) items))

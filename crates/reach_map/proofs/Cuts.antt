@@ -164,13 +164,6 @@ module _ (table : TypeTable) (names : List ℕ → Bool) where
       interfaces = (supertypes_same (scope_at scope) l).1;
     }
 
-    -- what is found lies in the cut or is a stub
-    pub meaning-lies : (scope : Scope) → Lies (scope_at scope).part (scope_at scope).unit → AllByRecursion (λ chain. Good (meaning table scope chain)) (unit_chains (scope_at scope).unit)
-    unfolding meaning
-    meaning-lies scope l =
-        each_to (asks_at scope) _ (λ chain a. (found_same scope l chain a).good) (unit_chains (scope_at scope).unit)
-        (chains_ask (SameTop (scope_at scope).part) (scope_at scope).unit (candidates_same (scope_at scope).part (scope_at scope).unit l))
-
   -- ---- by the name of a unit
 
   lies_by : (name : List ℕ) (source stub : Option UnitText) → fin.get table.source name ≡ source → (part : Part) (u : UnitText)

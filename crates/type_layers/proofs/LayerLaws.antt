@@ -9,7 +9,7 @@ use Rattle.type_mirror.specs.declared.mirror.Mirror.{Mirror, roll-Mirror, out-Mi
 use Rattle.type_mirror.specs.declared.mirror.BaseMirror.{BaseMirror, roll-BaseMirror, out-BaseMirror, roll-out-BaseMirror, out-roll-BaseMirror}
 use Rattle.type_mirror.specs.declared.mirror.BaseMirror.TheVariants as base
 use Rattle.type_mirror.specs.declared.mirror.BaseMirror.TheOpen.{BaseMirror-F, Mirror-F, DeclaredMirror-F, ExecutableMirror-F}
-use Rattle.type_mirror.specs.declared.mirror.BaseMirror.TheFolds.{map-BaseMirror, map-Mirror, map-DeclaredMirror, map-ExecutableMirror, fold-BaseMirror, fold-DeclaredMirror, fold-ExecutableMirror, fold-roll-Mirror, fold-roll-BaseMirror, fold-roll-DeclaredMirror, fold-roll-ExecutableMirror, ind-Mirror}
+use Rattle.type_mirror.specs.declared.mirror.BaseMirror.TheFolds.{map-BaseMirror, map-DeclaredMirror, map-ExecutableMirror, fold-BaseMirror, fold-DeclaredMirror, fold-ExecutableMirror, fold-roll-Mirror, fold-roll-BaseMirror, fold-roll-DeclaredMirror, fold-roll-ExecutableMirror, ind-Mirror}
 use Rattle.type_mirror.specs.declared.mirror.DeclaredMirror.{DeclaredMirror, roll-DeclaredMirror, out-DeclaredMirror, roll-out-DeclaredMirror, out-roll-DeclaredMirror}
 use Rattle.type_mirror.specs.declared.mirror.ExecutableMirror.{ExecutableMirror, roll-ExecutableMirror, out-ExecutableMirror, roll-out-ExecutableMirror, out-roll-ExecutableMirror}
 use Rattle.type_mirror.specs.Parts.{plain, wrapped}
@@ -194,9 +194,6 @@ module _ (P : Mirror → Type 0) (step : (l : Layer Mirror) → AllParts P l →
 
   abbrev kept_base : BaseMirror-F KeptBase KeptDeclared KeptExecutable Kept → BaseLayer
   kept_base = map-BaseMirror KeptBase KeptDeclared KeptExecutable Kept BaseMirror DeclaredMirror ExecutableMirror Mirror (λ e. e.0) (λ e. e.0) (λ e. e.0) (λ e. e.0)
-
-  abbrev kept_mirror : Mirror-F KeptBase KeptDeclared KeptExecutable Kept → MirrorLayer
-  kept_mirror = map-Mirror KeptBase KeptDeclared KeptExecutable Kept BaseMirror DeclaredMirror ExecutableMirror Mirror (λ e. e.0) (λ e. e.0) (λ e. e.0) (λ e. e.0)
 
   abbrev kept_declared : DeclaredMirror-F KeptBase KeptDeclared KeptExecutable Kept → DeclaredLayer
   kept_declared = map-DeclaredMirror KeptBase KeptDeclared KeptExecutable Kept BaseMirror DeclaredMirror ExecutableMirror Mirror (λ e. e.0) (λ e. e.0) (λ e. e.0) (λ e. e.0)

@@ -4,7 +4,7 @@ use Rattle.std.proofs.lemmas.Bool.{eqb-true, false≢true}
 use Rattle.std.specs.Prelude.{find}
 use Rattle.std.specs.List.{list_any}
 use Rattle.std.specs.Option.{option_or}
-use Rattle.type_members.specs.Once.{with_new, with_each, OnceFindsTheFirst}
+use Rattle.type_members.specs.Once.{with_new, with_each}
 use Rattle.type_members.proofs.LevelsOfAlike.{find_joined}
 
 or_none : (o : Option ℕ) → option_or o None ≡ o
@@ -51,6 +51,3 @@ module _ (test : ℕ → Bool) where
   with_all list (n ∷ numbers) =
       with_all (with_new list n) numbers ∙ ap (λ o. option_or o (find test numbers)) (with_one list n)
       ∙ behind_first (find test list) n (test n) (find test numbers)
-
-pub first_of_each : OnceFindsTheFirst
-first_of_each test numbers = with_all test [] numbers

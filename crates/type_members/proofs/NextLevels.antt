@@ -1,10 +1,10 @@
 -- The next level of supertypes, from the types of a level one after another: each type once, at the place where it first comes.
-use Rattle.std.proofs.Common.{◌≡◌, ℕ, suc, ◌+◌, ◌<◌, ◌≤◌, Bool, true, false, cond, List, [], ◌∷◌, ◌++◌, length, get_or, take, drop, map, Option, None, Some, option_map, refl, sym, ap, ◌∙◌, subst, arith}
+use Rattle.std.proofs.Common.{◌≡◌, ℕ, suc, ◌+◌, ◌<◌, Bool, true, false, cond, List, [], ◌∷◌, ◌++◌, length, get_or, take, drop, map, Option, None, Some, option_map, refl, sym, ap, ◌∙◌, subst, arith}
 use Rattle.std.specs.Prelude.{find, flat_map, eqb}
 use Rattle.std.specs.List.{list_any}
 use Rattle.std.specs.Option.{option_and_then, option_or}
 use Rattle.std.proofs.Math.Seq.{drop-cons, take-suc}
-use Rattle.std.proofs.lemmas.List.{append_assoc, append-nil, map-append, take-append-drop, take_all}
+use Rattle.std.proofs.lemmas.List.{append_assoc, append-nil, map-append, take-append-drop}
 use Rattle.element_table.specs.TypeTable.{TypeTable}
 use Rattle.type_mirror.specs.declared.mirror.Mirror.{Mirror}
 use Rattle.type_relations.specs.Closed.{closed}
@@ -164,11 +164,3 @@ module _ (table : TypeTable) (t t' t'' : List Mirror) (numbers : List ℕ) (i : 
       ap (further table) types
       ∙ joined_open (direct table) (map (at t) (take i numbers)) (at t number) (map (at t) (drop (suc i) numbers)) (sym same_direct ∙ sym stand.types) in
       subst (MayBeLevel t'' None) (sym whole) tt
-
-pub level_start : (table : TypeTable) (t : List Mirror) (numbers next : List ℕ) → next ≡ [] → IsLevelSoFar table t t numbers next 0
-level_start table t numbers next e =
-    subst (λ (ns : List ℕ). IsLevelSoFar table t t numbers ns 0) (sym e) (record { known = tt; alike = λ test. refl })
-
-pub level_whole : (table : TypeTable) (t t' : List Mirror) (numbers next : List ℕ) (i : ℕ) → length numbers ≤ i → IsLevelSoFar table t t' numbers next i
-    → MayBeLevel t' (Some next) (next_level table t numbers)
-level_whole table t t' numbers next i all so_far = subst (λ (ns : List ℕ). MayBeLevel t' (Some next) (next_level table t ns)) (take_all i numbers all) so_far

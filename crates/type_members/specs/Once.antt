@@ -1,5 +1,5 @@
 -- Numbers in a list, each once, at the place where it first came.
-use Rattle.std.specs.Prelude.{◌≡◌, ℕ, Bool, eqb, List, [], ◌∷◌, ◌++◌, find, fold, if◌then◌else◌}
+use Rattle.std.specs.Prelude.{ℕ, eqb, List, [], ◌∷◌, ◌++◌, fold, if◌then◌else◌}
 use Rattle.std.specs.List.{list_any}
 
 abbrev pub with_new : List ℕ → ℕ → List ℕ
@@ -7,7 +7,3 @@ with_new list number = if list_any (eqb number) list then list else list ++ numb
 
 abbrev pub with_each : List ℕ → List ℕ → List ℕ
 with_each list numbers = fold with_new list numbers
-
--- the first number that passes a test is that of the whole list
-abbrev pub OnceFindsTheFirst : Type 0
-OnceFindsTheFirst = (test : ℕ → Bool) (numbers : List ℕ) → find test (with_each [] numbers) ≡ find test numbers

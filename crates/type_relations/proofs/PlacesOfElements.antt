@@ -37,13 +37,6 @@ unfolding node_at
 place-within table at unit e = ap (λ (u : Option UnitText). node_from table u at.unit at.path) e
 
 -- by what an element without a unit is
-pub place-nothing : (table : TypeTable) (at : ElementRef) → unit_of table at.unit ≡ None → option_map element_of (node_at table at) ≡ None → None ≡ node_at table at
-place-nothing table at e h = by (node_at table at) h
-  where
-    by : (o : Option Node) → option_map element_of o ≡ None → None ≡ o
-    by None h = refl
-    by (Some node) h = absurd cc
-
 pub place-package : (table : TypeTable) (at : ElementRef) (x : Shown) → unit_of table at.unit ≡ None → option_map element_of (node_at table at) ≡ Some x → Some (OfPackage None) ≡ node_at table at
 place-package table at x e h =
     by (node_from table None at.unit at.path) (without_unit table at.unit at.path) (sym (ap (option_map element_of) (node-without table at e)) ∙ h) ∙ sym (node-without table at e)
@@ -97,6 +90,3 @@ module _ (table : TypeTable) (at : ElementRef) where
 
   pub parameters-none : None ≡ node_at table at → 0 ≡ length (parameters_of (node_at table at))
   parameters-none e = ap (λ (o : Option Node). length (parameters_of o)) e
-
-  pub parameters-some : (node : Node) → Some node ≡ node_at table at → length (declared_parameters node) ≡ length (parameters_of (node_at table at))
-  parameters-some node e = ap (λ (o : Option Node). length (parameters_of o)) e

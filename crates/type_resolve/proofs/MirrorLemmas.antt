@@ -169,10 +169,6 @@ module _ (look : Look) where
       ∙ ap (λ (t : List ℕ). fronts_text before ++ t) (sym (append-nil (part_spelled part ++ 46 ∷ [])))
       ∙ sym (flat_map-append (λ (p : NamedPart). part_spelled p ++ 46 ∷ []) before (part ∷ []))
 
-  pub class-begins : (parts : List NamedPart) → class_from look [] [] None (map (part_meant look) parts) ≡ parts_mirror look (map (part_meant look) parts)
-  class-begins [] = refl
-  class-begins (part ∷ parts) = refl
-
   pub class-ends : (before : List NamedPart) (enclosing : Option Mirror) (part : NamedPart)
       → class_from look (map part_name before) (fronts_text before) enclosing (map (part_meant look) (part ∷ []))
       ≡ whole_mirror look (map part_name (before ++ part ∷ [])) (parts_spelled (before ++ part ∷ [])) enclosing (part_meant look part).arguments

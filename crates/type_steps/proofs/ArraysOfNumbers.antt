@@ -6,11 +6,11 @@ use Rattle.type_layers.specs.Layers.{Extends, layer, array_of, mirror_of}
 use Rattle.type_numbers.specs.declared.node.Node.{Node}
 use Rattle.type_numbers.specs.declared.node.Node.TheVariants as node
 use Rattle.type_numbers.specs.Nodes.{layer_of}
-use Rattle.type_numbers.specs.Numbers.{at, IsKnown, Stands, AllStand, OptionStands, Grows, with_types}
+use Rattle.type_numbers.specs.Numbers.{at, IsKnown, Stands, AllStand, Grows, with_types}
 use Rattle.type_numbers.proofs.AddedTypes.{node-is}
 use Rattle.type_numbers.proofs.NumberLaws.{grown-at, all-next}
 use Rattle.type_relations.specs.Erasure.{erasure}
-use Rattle.type_steps.specs.Arrays.{arrays, arrays_at, array_types, ErasesIn}
+use Rattle.type_steps.specs.Arrays.{arrays, array_types, ErasesIn}
 use Rattle.type_steps.proofs.LayersOfNumbers.{node-layer}
 use Rattle.type_steps.proofs.ErasuresByLayers.{erasure-array, erasure-bound}
 
@@ -45,9 +45,6 @@ option_same : (o : Option Mirror) → o ≡ option_map (arrays zero) o
 option_same None = refl
 option_same (Some m) = refl
 
-pub erases-itself : (m : Mirror) → ErasesIn m 0 m
-erases-itself m = λ table steps. option_same (erasure table steps m)
-
 option_inside : (k : ℕ) (o : Option Mirror) → option_map (arrays k) (option_map array_of o) ≡ option_map (arrays (k + 1)) o
 option_inside k None = refl
 option_inside k (Some m) = ap (λ (x : Mirror). Some x) (arrays-inside k m)
@@ -74,9 +71,6 @@ stands-around t t' t'' number made item k inner one = record {
   known = one.known;
   type = one.type ∙ ap array_of inner.type ∙ arrays-around k (at t item);
 }
-
-pub optional-in_arrays : (t t' : List Mirror) (item made k : ℕ) → Stands t' made (arrays k (at t item)) → OptionStands t' (Some made) (arrays_at t k (Some item))
-optional-in_arrays t t' item made k s = record { known = (s.known, tt); type = ap (λ (m : Mirror). Some m) s.type }
 
 -- ---- arrays of several types
 

@@ -1,7 +1,7 @@
 -- The erasure of a type by its outermost layer, by numbers.
-use Rattle.std.proofs.Common.{◌≡◌, ◌<◌, ◌≤◌, ℕ, suc, ◌+◌, false, List, [], ◌∷◌, ◌++◌, length, get_or, map, drop, Option, Some, None, Result, IfOk, refl, sym, ap, subst, ◌∙◌, arith}
+use Rattle.std.proofs.Common.{◌≡◌, ◌<◌, ℕ, suc, ◌+◌, false, List, [], ◌∷◌, ◌++◌, length, get_or, map, drop, Option, Some, None, Result, IfOk, refl, sym, ap, subst, ◌∙◌, arith}
 use Rattle.std.proofs.Math.Seq.{drop-cons}
-use Rattle.std.proofs.lemmas.List.{map-append, drop_all}
+use Rattle.std.proofs.lemmas.List.{map-append}
 use Rattle.std.specs.Option.{option_map}
 use Rattle.apt_base.specs.declared.element.ElementRef.{ElementRef}
 use Rattle.element_table.specs.TypeTable.{TypeTable}
@@ -21,7 +21,7 @@ use Rattle.type_numbers.proofs.NumberLaws.{grown-at, grown-known, grown-all_know
 use Rattle.type_relations.specs.Closed.{closed, behind}
 use Rattle.type_relations.specs.Direct.{all_steps}
 use Rattle.type_relations.specs.Erasure.{erased_layer, erasing_step, variable_erasure, executable_of, erasure, erasures}
-use Rattle.type_relations.proofs.ClosedLists.{behind-start, behind-end, behind-some, behind-none}
+use Rattle.type_relations.proofs.ClosedLists.{behind-some, behind-none}
 use Rattle.type_steps.specs.Arrays.{has_item}
 use Rattle.type_steps.specs.Supertypes.{AllMayStand, erasure_at, erasures_at}
 use Rattle.type_steps.proofs.LayersOfNumbers.{NoClass, node-layer}
@@ -118,12 +118,6 @@ pub record AreErased (table : TypeTable) (t t' : List Mirror) (parts list : List
   pub known : AreKnown t' list
   pub rest : behind (map (at t') list) (erasures_at table t (drop i parts)) ≡ erasures_at table t parts
 
-pub erased-start : (table : TypeTable) (t : List Mirror) (parts list : List ℕ) → list ≡ [] → AreErased table t t parts list 0
-erased-start table t parts list e = record {
-  known = subst (AreKnown t) (sym e) tt;
-  rest = ap (λ (ns : List ℕ). behind (map (at t) ns) (erasures_at table t parts)) e ∙ behind-start (erasures_at table t parts);
-}
-
 first_part : (table : TypeTable) (t : List Mirror) (parts : List ℕ) (i : ℕ) → i < length parts
     → erasures_at table t (drop i parts) ≡ closed (erasure_at table t (get_or parts i 0) ∷ map (erasure table all_steps) (map (at t) (drop (i + 1) parts)))
 first_part table t parts i less =
@@ -161,14 +155,6 @@ erased-open table t t' t'' parts list i less so_far g known stands =
     ∙ ap (behind (map (at t') list)) (first_part table t parts i less)
     ∙ ap (λ (o : Option Mirror). behind (map (at t') list) (closed (o ∷ others))) here
     ∙ behind-none (map (at t') list) others)
-
--- all of them
-pub erased-end : (table : TypeTable) (t t' : List Mirror) (parts list : List ℕ) (i : ℕ) → length parts ≤ i → AreErased table t t' parts list i
-    → AllMayStand t' (Some list) (erasures_at table t parts)
-erased-end table t t' parts list i all so_far = record {
-  known = so_far.known;
-  types = sym (sym so_far.rest ∙ ap (λ (ns : List ℕ). behind (map (at t') list) (erasures_at table t ns)) (drop_all i parts all) ∙ behind-end (map (at t') list));
-}
 
 -- ---- the types of a method
 

@@ -23,7 +23,7 @@ use Rattle.type_relations.specs.Erasure.{erasures}
 use Rattle.type_relations.specs.Named.{declared_supertypes}
 use Rattle.type_relations.specs.RawTypes.{replacements}
 use Rattle.type_steps.specs.Arrays.{arrays, is_array}
-use Rattle.type_steps.specs.Supertypes.{AllMayStand, item_direct, item_at, is_raw_at, header_at, in_array}
+use Rattle.type_steps.specs.Supertypes.{AllMayStand, item_direct, item_at, is_raw_at, in_array}
 use Rattle.type_steps.proofs.LayersOfNumbers.{node-layer}
 
 -- ---- arrays
@@ -101,42 +101,6 @@ item-raw table t number n element enclosing arguments exact is raw =
     by_layer table (declared_mirror element None []) (Declared element None []) (layer_bare element) refl
     ∙ raw_with table t number element enclosing arguments raw
     ∙ sym (item_by table t number n (node.Declared element enclosing arguments) exact is)
-
-replaced_with : (table : TypeTable) (t : List Mirror) (number : ℕ) (element : ElementRef) (enclosing : Option ℕ) (arguments : List ℕ) → is_raw_at table element arguments ≡ false
-    → Some (header_at table t element number) ≡ of_layer table (at t number) (Declared element (option_map (at t) enclosing) (map (at t) arguments))
-replaced_with table t number element enclosing [] e =
-    let header = declared_supertypes table element in
-    sym (ap (λ (b : Bool). cond b (erasures table all_steps header) (Some (map (substituted (replacements table (at t number))) header))) e)
-replaced_with table t number element enclosing (argument ∷ arguments) e = refl
-
-pub item-class : (table : TypeTable) (t : List Mirror) (number : ℕ) (n : Node) (element : ElementRef) (enclosing : Option ℕ) (arguments : List ℕ)
-    → with_types t (layer_of n) ≡ layer (at t number) → n ≡ node.Declared element enclosing arguments → is_raw_at table element arguments ≡ false
-    → Some (header_at table t element number) ≡ item_at table t number
-item-class table t number n element enclosing arguments exact is raw =
-    replaced_with table t number element enclosing arguments raw ∙ sym (item_by table t number n (node.Declared element enclosing arguments) exact is)
-
--- all others have none
-other_with : (table : TypeTable) (m : Mirror) (t : List Mirror) (n : Node) → ((kind : PrimitiveKind) → n ≡ node.Primitive kind → ⊥)
-    → ((element : ElementRef) → n ≡ node.Variable element → ⊥)
-    → ((element : ElementRef) (enclosing : Option ℕ) (arguments : List ℕ) → n ≡ node.Declared element enclosing arguments → ⊥) → Some [] ≡ of_layer table m (with_types t (layer_of n))
-other_with table m t (node.Primitive kind) one two three = absurd (one kind refl)
-other_with table m t (node.Variable element) one two three = absurd (two element refl)
-other_with table m t (node.Declared element enclosing arguments) one two three = absurd (three element enclosing arguments refl)
-other_with table m t (node.Error text) one two three = refl
-other_with table m t (node.Array item) one two three = refl
-other_with table m t node.Unbounded one two three = refl
-other_with table m t (node.Extends bound) one two three = refl
-other_with table m t (node.Super bound) one two three = refl
-other_with table m t (node.Executable variables parameters outcome thrown) one two three = refl
-other_with table m t node.Nothing one two three = refl
-other_with table m t node.Void one two three = refl
-other_with table m t node.Null one two three = refl
-other_with table m t (node.Package name) one two three = refl
-
-pub item-other : (table : TypeTable) (t : List Mirror) (number : ℕ) (n : Node) → with_types t (layer_of n) ≡ layer (at t number)
-    → ((kind : PrimitiveKind) → n ≡ node.Primitive kind → ⊥) → ((element : ElementRef) → n ≡ node.Variable element → ⊥)
-    → ((element : ElementRef) (enclosing : Option ℕ) (arguments : List ℕ) → n ≡ node.Declared element enclosing arguments → ⊥) → Some [] ≡ item_at table t number
-item-other table t number n exact one two three = other_with table (at t number) t n one two three ∙ ap (of_layer table (at t number)) exact
 
 -- ---- what all arrays have
 

@@ -125,9 +125,6 @@ module _ (asks : Mirror → Mirror → Next Mirror) (types : List Mirror) where
     pub known : AllByRecursion (IsKnownQuestion (numbered asks types)) questions
     pub asked : map (question_at (numbered asks types)) questions ++ from as' bs n ≡ each_contained type_arguments (map (at types) as') (map (at types) bs)
 
-  pub asked-none : (as' bs : List ℕ) (questions : List Question) → questions ≡ [] → AreAsked as' bs 0 questions
-  asked-none as' bs questions e = subst (AreAsked as' bs 0) (sym e) (record { known = tt; asked = refl })
-
   left : (as' bs : List ℕ) (n i j : ℕ) → n < length as' → n < length bs → i ≡ get_or as' n 0 → j ≡ get_or bs n 0
       → from as' bs n ≡ contains type_arguments (at types j) (at types i) ∷ from as' bs (suc n)
   left [] bs n i j p q e h = absurd (omega (arith, p))

@@ -1,8 +1,7 @@
 -- Types that are numbered, as a search sees them: what stands stays, and a search of numbers is one of types.
-use Rattle.std.proofs.Common.{◌≡◌, ℕ, ◌+◌, ◌<◌, length, List, refl, sym, ap, ap₂, subst, ◌∙◌, arith}
+use Rattle.std.proofs.Common.{◌≡◌, ℕ, ◌<◌, length, List, sym, ap, ap₂, subst, ◌∙◌}
 use Rattle.type_mirror.specs.declared.mirror.Mirror.{Mirror}
 use Rattle.type_levels.specs.Containment.{contains}
-use Rattle.type_levels.specs.Numbered as numbered_types
 use Rattle.type_levels.specs.Numbered.{IsKnownQuestion, question_at}
 use Rattle.type_levels.specs.Steps as steps
 use Rattle.type_levels.specs.Steps.{Next, answer_of, sub_within}
@@ -11,21 +10,11 @@ use Rattle.type_levels.specs.declared.question.Pair.{Pair}
 use Rattle.type_levels.specs.declared.question.Question.{Question}
 use Rattle.type_levels.specs.declared.question.Question.TheVariants.{Settled, Asks}
 use Rattle.type_numbers.specs.Numbers.{at, Stands, Grows}
-use Rattle.type_numbers.proofs.NumberLaws.{grown-length, grown-known, grown-at}
+use Rattle.type_numbers.proofs.NumberLaws.{grown-known, grown-at}
 use Rattle.type_subtypes.specs.Numbers.{numbered}
 use Rattle.type_subtypes.specs.Subtypes.{type_arguments}
 
 module _ (asks : Mirror → Mirror → Next Mirror) where
-  pub grows-numbered : (t t' : List Mirror) → Grows t t' → numbered_types.Grows (numbered asks t) (numbered asks t')
-  grows-numbered t t' g = record {
-    more = let e : length t' ≡ length t + length g.more = grown-length t t' g in omega arith;
-    stands = λ i h. grown-at t t' i g h;
-    same = refl;
-  }
-
-  pub grows-none : (t : List Mirror) → numbered_types.Grows (numbered asks t) (numbered asks t)
-  grows-none t = record { more = omega arith; stands = λ i h. refl; same = refl }
-
   -- two types that were numbered one after the other, and a search of them
   pub searched : (t t' : List Mirror) (i j n : ℕ) (a b : Mirror) (r : Answer) → Stands t i a → Grows t t' → Stands t' j b
       → r ≡ sub_within asks n (at t' i) (at t' j) → r ≡ sub_within asks n a b
