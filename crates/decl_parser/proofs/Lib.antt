@@ -3,6 +3,7 @@ pub mod LineRows
 pub mod NameParts
 pub mod NameFits
 pub mod Places
+pub mod FaultPlaces
 pub mod MemberReads
 pub mod OneAnswer
 pub mod ShownChars

@@ -1,5 +1,6 @@
 pub mod MemberRows
 pub mod FileShown
+pub mod FaultPlaces
 pub mod NamesShown
 pub mod Lines
 pub mod LinesShown

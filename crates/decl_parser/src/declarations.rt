@@ -1,16 +1,16 @@
 // Reads types behind their modifiers (JLS 8.1, 8.9, 9.1, 9.6).
-ghost use Rattle.std.specs.Prelude.{List, Ok, None};
+ghost use Rattle.std.specs.Prelude.{◌≡◌, List, Ok, None};
 ghost use Rattle.decl_grammar.specs.Reading.{Gives};
 ghost use Rattle.decl_grammar.specs.Form.{nested_type};
-ghost use Rattle.decl_grammar.specs.Grammar.{superclass, class_form, interface_form, annotation_form, enum_form, type_rest};
+ghost use Rattle.decl_grammar.specs.Grammar.{superclass, rest_of, class_form, interface_form, annotation_form, enum_form, type_rest};
 ghost use Rattle.decl_grammar.specs.Rule.{reads, read_nest};
 
 use crate::bodies::{members_of, more_enum_members_of};
 use apt_base::List;
 use decl_grammar::sorts::{AT_INTERFACE, CLASS, CLOSE_BRACE, ENUM, INTERFACE, OPEN_BRACE};
-use decl_grammar::{ReadFault, Symbol, TypeRest};
+use decl_grammar::{MemberAt, NameAt, ReadFault, Symbol, TypeParamAt, TypeRest};
 use decl_members::{constants_of, extended_of, implemented_of, superclass_of};
-use decl_tree::TypeKind;
+use decl_tree::{TypeKind, TypeText};
 use decl_types::{optional_params_of, starts_type_word};
 use decl_values::{is_next, one, read_name_at, shut};
 use std::alloc::Global;
@@ -30,6 +30,27 @@ pub fn nested_type_of<'a, 's>(
     Err(shut(starts_type_word(symbols), symbols))
 }
 
+// A type of this kind with these parts.
+fn rest_of_kind(
+    kind: TypeKind,
+    name: NameAt,
+    parameters: Vec<TypeParamAt>,
+    superclass: Option<TypeText>,
+    interfaces: Vec<TypeText>,
+    members: Vec<MemberAt>,
+) -> TypeRest
+    ensures { result ≡ rest_of kind name parameters.items superclass interfaces.items members.items }
+{
+    TypeRest {
+        kind,
+        name,
+        parameters: List::from_vec(parameters),
+        superclass,
+        interfaces: List::from_vec(interfaces),
+        members: List::from_vec(members),
+    }
+}
+
 // A class.
 #[cycle(declarations)]
 #[tactic(auto, unfolding(decl_grammar::specs::Grammar::class_form))]
@@ -43,24 +64,18 @@ fn class_of<'a, 's>(
     let (_, rest) = one(symbols, CLASS)?;
     let (name, rest) = read_name_at(alloc, room, rest)?;
     let (parameters, rest) = optional_params_of(alloc, room, rest)?;
-    let parameters = List::from_vec(parameters);
     let (superclass, rest) = superclass_of(alloc, room, rest)?;
     let (interfaces, rest) = implemented_of(alloc, room, rest)?;
-    let interfaces = List::from_vec(interfaces);
     let (members, rest) = members_of(alloc, room, TypeKind::Class, rest)?;
-    let members = List::from_vec(members);
-    let kind = TypeKind::Class;
-    Ok((
-        TypeRest {
-            kind,
-            name,
-            parameters,
-            superclass,
-            interfaces,
-            members,
-        },
-        rest,
-    ))
+    let found = rest_of_kind(
+        TypeKind::Class,
+        name,
+        parameters,
+        superclass,
+        interfaces,
+        members,
+    );
+    Ok((found, rest))
 }
 
 // An interface.
@@ -76,24 +91,17 @@ fn interface_of<'a, 's>(
     let (_, rest) = one(symbols, INTERFACE)?;
     let (name, rest) = read_name_at(alloc, room, rest)?;
     let (parameters, rest) = optional_params_of(alloc, room, rest)?;
-    let parameters = List::from_vec(parameters);
     let (interfaces, rest) = extended_of(alloc, room, rest)?;
-    let interfaces = List::from_vec(interfaces);
     let (members, rest) = members_of(alloc, room, TypeKind::Interface, rest)?;
-    let members = List::from_vec(members);
-    let superclass = None;
-    let kind = TypeKind::Interface;
-    Ok((
-        TypeRest {
-            kind,
-            name,
-            parameters,
-            superclass,
-            interfaces,
-            members,
-        },
-        rest,
-    ))
+    let found = rest_of_kind(
+        TypeKind::Interface,
+        name,
+        parameters,
+        None,
+        interfaces,
+        members,
+    );
+    Ok((found, rest))
 }
 
 // An annotation interface.
@@ -109,23 +117,18 @@ fn annotation_interface_of<'a, 's>(
     let (_, rest) = one(symbols, AT_INTERFACE)?;
     let (_, rest) = one(rest, INTERFACE)?;
     let (name, rest) = read_name_at(alloc, room, rest)?;
-    let parameters = List::new(alloc);
-    let interfaces = List::new(alloc);
+    let parameters = Vec::new(alloc);
+    let interfaces = Vec::new(alloc);
     let (members, rest) = members_of(alloc, room, TypeKind::AnnotationType, rest)?;
-    let members = List::from_vec(members);
-    let superclass = None;
-    let kind = TypeKind::AnnotationType;
-    Ok((
-        TypeRest {
-            kind,
-            name,
-            parameters,
-            superclass,
-            interfaces,
-            members,
-        },
-        rest,
-    ))
+    let found = rest_of_kind(
+        TypeKind::AnnotationType,
+        name,
+        parameters,
+        None,
+        interfaces,
+        members,
+    );
+    Ok((found, rest))
 }
 
 // An enum.
@@ -140,27 +143,14 @@ fn enum_of<'a, 's>(
 {
     let (_, rest) = one(symbols, ENUM)?;
     let (name, rest) = read_name_at(alloc, room, rest)?;
-    let parameters = List::new(alloc);
+    let parameters = Vec::new(alloc);
     let (interfaces, rest) = implemented_of(alloc, room, rest)?;
-    let interfaces = List::from_vec(interfaces);
     let (_, rest) = one(rest, OPEN_BRACE)?;
     let (front, rest) = constants_of(alloc, room, rest)?;
     let (members, rest) = more_enum_members_of(alloc, room, front, rest)?;
     let (_, rest) = one(rest, CLOSE_BRACE)?;
-    let members = List::from_vec(members);
-    let superclass = None;
-    let kind = TypeKind::Enum;
-    Ok((
-        TypeRest {
-            kind,
-            name,
-            parameters,
-            superclass,
-            interfaces,
-            members,
-        },
-        rest,
-    ))
+    let found = rest_of_kind(TypeKind::Enum, name, parameters, None, interfaces, members);
+    Ok((found, rest))
 }
 
 /// A type behind its modifiers.

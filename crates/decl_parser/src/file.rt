@@ -7,6 +7,7 @@ ghost use Rattle.decl_grammar.specs.Rule.{reads};
 ghost use Rattle.decl_parser.specs.FileShown.{ordinary_view};
 ghost use Rattle.decl_grammar.specs.File.{IsPhrase, IsShallow, phrase_at, Found, Missed, BadAt, DeepAt};
 
+use crate::placing::placed;
 use crate::top_types::top_types_of;
 use apt_base::List;
 use decl_grammar::sorts::PACKAGE;
@@ -103,12 +104,6 @@ pub fn parse_ordinary<'a, 's>(
 {
     match whole_ordinary(alloc, room, symbols) {
         Ok(file) => Ok(file),
-        Err(ReadFault::Bad(left)) => Err(ParseFault::Bad {
-            place: symbols.len() - left,
-        }),
-        Err(ReadFault::Deep(left)) => Err(ParseFault::Deep {
-            place: symbols.len() - left,
-        }),
-        Err(ReadFault::Memory) => Err(ParseFault::Memory),
+        Err(fault) => Err(placed(fault, symbols)),
     }
 }

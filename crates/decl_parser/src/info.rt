@@ -9,6 +9,7 @@ ghost use Rattle.decl_parser.specs.FileShown.{package_view, package_seen, packag
 ghost use Rattle.decl_grammar.specs.File.{IsPhrase, IsShallow, phrase_at, Found, Missed, BadAt, DeepAt};
 
 use crate::info_file::{InfoFile, PackageText};
+use crate::placing::placed;
 use apt_base::List;
 use decl_grammar::sorts::{PACKAGE, SEMICOLON};
 use decl_grammar::{NameAt, ParseFault, ReadFault, Symbol};
@@ -154,12 +155,6 @@ pub fn parse_info<'a, 's>(
 {
     match whole_info(alloc, room, symbols) {
         Ok(file) => Ok(file),
-        Err(ReadFault::Bad(left)) => Err(ParseFault::Bad {
-            place: symbols.len() - left,
-        }),
-        Err(ReadFault::Deep(left)) => Err(ParseFault::Deep {
-            place: symbols.len() - left,
-        }),
-        Err(ReadFault::Memory) => Err(ParseFault::Memory),
+        Err(fault) => Err(placed(fault, symbols)),
     }
 }

@@ -16,6 +16,7 @@ mod laws;
 mod lines;
 mod naming;
 mod parsing;
+mod placing;
 mod top_types;
 mod units;
 
