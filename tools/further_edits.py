@@ -195,12 +195,14 @@ class Source:
 
 
 def write(folder, texts):
-    """Writes files into a new folder."""
-    shutil.rmtree(folder, ignore_errors=True)
+    """Makes a folder hold these files and no others; those that are the same already are left."""
+    for old in [path for path in folder.rglob("*") if path.is_file() and str(path.relative_to(folder)) not in texts]:
+        old.unlink()
     for path, text in texts.items():
         at = folder / path
-        at.parent.mkdir(parents=True, exist_ok=True)
-        at.write_text(text, encoding="utf-8")
+        if not at.is_file() or at.read_text(encoding="utf-8") != text:
+            at.parent.mkdir(parents=True, exist_ok=True)
+            at.write_text(text, encoding="utf-8")
 
 
 # An edit
@@ -452,7 +454,7 @@ class Said:
 class Bench:
     """What all trials share: the kit, the crates with nothing but their contracts, the folder of the logs, and those that lanes of trials keep."""
 
-    def __init__(self, work, jobs, is_unedited):
+    def __init__(self, crates, work, jobs, is_unedited):
         self.is_unedited = is_unedited
         self.rtlib, self.folder = kit()
         self.top = work / "stands_in"
@@ -461,11 +463,13 @@ class Bench:
         self.lanes = queue.Queue()
         for number in range(jobs):
             self.lanes.put(work / f"lane-{number}")
-        for crate in sorted(path.name for path in CRATES.iterdir() if (path / "src").is_dir()):
+        uses = with_those_below(crates)
+        for crate in uses:
             write(self.top / "crates" / crate, Source(CRATES / crate).stands_in())
-        for name in ("crates.txt", "HANDLES"):
-            if (TOP / name).is_file():
-                shutil.copy(TOP / name, self.top)
+        lines = "".join(f"{crate}: {' '.join(used)}\n" for crate, used in uses.items())
+        (self.top / "crates.txt").write_text(lines, encoding="utf-8")
+        if (TOP / "HANDLES").is_file():
+            shutil.copy(TOP / "HANDLES", self.top)
         self.crates = {it.name: it for it in self.in_top(lambda: self.rtlib.crates_below(str(self.top)))}
 
     def in_top(self, gives):
@@ -490,6 +494,14 @@ def graph():
     """The crates in their order, and of each those that it uses."""
     lines = [line.split("#")[0] for line in (TOP / "crates.txt").read_text(encoding="utf-8").split("\n")]
     return {line.split(":")[0].split()[0]: line.split(":")[1].split() for line in lines if ":" in line}
+
+
+def with_those_below(crates):
+    """These crates and those that stand below one of them, in their order, and of each those that it uses."""
+    uses, found = graph(), set(crates)
+    while more := {used for crate in found for used in uses[crate] if used in uses} - found:
+        found |= more
+    return {crate: used for crate, used in uses.items() if crate in found}
 
 
 def changed_since(revision):
@@ -591,7 +603,7 @@ def main():
     if asked.look:
         return look(crates)
     work = (asked.kept or Path(tempfile.mkdtemp(prefix="further-edits-"))).resolve()
-    bench = Bench(work, asked.jobs, asked.unedited)
+    bench = Bench(crates, work, asked.jobs, asked.unedited)
     with ThreadPoolExecutor(asked.jobs) as pool:
         done = list(pool.map(lambda crate: tried(crate, crates[crate], bench), crates))
     found = [word for of_crate, _ in done for word in of_crate]
