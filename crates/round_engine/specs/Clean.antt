@@ -19,7 +19,7 @@ use Rattle.project_units.specs.Faults.{stop_of, is_due}
 use Rattle.element_table.specs.TypeTable.{TypeTable}
 use Rattle.round_engine.specs.Numbering.{AreLeast}
 use Rattle.round_engine.specs.Numbered.{shown_made, number_of, HasText, IsWritten, Fits}
-use Rattle.project_units.specs.Plans.{Plan, names_in, tries_in}
+use Rattle.project_units.specs.Plans.{Plan, names_in, plan_of, tries_in}
 use Rattle.round_engine.specs.Run.{Run, Finished, run_of, frames_of}
 use Rattle.project_units.specs.Creations.{files_among}
 use Rattle.round_engine.specs.Shown.{ShowsAll, TellsMore, ShowsNoMore, TriesInOrder, StartsAll, StopsAs}
