@@ -25,7 +25,7 @@ from host import (BAD_GENERATED, CREATE, DONE_STATUS, ERRORS, GENERATED_DUPLICAT
 MEMORY_STATUS = 3
 MEMORY = b"refused: Memory\n"
 
-# What a child says in its rounds, and the status of the build without want of memory.
+# What a child says in its rounds, and the status of the build without out of memory.
 BUILDS = {
     "created sources in three rounds": ([[generated.create_source("p.D"), CREATE], [], []], DONE_STATUS),
     "a source of the last round": ([[generated.create_source("p.D")], [], [generated.create_source("p.E")]], DONE_STATUS),

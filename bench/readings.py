@@ -243,7 +243,7 @@ def readings_of_jdk(folder, texts):
     for text, said in zip(texts, lines_of(jdk.java(folder, [*QUICK_START, "ReadingBench"]), lines)):
         code, _, rest = said.partition(" ")
         offset = None if code == "read" else int(rest.partition(" ")[0])
-        # (what is wanting at the end is told at the last token)
+        # (what is missing at the end is reported at the last token)
         readings.append(Reading(text, said, code, sys.maxsize if code == "premature.eof" else offset))
     return readings
 

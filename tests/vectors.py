@@ -43,7 +43,7 @@ CASES = [
 UNPRINTED = [([], 1), (["--table", "tokens"], 1), (["--help"], 2)]
 
 
-# The exit status for want of memory, and the limits of the address space, in KiB, at one of which it is to come: below them
+# The exit status when memory runs out, and the limits of the address space, in KiB, at one of which it is to come: below them
 # the program does not start, and above them it has all that it wants.
 MEMORY = 3
 LIMITS = range(512, 65_536, 16)

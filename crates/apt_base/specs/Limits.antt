@@ -9,6 +9,14 @@ max_file_bytes = 8388608
 abbrev pub max_name_bytes : ℕ
 max_name_bytes = 1024
 
+-- the children of one element, the implicit ones included
+abbrev pub max_children : ℕ
+max_children = 65535
+
+-- the nested types, lists of type arguments and values that are open at once, counted together
+abbrev pub max_depth : ℕ
+max_depth = 200
+
 -- the processors of a project
 abbrev pub max_processors : ℕ
 max_processors = 64

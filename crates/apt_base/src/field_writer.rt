@@ -9,7 +9,7 @@ use std::marker::Model;
 
 /// Writes fields one after another. Contracts see a writer as the bytes that were written.
 ///
-/// Each method appends the spelling of a value. It fails only for want of memory, and then nothing was written.
+/// Each method appends the spelling of a value. It fails only when memory runs out, and then nothing was written.
 #[derive(Drop)]
 pub struct FieldWriter {
     written: Vec<u8>,

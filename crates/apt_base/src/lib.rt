@@ -31,7 +31,9 @@ pub use identifier::{
     is_dotted, is_identifier, is_pattern, is_reserved, reserved_words, split_dot,
 };
 pub use kinds::{Claim, Kind, What};
-pub use limits::{MAX_FILE_BYTES, MAX_NAME_BYTES, MAX_PROCESSORS, MAX_TYPE_STEPS};
+pub use limits::{
+    MAX_CHILDREN, MAX_DEPTH, MAX_FILE_BYTES, MAX_NAME_BYTES, MAX_PROCESSORS, MAX_TYPE_STEPS,
+};
 pub use list::List;
 pub use memory::NoMemory;
 pub use name::{Name, copy_names, copy_optional_name};

@@ -79,7 +79,7 @@ impl<T> List<T> {
 }
 
 impl<T: Drop> List<T> {
-    /// Adds an item at the end, or drops it for want of memory and leaves the list as it was.
+    /// Adds an item at the end, or drops it when memory runs out and leaves the list as it was.
     pub fn push(&mut self, item: T) -> Result<(), NoMemory>
         ensures ok { OnOk result (self.new ≡ self.old ++ item ∷ []) }
         ensures err { OnErr result (self.new ≡ self.old) }

@@ -4,7 +4,7 @@ ghost use Rattle.apt_base.specs.Forms.{name_form, count_form, list_form, opt_for
 
 use crate::{FieldWriter, Name, NoMemory};
 
-/// The number of items of a list. A list that is too long to be counted in four bytes is taken for want of memory.
+/// The number of items of a list. A list that is too long to be counted in four bytes is taken for a lack of memory.
 #[tactic(auto, unfolding(crate::specs::Forms::count_form))]
 pub fn write_count(writer: &mut FieldWriter, items: usize) -> Result<(), NoMemory>
     ensures { OnOk result (writer.new ≡ writer.old ++ count_form items) }
@@ -15,7 +15,7 @@ pub fn write_count(writer: &mut FieldWriter, items: usize) -> Result<(), NoMemor
     }
 }
 
-/// A text. One that is too long for its length to be written in four bytes is taken for want of memory.
+/// A text. One that is too long for its length to be written in four bytes is taken for a lack of memory.
 #[tactic(auto, unfolding(crate::specs::Forms::name_form))]
 pub fn write_text(writer: &mut FieldWriter, name: &Name) -> Result<(), NoMemory>
     ensures { OnOk result (writer.new ≡ writer.old ++ name_form name.now) }

@@ -22,7 +22,7 @@ impl Faults {
         Faults { count: 0, messages }
     }
 
-    /// Hands on what the system answered, and counts and says a failure. Want of memory, the allocator's or the
+    /// Hands on what the system answered, and counts and says a failure. Out of memory, the allocator's or the
     /// system's, is none.
     pub fn count_failure<T>(
         &mut self,

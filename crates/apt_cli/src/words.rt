@@ -11,7 +11,7 @@ pub enum Words {
     Cut(Vec<String>),
 }
 
-/// The words, up to the first that is no text. The one error is want of memory.
+/// The words, up to the first that is no text. The one error is out of memory.
 pub fn read_words<E: Env>(alloc: Global, env: &E) -> Result<Words, AllocError> {
     let mut words = Vec::new(alloc);
     for place in 1..usize::MAX {

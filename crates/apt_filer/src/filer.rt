@@ -73,7 +73,7 @@ fn is_class(creation: &Creation) -> bool
 
 impl Filer {
     /// A filer that has accepted nothing yet. `initial` names the initial units and the stubs. It
-    /// fails only for want of memory.
+    /// fails only when memory runs out.
     pub fn new(alloc: Global, initial: &List<Name>) -> Result<Filer, NoMemory>
         ensures { IfOk result (λ filer. filer ≡ record { initial = initial.now; made = [] }) }
     {
@@ -184,7 +184,7 @@ impl Filer {
     ///   creations, this one among them, more than `MAX_TOTAL`.
     /// - `Accepted`: it is the last of `made` from now on.
     ///
-    /// Only `Accepted` changes the filer. It fails only for want of memory, and the filer is then as
+    /// Only `Accepted` changes the filer. It fails only when memory runs out, and the filer is then as
     /// it was.
     pub fn create(&mut self, creation: Creation) -> Result<Created, NoMemory>
         ensures answer { IfOk result

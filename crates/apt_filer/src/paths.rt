@@ -66,7 +66,7 @@ fn resource_path(
 
 /// The path of a creation below the output: `SOURCE_OUTPUT/a/b/C.java` of the source `a.b.C`; the
 /// location, the package as folders and the relative name of a resource, joined by `/`. A class file
-/// has none: its path is empty. It fails only for want of memory.
+/// has none: its path is empty. It fails only when memory runs out.
 #[tactic(auto, unfolding(crate::specs::Filing::path_of))]
 pub fn path_text(alloc: Global, creation: &Creation) -> Result<String, NoMemory>
     ensures { IfOk result (λ path. string_bytes path ≡ path_of creation.now) }
@@ -83,7 +83,7 @@ pub fn path_text(alloc: Global, creation: &Creation) -> Result<String, NoMemory>
     }
 }
 
-/// The same path as a name. It fails only for want of memory.
+/// The same path as a name. It fails only when memory runs out.
 pub fn path_of(alloc: Global, creation: &Creation) -> Result<Name, NoMemory>
     ensures { IfOk result (λ path. path ≡ path_of creation.now) }
 {

@@ -48,7 +48,7 @@ leaves_finish v w old new finishes leaves = memory_or_not w (Leaves w old new)
     (λ memory. subst (λ u. Leaves u old new) (sym memory) (leaves_memory v old new (not_done v w finishes memory) leaves))
     (λ ne. subst (λ u. Leaves u old new) (sym (finishes.same ne)) leaves)
 
--- want of memory stays so
+-- out of memory stays so
 pub finishes_memory : (expected w : Verdict) → Finishes Memory w → OrMemory expected w
 finishes_memory expected w finishes = memory_or_not w (OrMemory expected w) (λ memory. inr memory) (λ ne. absurd (ne (finishes.same ne)))
 

@@ -16,7 +16,7 @@ use Rattle.apt_host.specs.CleanBuild as outcome
 use Rattle.project_reading.specs.Verdicts.{Verdict, Done, Errors, Refused, Failed, Memory, is_finished, is_sink, fails}
 use Rattle.apt_host.specs.Promises.{TalkedOf, IsFront, IsLine, IsOutcome, StoresBuilt, StoresOutcome, Reports, Adds, Writes, Finishes}
 
--- a status is want of memory, or it is not
+-- a status is out of memory, or it is not
 pub memory_or_not : (v : Verdict) (A : Type 0) → (v ≡ Memory → A) → (v ≢ Memory → A) → A
 memory_or_not Memory A is other = is refl
 memory_or_not Done A is other = other (λ e. cc)

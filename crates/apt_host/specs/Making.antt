@@ -20,7 +20,7 @@ abbrev pub MakesOf : Says → Read → Result Finished Status → Type 0
 MakesOf says read (Ok finished) = FinishesAs (run_of says read.plan read.table) (length read.plan.processors) finished
 MakesOf says read (Err status) = OrFree (verdict_of (outcome_of says (Ok read))) (verdict status)
 
--- whether it is due: no fault outside and no want of memory
+-- whether it is due: neither a fault outside nor out of memory
 abbrev pub is_made : {T : Type 0} → Result T Status → Bool
 is_made (Ok value) = true
 is_made (Err status) = not (is_free (verdict status))
@@ -29,7 +29,7 @@ pub record Makes (read : Read) (old new : State) (result : Result Finished Statu
   pub comes : MakesOf old.says read result
   pub more : TellsMore (length read.plan.processors) old new
   pub shown : is_made result ≡ true → ShowsWhole read.plan.processors (run_of old.says read.plan read.table) old new
-  -- also after a fault of the children or want of memory
+  -- also after a fault of the children or out of memory
   pub fronts : ShowsNoMore read.plan.processors (frames_of (run_of old.says read.plan read.table)) old new
 
 -- whatever the children tell, a refusal comes behind a start, and is none that the project alone comes to

@@ -96,7 +96,7 @@ LeavesFailed Sink old new = AddsToStore old new
 LeavesFailed (Children processor) old new = new ≡ old
 
 -- A build that is published adds its files to the store and puts the record in place, and does nothing else. Errors that were
--- printed, a refusal and a fault of the children leave the tree as it is. A fault of the tree or the sink, and want of memory,
+-- printed, a refusal and a fault of the children leave the tree as it is. A fault of the tree or the sink, and out of memory,
 -- may leave more files in the store, which no record names.
 abbrev pub Leaves : Verdict → Files → Files → Type 0
 Leaves Done old new = (files : Files) × Publishes files old new
@@ -234,7 +234,7 @@ IsDue old new (Refused refusal) = IsDueStop (stop.Refused refusal)
 IsDue old new other = Unit {0}
 
 -- By how a build ended, its children were shown the whole run, or none was started: a fault of the tree comes before the run or behind it, and one of the sink
--- behind it. After a fault of the children, or want of memory, `ShowsRead.fronts` says what there was of it.
+-- behind it. After a fault of the children, or out of memory, `ShowsRead.fronts` says what there was of it.
 abbrev pub ShowsBy : Verdict → Type 0 → Type 0 → Type 0
 ShowsBy Done P Q = P
 ShowsBy (Errors count) P Q = P
@@ -249,7 +249,7 @@ ShowsBy Memory P Q = Unit {0}
 pub record ShowsRead (read : Read) (old new : State) (v : Verdict) : Type 0 where
   pub by : ShowsBy v (ShowsWhole read.plan.processors (run_of old.says read.plan read.table) old new) (new ≡ old)
   -- Whatever came of it, each child that is new is that of its processor, in order, and was sent the first of these frames and nothing else; but for at most one,
-  -- where a fault of the children or want of memory came.
+  -- where a fault of the children or out of memory came.
   pub fronts : ShowsNoMore read.plan.processors (frames_of (run_of old.says read.plan read.table)) old new
 
 abbrev pub ShowsOver : Result Read Refusal → State → State → Verdict → Type 0

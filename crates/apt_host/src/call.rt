@@ -121,7 +121,7 @@ pub fn run<T: Tree, C: Children, R: Source, W: Sink>(
     ensures uses { Uses T.Tree C.Children words.now tree.old children.old children.new result }
     ensures due { IsDue (C.state children.old) (C.state children.new) (verdict result) }
 
-    // The answer is the clean build's, unless it is a fault or want of memory; words that no command has change nothing. A refusal
+    // The answer is the clean build's, unless it is a fault or out of memory; words that no command has change nothing. A refusal
     // before any start, or of the configuration, is that of the project, whatever the children tell.
     ensures off_table { OffTable words.now tree.old tree.new children.old children.new result }
     ensures answer { Answers T.Tree C.Children words.now tree.old children.old result }

@@ -1,7 +1,7 @@
 //! What stands outside the host: a tree of files, child programs, a source and a sink of bytes.
 //!
 //! Four traits say what the host may rely on, and implementations in memory serve replays and tests. Each object has a count of
-//! its faults that never falls, and a call answers `Failed` only where that count rose in it; want of memory is no fault. An
+//! its faults that never falls, and a call answers `Failed` only where that count rose in it; out of memory is no fault. An
 //! object that tells its content (`tells`) says what each call read, wrote, sent or took, in the words of `specs/`: the files of a
 //! tree by path (`Files`), what each child was sent and which of its bytes wait (`Child`), and bytes in order (`Stream`). An object
 //! may also tell which of its calls are to fail (`Plan`; of children, which starts), and then it fails exactly there.

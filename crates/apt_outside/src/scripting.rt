@@ -7,7 +7,7 @@ use std::alloc::{AllocError, Global};
 
 /// A record of a start: the child's name and the words of its command.
 ///
-/// Want of memory is the only error.
+/// Out of memory is the only error.
 fn copy_call(alloc: Global, name: &str, command: &[String]) -> Result<Call, AllocError>
     ensures { IfOk result (IsCall name.now command.now) }
 {
@@ -79,7 +79,7 @@ fn begin(
 
 /// What a start wants of memory: the record of its call, and the child that it begins.
 ///
-/// Want of memory is the only error.
+/// Out of memory is the only error.
 pub fn attempt(
     alloc: Global,
     scripts: &Vec<Script>,

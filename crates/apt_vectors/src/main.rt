@@ -2,7 +2,7 @@
 //!
 //! The words are none, for each table in order, or `--table NAME`. A line `NAME: passed` or `NAME: failed`
 //! is printed per table. Status 0 says that all passed, and 1 that a table failed or that a line could not
-//! be printed. Other words are answered by `refused` and status 2. Status 3 is want of memory.
+//! be printed. Other words are answered by `refused` and status 2. Status 3 is out of memory.
 #![tactic(auto)]
 
 use std::alloc::{AllocError, Global};
@@ -11,10 +11,10 @@ use std::io;
 use std::process::ExitCode;
 use vector_tables::{Answer, Task, answer_to, status_after, task_of};
 
-// The exit status for want of memory.
+// The exit status when memory runs out.
 const MEMORY: u8 = 3;
 
-// The task that the words of the call name. The one error is want of memory.
+// The task that the words of the call name. The one error is out of memory.
 fn read_task<E: Env + AllocGlobal>(alloc: Global, rt: &E) -> Result<Task, AllocError> {
     match std::env::args(rt) {
         Ok(words) => {

@@ -274,7 +274,7 @@ module _ (child : ℕ) (showing : Showing) (made : Filings) where
     way_closes (Asks request) is full = way_is_full request (full request refl) is
     way_closes Leaves is full = way_leaves is
 
-  -- a fault of the children or want of memory may come at any point
+  -- a fault of the children or out of memory may come at any point
   free_comes : (fault : SessionFault) → IsFreeFault fault → (act : Act) (sent : Frames) (filings : Filings) → Comes act showing (Err fault) sent filings
   free_comes Failed is_free act sent filings = tt
   free_comes Memory is_free act sent filings = tt

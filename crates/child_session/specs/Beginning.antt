@@ -76,7 +76,7 @@ pub record IsUnheard (call : Try) (init : List ℕ) (child : Child) : Type 0 whe
   pub sent : (child.sent ≡ []) ⊎ (child.sent ≡ init ∷ [])
 
 -- After a fault of the children a start was tried, and the child, if there is one, was stopped; they do not say what it was sent. After
--- want of memory no start was tried, or the child was stopped before it was heard.
+-- out of memory no start was tried, or the child was stopped before it was heard.
 abbrev pub Begins : Try → List ℕ → State → State → Result (ℕ × Hello) SessionFault → Type 0
 Begins call init old new (Ok begun) = SaysHello call init old new begun.0 begun.1
 Begins call init old new (Err Unbuilt) = SaysNone call init old new

@@ -15,7 +15,7 @@ pub record HasReason {T : Type 0} (before now : ℕ) (result : Result T SessionF
   pub later : before ≤ now
   pub failed : IsErrOf result Failed → Rose before now
 
--- a fault of the children or want of memory
+-- a fault of the children or out of memory
 abbrev pub IsFreeFault : SessionFault → Type 0
 IsFreeFault Failed = Unit {0}
 IsFreeFault Memory = Unit {0}

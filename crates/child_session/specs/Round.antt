@@ -172,7 +172,7 @@ pub record Shown (says : Says) (showing : Showing) (filings filings' : Filings) 
   pub name : after.name ≡ before.name
   pub command : after.command ≡ before.command
   pub comes : Comes (act_of (says before.name before.command) showing before.sent filings) showing result after.sent filings'
-  -- also after a fault of the children or want of memory
+  -- also after a fault of the children or out of memory
   pub filed : IsFiled (says before.name before.command) showing before.sent filings filings'
   pub answered : OnAnswered result (HasAnswered says after)
 

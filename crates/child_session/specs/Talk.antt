@@ -48,14 +48,14 @@ pub record Exchanged (says : Says) (frame : List ℕ) (answer : Option Frame) (b
 pub record Exchanges (child : ℕ) (frame : List ℕ) (old new : State) (answer : Option Frame) : Type 0 where
   pub exchanged : WasAnswered child old new (Exchanged old.says frame answer)
 
--- What the child was sent by a call that sends this frame: the frame, and after want of memory the frame or nothing. After a fault
+-- What the child was sent by a call that sends this frame: the frame, and after out of memory the frame or nothing. After a fault
 -- of the children it is not told.
 abbrev pub SendsOnce : ℕ → List ℕ → State → State → Result (Option Frame) Fault → Type 0
 SendsOnce child frame old new (Ok answer) = OfChild child old new (λ before after. after.sent ≡ before.sent ++ frame ∷ [])
 SendsOnce child frame old new (Err Memory) = OfChild child old new (λ before after. (after.sent ≡ before.sent) ⊎ (after.sent ≡ before.sent ++ frame ∷ []))
 SendsOnce child frame old new (Err Failed) = Unit {0}
 
--- a call that sends nothing, after want of memory
+-- a call that sends nothing, after out of memory
 abbrev pub StaysAtMemory : {T : Type 0} → ℕ → State → State → Result T Fault → Type 0
 StaysAtMemory child old new result = IsErrOf result Memory → StaysSent child old new
 

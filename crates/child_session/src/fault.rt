@@ -28,7 +28,7 @@ pub enum SessionFault {
         /// What the child said.
         said: bool,
     },
-    /// Want of memory.
+    /// Out of memory.
     Memory,
 }
 
@@ -67,7 +67,7 @@ impl From<NoMemory> for SessionFault {
     }
 }
 
-/// A frame that would pass the limit of a frame is answered as want of memory.
+/// A frame that would pass the limit of a frame is answered as out of memory.
 impl From<FrameFault> for SessionFault {
     ghost from_gives = { λ _ e. e ≡ Memory };
 

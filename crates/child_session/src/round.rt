@@ -132,7 +132,7 @@ fn turn_of(declared: Claim, answer: Option<Frame>) -> Turn
     }
 }
 
-// A reply's frame is six bytes long at most, so that want of memory alone refuses it.
+// A reply's frame is six bytes long at most, so that out of memory alone refuses it.
 fn reply_bytes(alloc: Global, reply: Reply) -> Result<List<u8>, NoMemory>
     ensures { IfOk result (λ bytes. bytes ≡ spelling (frames.Reply reply)) }
 {
@@ -142,7 +142,7 @@ fn reply_bytes(alloc: Global, reply: Reply) -> Result<List<u8>, NoMemory>
     }
 }
 
-/// Does what a child asks for, and gives the reply. For want of memory the filer is as it was.
+/// Does what a child asks for, and gives the reply. Out of memory leaves the filer as it was.
 fn serve(
     filer: &mut Filer,
     printed: &mut List<Message>,
@@ -213,7 +213,7 @@ fn end_of(
 /// Where the children tell what they say, `Unbuilt` comes exactly where the child's bytes are not the frames of a round,
 /// `TooManyQuestions` exactly where it asks once more than it may, and `ClaimBroken` exactly where it is done and says another
 /// thing than its processor declared with `Always` or `Never` (JSR 269, `Processor.process`). `Failed` is a fault of the
-/// children, and `Memory` want of memory. After each the filer has what was accepted up to then.
+/// children, and `Memory` out of memory. After each the filer has what was accepted up to then.
 pub fn show_round<C: Children>(
     alloc: Global,
     children: &mut C,

@@ -1,6 +1,7 @@
 -- A list of items with a comma behind each, of which one more begins: what is said of it step by step, as it is walked over.
 use Rattle.std.proofs.Common.{◌≡◌, ℕ, suc, ◌+◌, ◌*◌, ◌<◌, ◌≤◌, true, false, List, [], ◌∷◌, ◌++◌, length, drop, Some, None, Result, Ok, Err, refl, sym, ap, subst, ◌∙◌, append_assoc, arith}
 use Rattle.std.proofs.lemmas.Bool.{eqb-true}
+use Rattle.apt_base.specs.Limits.{max_children}
 use Rattle.decl_grammar.specs.declared.symbol.Symbol.{Symbol}
 use Rattle.decl_grammar.specs.declared.fault.ReadFault.{ReadFault}
 use Rattle.decl_grammar.specs.declared.fault.ReadFault.TheVariants as faults
@@ -23,15 +24,15 @@ use Rattle.decl_grammar.proofs.Heights.{opens-at, full-at, heads-at, bheads-at}
 use Rattle.decl_grammar.proofs.Knot.{IsSound}
 use Rattle.decl_crossings.proofs.PhraseReads.{whole-reads, read-phrase}
 use Rattle.decl_children.specs.Fronts.{SomeFront}
-use Rattle.decl_limits.specs.Children.{most, OpensWith, NextItem, IsFull}
+use Rattle.decl_limits.specs.Children.{OpensWith, NextItem, IsFull}
 use Rattle.decl_children.specs.Fronts.{ReadOrNone}
 
 -- ---- rows
 
--- An item begins at the last symbol, and before it stand items with a comma behind each, with which there are too many behind so many.
+-- An item begins at the last symbol, and before it stand items with a comma behind each, with which there are too many behind this many.
 abbrev pub RowFull : {A : Type 0} → Form A → ℕ → List Symbol → Type 0
 RowFull {A} f n ts =
-    (front : List Symbol) × (next : Symbol) × (items : List A) × (ts ≡ front ++ next ∷ []) × IsPhrase (many (before f (sign token.comma))) front items × OpensWith f next × (most ≤ n + length items)
+    (front : List Symbol) × (next : Symbol) × (items : List A) × (ts ≡ front ++ next ∷ []) × IsPhrase (many (before f (sign token.comma))) front items × OpensWith f next × (max_children ≤ n + length items)
 
 abbrev pub RowCrowds : {A : Type 0} → Form A → ℕ → List Symbol → Type 0
 RowCrowds f n ts = SomeFront (RowFull f n) ts
@@ -90,7 +91,7 @@ record Parted {A : Type 0} (f : Form A) (n : ℕ) (ts : List Symbol) : Type 0 wh
 
 -- a row with a first item is parted
 parted : {A : Type 0} (f : Form A) (n : ℕ) (ts us vs : List Symbol) (x : A) (xs : List A) → ts ≡ us ++ vs → (front : List Symbol) (next : Symbol) → us ≡ front ++ next ∷ []
-    → IsPhrase (many (before f (sign token.comma))) front (x ∷ xs) → OpensWith f next → most ≤ n + suc (length xs) → Parted f n ts
+    → IsPhrase (many (before f (sign token.comma))) front (x ∷ xs) → OpensWith f next → max_children ≤ n + suc (length xs) → Parted f n ts
 parted f n ts us vs x xs all front next e is opens le =
     let each = is.1 in
     let one = each.3 in
@@ -113,7 +114,7 @@ parted f n ts us vs x xs all front next e is opens le =
 row-starts : {A : Type 0} (f : Form A) → nullable f ≡ false → (n : ℕ) (ts : List Symbol) → RowCrowds f n ts → starts (first f) ts ≡ true
 row-starts {A} f never n ts c = go c.3.2 c.3.4 c.3.6
   where
-    go : (items : List A) → IsPhrase (many (before f (sign token.comma))) c.3.0 items → most ≤ n + length items → starts (first f) ts ≡ true
+    go : (items : List A) → IsPhrase (many (before f (sign token.comma))) c.3.0 items → max_children ≤ n + length items → starts (first f) ts ≡ true
     go [] is le =
         let alone : ts ≡ c.3.1 ∷ c.1 = c.2 ∙ ap (λ (ys : List Symbol). ys ++ c.1) (c.3.3 ∙ ap (λ (ys : List Symbol). ys ++ c.3.1 ∷ []) is.1) in
         subst (λ (ys : List Symbol). starts (first f) ys ≡ true) (sym alone) (opens-has f c.3.1 c.3.5)
@@ -122,10 +123,10 @@ row-starts {A} f never n ts c = go c.3.2 c.3.4 c.3.6
         subst (λ (ys : List Symbol). starts (first f) ys ≡ true) (sym p.parts) (item-starts f never p.item (p.comma ∷ p.later) p.value p.whole)
 
 -- with fewer items before it than there may be, a full row has a first item
-row-parted : {A : Type 0} (f : Form A) (n : ℕ) (ts : List Symbol) → n < most → RowCrowds f n ts → Parted f n ts
+row-parted : {A : Type 0} (f : Form A) (n : ℕ) (ts : List Symbol) → n < max_children → RowCrowds f n ts → Parted f n ts
 row-parted {A} f n ts lt c = go c.3.2 c.3.4 c.3.6
   where
-    go : (items : List A) → IsPhrase (many (before f (sign token.comma))) c.3.0 items → most ≤ n + length items → Parted f n ts
+    go : (items : List A) → IsPhrase (many (before f (sign token.comma))) c.3.0 items → max_children ≤ n + length items → Parted f n ts
     go [] is le = absurd (omega (arith, lt, le))
     go (x ∷ xs) is le = parted f n ts c.0 c.1 x xs c.2 c.3.0 c.3.1 c.3.3 is c.3.5 le
 
@@ -138,7 +139,7 @@ pub record IsItem {A : Type 0} (f : Form A) : Type 0 where
   pub ends : has (more f) (operator token.comma) ≡ false
 
 -- the first item is read, its comma stands behind it, and the row behind both is full
-pub row-reads : {A : Type 0} (f : Form A) → IsItem f → (room n : ℕ) (ts : List Symbol) → 3 * length ts ≤ room → n < most → RowCrowds f n ts
+pub row-reads : {A : Type 0} (f : Form A) → IsItem f → (room n : ℕ) (ts : List Symbol) → 3 * length ts ≤ room → n < max_children → RowCrowds f n ts
     → (x : A) × (c : Symbol) × (later : List Symbol) × (reads room f ts ≡ done x (c ∷ later)) × (c.sort ≡ operator token.comma) × RowCrowds f (suc n) later
 row-reads f item room n ts fits lt crowds =
     let p = row-parted f n ts lt crowds in
@@ -173,21 +174,21 @@ row-back f room n ts x c later e is_comma crowds =
       ),
     )
 
--- Behind so many items, of symbols no more than there were, the whole list is full at some symbol just where the rest is.
+-- Behind this many items, of symbols no more than there were, the whole list is full at some symbol just where the rest is.
 abbrev pub RowSame : {A : Type 0} → ℕ → Form A → List Symbol → ℕ → List Symbol → Type 0
-RowSame opens f symbols n rest = (length rest ≤ length symbols) × (n ≤ most) × (ListCrowds opens f symbols → RowCrowds f n rest) × (RowCrowds f n rest → ListCrowds opens f symbols)
+RowSame opens f symbols n rest = (length rest ≤ length symbols) × (n ≤ max_children) × (ListCrowds opens f symbols → RowCrowds f n rest) × (RowCrowds f n rest → ListCrowds opens f symbols)
 
 pub row-begins : {A : Type 0} (opens : ℕ) (f : Form A) (symbols rest : List Symbol) → starts (operator opens ∷ []) symbols ≡ true → rest ≡ drop 1 symbols → RowSame opens f symbols 0 rest
 row-begins opens f [] rest s e = absurd cc
 row-begins opens f (t ∷ ts) rest s e = rw e (omega arith, omega arith, row-of-list opens f t ts, list-of-row opens f t ts (eqb-true t.sort (operator opens) s))
 
 -- the first item of a full row is what was read, so that the rest behind its comma is the row behind it
-behind-read : {A : Type 0} (f : Form A) → IsItem f → (room n : ℕ) (ts : List Symbol) (x : A) (c : Symbol) (later : List Symbol) → 3 * length ts ≤ room → n < most → reads room f ts ≡ done x (c ∷ later) → RowCrowds f n ts → RowCrowds f (suc n) later
+behind-read : {A : Type 0} (f : Form A) → IsItem f → (room n : ℕ) (ts : List Symbol) (x : A) (c : Symbol) (later : List Symbol) → 3 * length ts ≤ room → n < max_children → reads room f ts ≡ done x (c ∷ later) → RowCrowds f n ts → RowCrowds f (suc n) later
 behind-read f item room n ts x c later fits lt e crowds =
     let r = row-reads f item room n ts fits lt crowds in
     subst (λ (ys : List Symbol). RowCrowds f (suc n) ys) (ap (λ (ys : List Symbol). drop 1 ys) (done_rest r.0 x (r.1 ∷ r.2) (c ∷ later) (sym r.3 ∙ e))) r.5
 
-pub row-goes : {A : Type 0} (opens : ℕ) (f : Form A) → IsItem f → (symbols : List Symbol) (room n : ℕ) (ts : List Symbol) (x : A) (after rest : List Symbol) → 3 * length symbols ≤ room → n < most
+pub row-goes : {A : Type 0} (opens : ℕ) (f : Form A) → IsItem f → (symbols : List Symbol) (room n : ℕ) (ts : List Symbol) (x : A) (after rest : List Symbol) → 3 * length symbols ≤ room → n < max_children
     → reads room f ts ≡ done x after → starts (68 ∷ []) after ≡ true → rest ≡ drop 1 after → RowSame opens f symbols n ts → RowSame opens f symbols (suc n) rest
 row-goes opens f item symbols room n ts x [] rest fits lt e s d same = absurd cc
 row-goes opens f item symbols room n ts x (c ∷ later) rest fits lt e s d same =
@@ -203,7 +204,7 @@ row-shrinks f room ts x [] rest e s d = absurd cc
 row-shrinks f room ts x (c ∷ later) rest e s d = omega (arith, fewer room f ts x (c ∷ later) e, ap length d)
 
 -- as many as there may be, and one more may begin
-pub row-full : {A : Type 0} (opens : ℕ) (f : Form A) (symbols : List Symbol) (n : ℕ) (ts : List Symbol) → most ≤ n → starts (first f) ts ≡ true → RowSame opens f symbols n ts → ListCrowds opens f symbols
+pub row-full : {A : Type 0} (opens : ℕ) (f : Form A) (symbols : List Symbol) (n : ℕ) (ts : List Symbol) → max_children ≤ n → starts (first f) ts ≡ true → RowSame opens f symbols n ts → ListCrowds opens f symbols
 row-full opens f symbols n [] le s same = absurd cc
 row-full opens f symbols n (t ∷ ts) le s same = same.3 (t ∷ [], ts, refl, ([], t, [], refl, (0, refl), has-opens f t s, omega (arith, le)))
 
@@ -211,13 +212,13 @@ row-full opens f symbols n (t ∷ ts) le s same = same.3 (t ∷ [], ts, refl, ([
 pub row-over : {A : Type 0} (opens : ℕ) (f : Form A) → IsItem f → (symbols : List Symbol) (n : ℕ) (ts : List Symbol) → starts (first f) ts ≡ false → RowSame opens f symbols n ts → ListCrowds opens f symbols → ⊥
 row-over opens f item symbols n ts s same list = not_both (starts (first f) ts) (row-starts f item.never n ts (same.2 list)) s
 
-pub row-unread : {A : Type 0} (opens : ℕ) (f : Form A) → IsItem f → (symbols : List Symbol) (room n : ℕ) (ts : List Symbol) → 3 * length symbols ≤ room → n < most → ((x : A) (after : List Symbol) → reads room f ts ≡ done x after → ⊥)
+pub row-unread : {A : Type 0} (opens : ℕ) (f : Form A) → IsItem f → (symbols : List Symbol) (room n : ℕ) (ts : List Symbol) → 3 * length symbols ≤ room → n < max_children → ((x : A) (after : List Symbol) → reads room f ts ≡ done x after → ⊥)
     → RowSame opens f symbols n ts → ListCrowds opens f symbols → ⊥
 row-unread opens f item symbols room n ts fits lt none same list =
     let r = row-reads f item room n ts (omega (arith, fits, same.0)) lt (same.2 list) in
     none r.0 (r.1 ∷ r.2) r.3
 
-pub row-stops : {A : Type 0} (opens : ℕ) (f : Form A) → IsItem f → (symbols : List Symbol) (room n : ℕ) (ts : List Symbol) (x : A) (after : List Symbol) → 3 * length symbols ≤ room → n < most → reads room f ts ≡ done x after → starts (68 ∷ []) after ≡ false
+pub row-stops : {A : Type 0} (opens : ℕ) (f : Form A) → IsItem f → (symbols : List Symbol) (room n : ℕ) (ts : List Symbol) (x : A) (after : List Symbol) → 3 * length symbols ≤ room → n < max_children → reads room f ts ≡ done x after → starts (68 ∷ []) after ≡ false
     → RowSame opens f symbols n ts → ListCrowds opens f symbols → ⊥
 row-stops opens f item symbols room n ts x after fits lt e s same list =
     let r = row-reads f item room n ts (omega (arith, fits, same.0)) lt (same.2 list) in

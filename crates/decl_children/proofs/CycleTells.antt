@@ -2,6 +2,7 @@
 use Rattle.std.proofs.Common.{◌≡◌, ℕ, ◌+◌, ◌*◌, ◌<◌, ◌≤◌, Bool, true, false, ◌||◌, List, [], ◌∷◌, drop, length, Result, Ok, ◌⊎◌, inl, inr, ⊎_elim, refl, sym, ap, subst, ◌∙◌, arith}
 use Rattle.std.proofs.lemmas.Bool.{eqb-true}
 use Rattle.apt_base.specs.declared.memory.NoMemory.{NoMemory}
+use Rattle.apt_base.specs.Limits.{max_children}
 use Rattle.decl_tree.specs.declared.declaration.TypeKind.{TypeKind}
 use Rattle.decl_tree.specs.declared.declaration.TypeKind.TheVariants as kind
 use Rattle.decl_grammar.specs.declared.symbol.Symbol.{Symbol}
@@ -13,7 +14,6 @@ use Rattle.decl_grammar.specs.Types.{type_modifiers}
 use Rattle.decl_grammar.specs.Grammar.{member_form}
 use Rattle.decl_grammar.specs.Rule.{reads}
 use Rattle.decl_grammar.proofs.OneToken.{not_both, one_or}
-use Rattle.decl_limits.specs.Children.{most}
 use Rattle.decl_children.specs.Fronts.{Passes}
 use Rattle.decl_children.specs.Members.{MemberCrowds, TypeCrowds, heading_of}
 use Rattle.decl_children.specs.Results.{ExecutableCrowds}
@@ -37,7 +37,7 @@ use Rattle.decl_children.proofs.WalkSteps.{passes-falls, steps-of, marks-not, ty
 
 -- ---- one member
 
-pub none-steps : (k : TypeKind) (n room : ℕ) (ts : List Symbol) (r : Result Step NoMemory) → n ≤ most → 3 * length ts ≤ room → (OneMore k n ts → ⊥) → ((m : Modifiers) (rest : List Symbol) → reads room type_modifiers ts ≡ done m rest → ⊥) → NothingSteps k ts r → Steps k n ts r
+pub none-steps : (k : TypeKind) (n room : ℕ) (ts : List Symbol) (r : Result Step NoMemory) → n ≤ max_children → 3 * length ts ≤ room → (OneMore k n ts → ⊥) → ((m : Modifiers) (rest : List Symbol) → reads room type_modifiers ts ≡ done m rest → ⊥) → NothingSteps k ts r → Steps k n ts r
 none-steps k n room ts r le fits one none w = steps-of k n room ts r fits (marks-not k n room ts le fits one none) (λ rest d. none d.mods d.mid d.there) w
 
 pub executable-member : (k : TypeKind) (n room : ℕ) (ts rest : List Symbol) (m : Modifiers) → reads room type_modifiers ts ≡ done m rest → ExecutableCrowds rest → MemberCrowds k n ts
@@ -46,12 +46,12 @@ executable-member k n room ts rest m there c = member-back k n room ts rest m th
 pub type-member-full : (k : TypeKind) (n room : ℕ) (ts rest : List Symbol) (m : Modifiers) → reads room type_modifiers ts ≡ done m rest → TypeCrowds rest → MemberCrowds k n ts
 type-member-full k n room ts rest m there c = member-back k n room ts rest m there (in_type c)
 
-pub type-member-ended : (k : TypeKind) (n room : ℕ) (ts rest : List Symbol) (m : Modifiers) (r : Result Step NoMemory) → n ≤ most → 3 * length ts ≤ room → (OneMore k n ts → ⊥) → reads room type_modifiers ts ≡ done m rest → starts (first_of nested_type) rest ≡ true
+pub type-member-ended : (k : TypeKind) (n room : ℕ) (ts rest : List Symbol) (m : Modifiers) (r : Result Step NoMemory) → n ≤ max_children → 3 * length ts ≤ room → (OneMore k n ts → ⊥) → reads room type_modifiers ts ≡ done m rest → starts (first_of nested_type) rest ≡ true
     → (ExecutableCrowds rest → ⊥) → (TypeCrowds rest → ⊥) × ((end : List Symbol) → TypeEnds rest end → ⊥) → NothingSteps k ts r → Steps k n ts r
 type-member-ended k n room ts rest m r le fits one there s a w steps =
     steps-of k n room ts r fits (type-not k n room ts rest m le fits one there s w.0 a) (type-none k room ts rest m there s w.1) steps
 
-pub type-member-behind : (k : TypeKind) (n room : ℕ) (ts rest end : List Symbol) (m : Modifiers) → n ≤ most → 3 * length ts ≤ room → (OneMore k n ts → ⊥) → reads room type_modifiers ts ≡ done m rest → starts (first_of nested_type) rest ≡ true
+pub type-member-behind : (k : TypeKind) (n room : ℕ) (ts rest end : List Symbol) (m : Modifiers) → n ≤ max_children → 3 * length ts ≤ room → (OneMore k n ts → ⊥) → reads room type_modifiers ts ≡ done m rest → starts (first_of nested_type) rest ≡ true
     → (ExecutableCrowds rest → ⊥) → (TypeCrowds rest → ⊥) × TypeEnds rest end → (MemberCrowds k n ts → ⊥) × ((ms : List MemberAt) × Passes (member_form k) ts ms end × (1 ≡ length ms) × (false ≡ has_constructor ms))
 type-member-behind k n room ts rest end m le fits one there s a w =
     let t = type-to k room ts rest end m there w.1 in
@@ -59,10 +59,10 @@ type-member-behind k n room ts rest end m le fits one there s a w =
 
 -- ---- members up to the `}`
 
-pub row-most : (k : TypeKind) (b : ℕ) (symbols : List Symbol) (n : ℕ) (c : Bool) (ts : List Symbol) (p : Passed) → MembersSame k b symbols n c ts → Steps k n ts (Ok (step.Behind p)) → most < n + p.count → MembersOver k b false symbols
+pub row-most : (k : TypeKind) (b : ℕ) (symbols : List Symbol) (n : ℕ) (c : Bool) (ts : List Symbol) (p : Passed) → MembersSame k b symbols n c ts → Steps k n ts (Ok (step.Behind p)) → max_children < n + p.count → MembersOver k b false symbols
 row-most k b symbols n c ts p same (none, (ms, there, are, constructs_is)) lt = same-most k b symbols n c ts p.rest.now ms same there (omega (arith, lt, are))
 
-pub row-goes : (k : TypeKind) (b : ℕ) (symbols : List Symbol) (n : ℕ) (c d : Bool) (ts after : List Symbol) (p : Passed) → MembersSame k b symbols n c ts → Steps k n ts (Ok (step.Behind p)) → n + p.count ≤ most → d ≡ (c || p.constructor) → after ≡ p.rest.now
+pub row-goes : (k : TypeKind) (b : ℕ) (symbols : List Symbol) (n : ℕ) (c d : Bool) (ts after : List Symbol) (p : Passed) → MembersSame k b symbols n c ts → Steps k n ts (Ok (step.Behind p)) → n + p.count ≤ max_children → d ≡ (c || p.constructor) → after ≡ p.rest.now
     → MembersSame k b symbols (n + p.count) d after
 row-goes k b symbols n c d ts after p same (none, (ms, there, are, constructs_is)) le e at =
     subst (λ (zs : List Symbol). MembersSame k b symbols (n + p.count) d zs) (sym at)
@@ -82,7 +82,7 @@ headed-none k room ts e s fits params none = (
   λ rest t. let h = headed-ends k e ts rest s t in none h.0 h.1 (passes-reads (heading_of k) (heading-ends k) room ts h.0 h.1 fits h.2),
 )
 
-pub headed-most : (k : TypeKind) (room : ℕ) (ts mid : List Symbol) (n : ℕ) → is_enum k ≡ false → reads room (heading_of k) ts ≡ done n mid → most < n → TypeCrowds ts
+pub headed-most : (k : TypeKind) (room : ℕ) (ts mid : List Symbol) (n : ℕ) → is_enum k ≡ false → reads room (heading_of k) ts ≡ done n mid → max_children < n → TypeCrowds ts
 headed-most k room ts mid n e there lt = headed-back k e ts mid n (read-phrase (heading_of k) room ts n mid there) (over-here k n false mid (most-full k n mid lt))
 
 pub headed-walks : (k : TypeKind) (room : ℕ) (ts mid : List Symbol) (n : ℕ) (r : Result Walk NoMemory) → is_enum k ≡ false → starts (front_word k ∷ []) ts ≡ true → (ParamsOver ts → ⊥) → reads room (heading_of k) ts ≡ done n mid
@@ -111,7 +111,7 @@ both-sorts : (ts : List Symbol) → starts (67 ∷ []) ts ≡ true → starts (6
 both-sorts [] a b = absurd cc
 both-sorts (t ∷ ts) a b = not_both (has (67 ∷ []) t.sort) a (ap (λ (n : ℕ). has (67 ∷ []) n) (eqb-true t.sort 64 b))
 
-pub constants-most : (n : ℕ) (ts : List Symbol) → starts (67 ∷ []) ts ≡ true → most < n → EnumOver n ts
+pub constants-most : (n : ℕ) (ts : List Symbol) → starts (67 ∷ []) ts ≡ true → max_children < n → EnumOver n ts
 constants-most n ts s lt = inl (s, over-here kind.Enum n false (drop 1 ts) (most-full kind.Enum n (drop 1 ts) lt))
 
 pub constants-walks : (n : ℕ) (ts : List Symbol) (r : Result Walk NoMemory) → starts (67 ∷ []) ts ≡ true → Walks (MembersOver kind.Enum n false (drop 1 ts)) (MembersEnd kind.Enum (drop 1 ts)) r → Walks (EnumOver n ts) (EnumEnd ts) r
@@ -137,10 +137,10 @@ constants-stuck n ts a b = (over, end)
     end rest (inl m) = not_both (starts (67 ∷ []) ts) m.0 a
     end rest (inr m) = not_both (starts (64 ∷ []) ts) m.0 b
 
-pub constants-over : (n : ℕ) (ts : List Symbol) → starts (64 ∷ []) ts ≡ true → most < n + 3 → EnumOver n ts
+pub constants-over : (n : ℕ) (ts : List Symbol) → starts (64 ∷ []) ts ≡ true → max_children < n + 3 → EnumOver n ts
 constants-over n ts s lt = inr (s, omega (arith, lt))
 
-pub constants-end : (n : ℕ) (ts : List Symbol) → starts (67 ∷ []) ts ≡ false → starts (64 ∷ []) ts ≡ true → n + 3 ≤ most → (EnumOver n ts → ⊥) × EnumEnd ts (drop 1 ts)
+pub constants-end : (n : ℕ) (ts : List Symbol) → starts (67 ∷ []) ts ≡ false → starts (64 ∷ []) ts ≡ true → n + 3 ≤ max_children → (EnumOver n ts → ⊥) × EnumEnd ts (drop 1 ts)
 constants-end n ts a s le = (over, inr (s, refl))
   where
     over : EnumOver n ts → ⊥

@@ -1,6 +1,7 @@
 -- When an enum is full, and how far it goes, by its heading, its constants and what stands behind them.
 use Rattle.std.proofs.Common.{◌≡◌, ℕ, ◌+◌, ◌*◌, ◌<◌, ◌≤◌, true, false, List, [], ◌∷◌, ◌++◌, drop, length, ◌⊎◌, inl, inr, ⊎_elim, refl, sym, ap, subst, ◌∙◌, append_assoc, arith}
 use Rattle.std.proofs.lemmas.Bool.{eqb-true}
+use Rattle.apt_base.specs.Limits.{max_children}
 use Rattle.decl_tree.specs.declared.declaration.TypeKind.{TypeKind}
 use Rattle.decl_tree.specs.declared.declaration.TypeKind.TheVariants as kind
 use Rattle.decl_grammar.specs.declared.symbol.Symbol.{Symbol}
@@ -18,7 +19,7 @@ use Rattle.decl_grammar.proofs.OneToken.{ok, more, disjoint, not_both}
 use Rattle.decl_grammar.proofs.Rivals.{plain}
 use Rattle.decl_grammar.proofs.RuleFair.{fair}
 use Rattle.decl_grammar.proofs.Knot.{IsSound, sound-plain}
-use Rattle.decl_limits.specs.Children.{most, declared_children, enum_heading, whole_constants, generic_name}
+use Rattle.decl_limits.specs.Children.{declared_children, enum_heading, whole_constants, generic_name}
 use Rattle.decl_children.specs.Fronts.{SomeFront, Passes}
 use Rattle.decl_children.specs.Members.{TypeCrowds, MembersFull, HeadingCrowds, TooLong, closed_members}
 use Rattle.decl_children.specs.TypeWalks.{has_constructor, added_to, TypeEnds, enum_front, enum_tail, ParamsOver, ConstantsOver, EnumOver, EnumEnd}
@@ -84,7 +85,7 @@ params-no-enum ts s (us, vs, e, (front, back, x, cut, is, full)) =
 
 -- an enum that is whole, by its heading and what stands behind its constants
 whole-enum : (room : ℕ) (ts rest : List Symbol) (x : TypeRest) → 3 * length ts ≤ room → starts (25 ∷ []) ts ≡ true → Passes type_rest ts x rest
-    → EnumRead room ts (λ n mid. EnumEnd mid rest × (most < declared_children x → EnumOver n mid))
+    → EnumRead room ts (λ n mid. EnumEnd mid rest × (max_children < declared_children x → EnumOver n mid))
 whole-enum room ts rest x fits s (us, e, is) =
     let o = rest-out us x (record { is = is }) in
     let j = same-kind o.0 kind.Enum ts (starts-as (form_of o.0) (front_word o.0) (form-first o.0) (form-never o.0) ts us rest x e o.1) s in

@@ -1,5 +1,6 @@
 -- Fields that are too many, by what is read up to the brackets behind the first name.
 use Rattle.std.proofs.Common.{◌≡◌, ℕ, suc, ◌+◌, ◌*◌, ◌<◌, ◌≤◌, true, false, List, [], ◌∷◌, ◌++◌, length, Option, ◌⊎◌, ⊎_elim, refl, sym, ap, subst, ◌∙◌, append_assoc, arith}
+use Rattle.apt_base.specs.Limits.{max_children}
 use Rattle.decl_tree.specs.declared.annotation.ValueText.{ValueText}
 use Rattle.decl_tree.specs.declared.declaration.TypeKind.{TypeKind}
 use Rattle.decl_grammar.specs.declared.symbol.Symbol.{Symbol}
@@ -16,7 +17,7 @@ use Rattle.decl_grammar.proofs.Rivals.{plain}
 use Rattle.decl_grammar.proofs.RuleFair.{fair}
 use Rattle.decl_grammar.proofs.Knot.{IsSound, sound-plain}
 use Rattle.decl_crossings.specs.Crossings.{FieldCrosses}
-use Rattle.decl_limits.specs.Children.{most, blank}
+use Rattle.decl_limits.specs.Children.{blank}
 use Rattle.decl_children.specs.Unmodifieds.{count_of, field_front, FieldsBehind}
 use Rattle.decl_crossings.proofs.PhraseReads.{whole-reads, read-phrase}
 use Rattle.decl_children.proofs.CommaRows.{item-starts}
@@ -76,13 +77,13 @@ end-alone s v w p =
 abbrev stop : Symbol
 stop = blank (operator token.semicolon)
 
--- what is in front is read, and behind it more fields than so many begin
+-- what is in front is read, and behind it more fields than this many begin
 pub record FieldsRead (left room : ℕ) (ts : List Symbol) : Type 0 where
   pub rest : List Symbol
   pub there : reads room field_front ts ≡ done tt rest
   pub crosses : FieldCrosses left rest
 
-pub fields-goes : (k : TypeKind) (n left room : ℕ) (ts : List Symbol) → left + suc n ≡ most → 3 * length ts ≤ room → FieldsBehind k n ts → FieldsRead left room ts
+pub fields-goes : (k : TypeKind) (n left room : ℕ) (ts : List Symbol) → left + suc n ≡ max_children → 3 * length ts ≤ room → FieldsBehind k n ts → FieldsRead left room ts
 fields-goes k n left room ts eq fits (us, vs, e, (u, is, lt)) =
     ⊎_elim (λ (one : count_of u ≡ 1). absurd (omega (arith, one, lt, eq))) (λ (f : FieldsSplit (us ++ stop ∷ []) (count_of u)). split f) (fields-out k (us ++ stop ∷ []) u (record { is = is }))
   where
@@ -114,7 +115,7 @@ fields-goes k n left room ts eq fits (us, vs, e, (u, is, lt)) =
         (λ (c : LastCut us stop f.front f.back). at f c.inner c.back_is c.us_is)
         (last-cut us stop f.front f.back f.parts)
 
-pub fields-back : (k : TypeKind) (n left room : ℕ) (ts rest : List Symbol) → left + suc n ≡ most → reads room field_front ts ≡ done tt rest → FieldCrosses left rest → FieldsBehind k n ts
+pub fields-back : (k : TypeKind) (n left room : ℕ) (ts rest : List Symbol) → left + suc n ≡ max_children → reads room field_front ts ≡ done tt rest → FieldCrosses left rest → FieldsBehind k n ts
 fields-back k n left room ts rest eq there (us, vs, e, (v, is, lt)) =
     let p = read-phrase field_front room ts tt rest there in
     let made = fields-in k p.0 (us ++ stop ∷ []) v (record { is = p.2 }) (record { is = is }) in

@@ -311,7 +311,7 @@ rest-in kind.Class us v p = at-right (turn method_named method_signature) (turne
 rest-in kind.AnnotationType us v p = at-right (turn method_named element_signature) (turned fields_named p)
 rest-in kind.Interface us v p = at-right (turn method_named method_signature) (turned fields_named p)
 
--- these symbols declare so many fields
+-- these symbols declare this many fields
 pub record FieldsMade (k : TypeKind) (us : List Symbol) (count : ℕ) : Type 0 where
   pub value : Unmodified
   pub whole : Phrase (unmodified_form k) us value

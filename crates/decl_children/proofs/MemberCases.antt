@@ -1,6 +1,7 @@
 -- A member is full since it begins one too many, by its fields, by its own children, or behind its modifiers.
 use Rattle.std.proofs.Common.{◌≡◌, ℕ, ◌*◌, ◌≤◌, ◌<◌, Bool, true, false, eqb, List, [], ◌∷◌, ◌++◌, length, Option, Some, None, ◌⊎◌, inl, inr, refl, sym, ap, subst, ◌∙◌, append_assoc, ⊎_elim}
 use Rattle.std.proofs.lemmas.Bool.{eqb-true}
+use Rattle.apt_base.specs.Limits.{max_children}
 use Rattle.decl_tree.specs.declared.annotation.AnnotationText.{AnnotationText}
 use Rattle.decl_tree.specs.declared.declaration.TypeKind.{TypeKind}
 use Rattle.decl_grammar.specs.declared.symbol.Symbol.{Symbol}
@@ -14,7 +15,7 @@ use Rattle.decl_grammar.specs.Types.{Mark, bit_mark, marked, with_marks, no_modi
 use Rattle.decl_grammar.specs.Grammar.{modified_form, member_form}
 use Rattle.decl_grammar.specs.Rule.{reads}
 use Rattle.decl_grammar.proofs.OneToken.{more, disjoint, one_or, not_both}
-use Rattle.decl_limits.specs.Children.{most, Then, IsFull, NextParam, member_children, executable_heading, ExecutableFull}
+use Rattle.decl_limits.specs.Children.{Then, IsFull, NextParam, member_children, executable_heading, ExecutableFull}
 use Rattle.decl_children.specs.Fronts.{SomeFront}
 use Rattle.decl_children.specs.Members.{InType, MemberCrowds, TypeCrowds, FieldsFull, OwnFull, InnerFull}
 use Rattle.decl_children.specs.Results.{result_form, ExecutableCrowds}
@@ -29,7 +30,7 @@ use Rattle.decl_children.proofs.FileRows.{modifiers-sound, marked-goes}
 -- ---- the cases
 
 pub data MemberCase (k : TypeKind) (n : ℕ) (ts : List Symbol) : Type 0 where
-  one_more : most ≤ n → starts (first (modified_form k)) ts ≡ true → MemberCase k n ts
+  one_more : max_children ≤ n → starts (first (modified_form k)) ts ≡ true → MemberCase k n ts
   by_fields : SomeFront (FieldsFull k n) ts → MemberCase k n ts
   by_own : SomeFront (OwnFull k) ts → MemberCase k n ts
   by_inner : SomeFront (Then type_modifiers (λ (m : Modifiers) us. InnerFull us)) ts → MemberCase k n ts
@@ -49,7 +50,7 @@ case-member k n ts (by_own (us, vs, e, full)) = (us, vs, e, inr (inr (inl full))
 case-member k n ts (by_inner (us, vs, e, full)) = (us, vs, e, inr (inr (inr full)))
 
 -- its own children are those of the member that is read
-pub own-reads : (k : TypeKind) (room : ℕ) (ts : List Symbol) → 3 * length ts ≤ room → SomeFront (OwnFull k) ts → (m : MemberAt) × (rest : List Symbol) × (reads room (member_form k) ts ≡ done (m ∷ []) rest) × (most < member_children m)
+pub own-reads : (k : TypeKind) (room : ℕ) (ts : List Symbol) → 3 * length ts ≤ room → SomeFront (OwnFull k) ts → (m : MemberAt) × (rest : List Symbol) × (reads room (member_form k) ts ≡ done (m ∷ []) rest) × (max_children < member_children m)
 own-reads k room ts fits (us, vs, e, (m, is, lt)) =
     (m, vs, ap (λ (zs : List Symbol). reads room (member_form k) zs) e ∙ member-reads k room us vs (m ∷ []) (subst (λ (zs : List Symbol). 3 * length zs ≤ room) e fits) (record { is = is }), lt)
 

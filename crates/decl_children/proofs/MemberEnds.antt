@@ -1,6 +1,7 @@
 -- The members of a type up to its `}`, step by step; and at the `}` no member is full.
 use Rattle.std.proofs.Common.{◌≡◌, ℕ, ◌*◌, ◌≤◌, true, false, List, [], ◌∷◌, ◌++◌, drop, length, ◌⊎◌, inl, inr, refl, sym, ap, subst, ◌∙◌, append_assoc, length-append, arith, ⊎_elim}
 use Rattle.std.proofs.lemmas.Bool.{eqb-true}
+use Rattle.apt_base.specs.Limits.{max_children}
 use Rattle.decl_tree.specs.declared.declaration.TypeKind.{TypeKind}
 use Rattle.decl_tree.specs.declared.declaration.TypeKind.TheVariants as kind
 use Rattle.decl_grammar.specs.declared.symbol.Symbol.{Symbol}
@@ -18,7 +19,7 @@ use Rattle.decl_grammar.proofs.OneToken.{ok, more, not_both, within, within-self
 use Rattle.decl_grammar.proofs.Rivals.{plain}
 use Rattle.decl_grammar.proofs.RuleFair.{fair}
 use Rattle.decl_grammar.proofs.Knot.{sound-plain}
-use Rattle.decl_limits.specs.Children.{most, blank, IsFull, NextParam, executable_heading, ExecutableFull}
+use Rattle.decl_limits.specs.Children.{blank, IsFull, NextParam, executable_heading, ExecutableFull}
 use Rattle.decl_children.specs.Members.{MemberCrowds, MembersCrowd, InnerFull, closed_members}
 use Rattle.decl_crossings.proofs.PhraseReads.{read-phrase}
 use Rattle.decl_children.proofs.CommaRows.{item-starts}
@@ -199,7 +200,7 @@ no-items k t ms e p =
     same : (xs ys : List MemberAt) → done xs [] ≡ done ys [] → xs ≡ ys
     same xs ys h = cc
 
-pub brace-member : (k : TypeKind) (n : ℕ) (ts : List Symbol) → n ≤ most → starts (64 ∷ []) ts ≡ true → MemberCase k n ts → ⊥
+pub brace-member : (k : TypeKind) (n : ℕ) (ts : List Symbol) → n ≤ max_children → starts (64 ∷ []) ts ≡ true → MemberCase k n ts → ⊥
 brace-member k n ts le b (one_more m s) = not-brace (first (modified_form k)) (modified-brace k) ts b s
 brace-member k n ts le b (by_fields ([], vs, e, (ms, is, lt))) = omega (arith, le, lt, ap length (no-items k (blank (operator token.semicolon)) ms refl (record { is = is })))
 brace-member k n ts le b (by_fields (u ∷ us, vs, e, (ms, is, lt))) =
@@ -212,7 +213,7 @@ brace-member k n ts le b (by_inner (us, vs, e, full)) =
     (ap (λ (zs : List Symbol). starts inner_words zs) e ∙ then-begins type_modifiers inner_words (λ (m : Modifiers) zs. InnerFull zs) marks-within (λ m. inner-begins) us vs full)
 
 -- at the `}` the members are not too many, where they are not so far
-pub brace-members : (k : TypeKind) (n : ℕ) (ts : List Symbol) → n ≤ most → starts (64 ∷ []) ts ≡ true → MembersCrowd k n ts → ⊥
+pub brace-members : (k : TypeKind) (n : ℕ) (ts : List Symbol) → n ≤ max_children → starts (64 ∷ []) ts ≡ true → MembersCrowd k n ts → ⊥
 brace-members k n ts le b c =
     ⊎_elim (λ (m : MemberCrowds k n ts). brace-member k n ts le b (member-case k n ts m))
     (λ (l : Later k n (3 * length ts) ts).

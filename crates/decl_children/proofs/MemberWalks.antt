@@ -2,6 +2,7 @@
 use Rattle.std.proofs.Common.{◌≡◌, ℕ, ◌+◌, ◌*◌, ◌<◌, ◌≤◌, Bool, true, false, List, [], ◌∷◌, ◌++◌, map, length, Option, ◌⊎◌, inl, inr, ⊎_elim, refl, sym, ap, subst, ◌∙◌, append_assoc, arith}
 use Rattle.std.proofs.lemmas.List.{append-nil, length-map}
 use Rattle.std.proofs.Math.Nat.{eq-or-lt_of_le}
+use Rattle.apt_base.specs.Limits.{max_children}
 use Rattle.decl_tree.specs.declared.declaration.TypeKind.{TypeKind}
 use Rattle.decl_tree.specs.declared.declaration.TypeKind.TheVariants as kind
 use Rattle.decl_tree.specs.declared.declaration.Member.TheVariants as member
@@ -21,7 +22,7 @@ use Rattle.decl_grammar.specs.Grammar.{field_of, method_of, constructor_of, decl
 use Rattle.decl_grammar.specs.Rule.{reads}
 use Rattle.decl_grammar.proofs.Progress.{done_rest}
 use Rattle.decl_grammar.proofs.OneToken.{more, disjoint, disjoint-has, not_both}
-use Rattle.decl_limits.specs.Children.{most, blank, member_children, Then}
+use Rattle.decl_limits.specs.Children.{blank, member_children, Then}
 use Rattle.decl_children.specs.Fronts.{SomeFront, Passes}
 use Rattle.decl_children.specs.Members.{MemberCrowds, TypeCrowds, FieldsFull, OwnFull, InnerFull}
 use Rattle.decl_children.specs.Results.{ExecutableCrowds}
@@ -107,7 +108,7 @@ stop = blank (operator token.semicolon)
 pub data BehindCase (k : TypeKind) (n : ℕ) (ts : List Symbol) : Type 0 where
   in_type : TypeCrowds ts → BehindCase k n ts
   in_executable : ExecutableCrowds ts → BehindCase k n ts
-  in_fields : n < most → FieldsBehind k n ts → BehindCase k n ts
+  in_fields : n < max_children → FieldsBehind k n ts → BehindCase k n ts
   in_own : OwnBehind k ts → BehindCase k n ts
 
 pub record BehindMarks (k : TypeKind) (n room : ℕ) (ts : List Symbol) : Type 0 where
@@ -135,7 +136,7 @@ no-semicolon k s u e p =
     let begun : starts (first (unmodified_form k)) (s ∷ []) ≡ true = item-starts (unmodified_form k) (unmodified-never k) (s ∷ []) [] u p.is in
     not_both (has (first (unmodified_form k)) s.sort) begun (ap (λ (j : ℕ). has (first (unmodified_form k)) j) e ∙ unmodified-semicolon k)
 
-fields-behind : (k : TypeKind) (n room : ℕ) (ts : List Symbol) → n < most → 3 * length ts ≤ room → SomeFront (FieldsFull k n) ts → BehindMarks k n room ts
+fields-behind : (k : TypeKind) (n room : ℕ) (ts : List Symbol) → n < max_children → 3 * length ts ≤ room → SomeFront (FieldsFull k n) ts → BehindMarks k n room ts
 fields-behind k n room ts le fits (us, vs, e, (ms, is, lt)) = ⊎_elim nothing declared (member-out k (us ++ stop ∷ []) ms (record { is = is }))
   where
     nothing : NothingAt k (us ++ stop ∷ []) ms → BehindMarks k n room ts
@@ -221,7 +222,7 @@ some-starts k us ms lt p =
     go kind.AnnotationType q = from-starts (modified_form kind.AnnotationType) (modified-never kind.AnnotationType) us ms q
     go kind.Interface q = from-starts (modified_form kind.Interface) (modified-never kind.Interface) us ms q
 
-fields-start : (k : TypeKind) (n : ℕ) (ts : List Symbol) → n ≤ most → SomeFront (FieldsFull k n) ts → starts (first (modified_form k)) ts ≡ true
+fields-start : (k : TypeKind) (n : ℕ) (ts : List Symbol) → n ≤ max_children → SomeFront (FieldsFull k n) ts → starts (first (modified_form k)) ts ≡ true
 fields-start k n ts le (us, vs, e, (ms, is, lt)) = at us e (some-starts k (us ++ stop ∷ []) ms (omega (arith, le, lt)) (record { is = is }))
   where
     at : (ws : List Symbol) → ts ≡ ws ++ vs → starts (first (modified_form k)) (ws ++ stop ∷ []) ≡ true → starts (first (modified_form k)) ts ≡ true
@@ -229,12 +230,12 @@ fields-start k n ts le (us, vs, e, (ms, is, lt)) = at us e (some-starts k (us ++
     at (w ∷ ws) d b = ap (λ (zs : List Symbol). starts (first (modified_form k)) zs) d ∙ b
 
 -- a member is full since it begins one too many, or its modifiers are read and it is full behind them
-pub member-goes : (k : TypeKind) (n room : ℕ) (ts : List Symbol) → n ≤ most → 3 * length ts ≤ room → MemberCrowds k n ts → OneMore k n ts ⊎ BehindMarks k n room ts
+pub member-goes : (k : TypeKind) (n room : ℕ) (ts : List Symbol) → n ≤ max_children → 3 * length ts ≤ room → MemberCrowds k n ts → OneMore k n ts ⊎ BehindMarks k n room ts
 member-goes k n room ts le fits c = go (member-case k n ts c)
   where
     go : MemberCase k n ts → OneMore k n ts ⊎ BehindMarks k n room ts
     go (one_more m s) = inl (m, s)
-    go (by_fields f) = ⊎_elim (λ (same : n ≡ most). inl (omega (arith, same), fields-start k n ts le f)) (λ (less : n < most). inr (fields-behind k n room ts less fits f)) (eq-or-lt_of_le le)
+    go (by_fields f) = ⊎_elim (λ (same : n ≡ max_children). inl (omega (arith, same), fields-start k n ts le f)) (λ (less : n < max_children). inr (fields-behind k n room ts less fits f)) (eq-or-lt_of_le le)
     go (by_own f) = inr (own-behind k n room ts fits f)
     go (by_inner f) = inr (inner-behind k n room ts fits f)
 
@@ -257,7 +258,7 @@ member-back k n room ts rest m there (in_own (us, vs, e, (u, is, lt))) =
     case-member k n ts (by_own (p.0 ++ us, vs, cut, (g.0, whole.is, omega (arith, lt, gives-own made.doc made.marks u g.0 (sym g.1)))))
 
 -- what is read is one thing
-pub member-behind : (k : TypeKind) (n room : ℕ) (ts rest : List Symbol) (m : Modifiers) → n ≤ most → 3 * length ts ≤ room → reads room type_modifiers ts ≡ done m rest → MemberCrowds k n ts → OneMore k n ts ⊎ BehindCase k n rest
+pub member-behind : (k : TypeKind) (n room : ℕ) (ts rest : List Symbol) (m : Modifiers) → n ≤ max_children → 3 * length ts ≤ room → reads room type_modifiers ts ≡ done m rest → MemberCrowds k n ts → OneMore k n ts ⊎ BehindCase k n rest
 member-behind k n room ts rest m le fits there c =
     ⊎_elim (λ (o : OneMore k n ts). inl o)
     (λ (b : BehindMarks k n room ts). inr (subst (λ (zs : List Symbol). BehindCase k n zs) (done_rest b.mods m b.rest rest (sym b.there ∙ there)) b.full))
@@ -405,7 +406,7 @@ front-semicolon : has (first field_front) 67 ≡ false
 unfolding name primitive_type named_part class_type base_type type_form
 front-semicolon = refl
 
-pub no-fields : (k : TypeKind) (n : ℕ) (ts : List Symbol) → n < most → starts (first_of nested_type) ts ≡ true → FieldsBehind k n ts → ⊥
+pub no-fields : (k : TypeKind) (n : ℕ) (ts : List Symbol) → n < max_children → starts (first_of nested_type) ts ≡ true → FieldsBehind k n ts → ⊥
 no-fields k n ts lt s (us, vs, e, (u, is, more_than)) =
     ⊎_elim (λ (one : count_of u ≡ 1). omega (arith, one, lt, more_than))
     (λ (f : FieldsSplit (us ++ stop ∷ []) (count_of u)).

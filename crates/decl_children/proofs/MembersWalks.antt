@@ -1,6 +1,7 @@
 -- Members up to the `}` of their type, and what the language adds, step by step.
 use Rattle.std.proofs.Common.{◌≡◌, ℕ, ◌+◌, ◌*◌, ◌<◌, ◌≤◌, Bool, true, false, ◌||◌, List, [], ◌∷◌, ◌++◌, drop, length, ◌⊎◌, inl, inr, ⊎_elim, refl, sym, ap, subst, ◌∙◌, length-append, arith}
 use Rattle.std.proofs.Math.Bool.{or_assoc}
+use Rattle.apt_base.specs.Limits.{max_children}
 use Rattle.decl_tree.specs.declared.declaration.TypeKind.{TypeKind}
 use Rattle.decl_grammar.specs.declared.symbol.Symbol.{Symbol}
 use Rattle.decl_grammar.specs.declared.written.MemberAt.{MemberAt}
@@ -11,7 +12,7 @@ use Rattle.decl_grammar.specs.Form.{first}
 use Rattle.decl_grammar.specs.Types.{sign}
 use Rattle.decl_grammar.specs.Grammar.{member_form, modified_form, member_from, or_block, no_member}
 use Rattle.decl_grammar.proofs.OneToken.{not_both}
-use Rattle.decl_limits.specs.Children.{most, blank}
+use Rattle.decl_limits.specs.Children.{blank}
 use Rattle.decl_children.specs.Fronts.{Passes}
 use Rattle.decl_children.specs.Members.{MemberCrowds, MembersCrowd, closed_members}
 use Rattle.decl_children.specs.TypeWalks.{has_constructor, added_to, MembersOver, MembersEnd}
@@ -36,7 +37,7 @@ or-false false = refl
 -- ---- where there are too many already
 
 -- a `;` more is a member that gives none
-pub most-full : (k : TypeKind) (n : ℕ) (ts : List Symbol) → most < n → MemberCrowds k n ts
+pub most-full : (k : TypeKind) (n : ℕ) (ts : List Symbol) → max_children < n → MemberCrowds k n ts
 unfolding member_form
 most-full k n ts lt =
     let stop : Symbol = blank (operator token.semicolon) in
@@ -46,7 +47,7 @@ most-full k n ts lt =
 
 -- ---- at the `}`
 
-pub brace-over : (k : TypeKind) (n : ℕ) (c : Bool) (ts : List Symbol) → n ≤ most → starts (64 ∷ []) ts ≡ true → MembersOver k n c ts → most < n + added_to k c
+pub brace-over : (k : TypeKind) (n : ℕ) (c : Bool) (ts : List Symbol) → n ≤ max_children → starts (64 ∷ []) ts ≡ true → MembersOver k n c ts → max_children < n + added_to k c
 brace-over k n c ts le b (inl crowd) = absurd (brace-members k n ts le b crowd)
 brace-over k n c ts le b (inr (ms, rest, p, lt)) =
     let same : done ms rest ≡ done [] (drop 1 ts) = sym (passes-reads (closed_members k) (closed-ends k) (3 * length ts) ts ms rest (omega arith) p) ∙ closed-here k (3 * length ts) ts (omega arith) b in
@@ -56,7 +57,7 @@ brace-over k n c ts le b (inr (ms, rest, p, lt)) =
 pub brace-end : (k : TypeKind) (ts : List Symbol) → starts (64 ∷ []) ts ≡ true → MembersEnd k ts (drop 1 ts)
 brace-end k ts b = ([], read-phrase (closed_members k) (3 * length ts) ts [] (drop 1 ts) (closed-here k (3 * length ts) ts (omega arith) b))
 
-pub over-brace : (k : TypeKind) (n : ℕ) (c : Bool) (ts : List Symbol) → starts (64 ∷ []) ts ≡ true → most < n + added_to k c → MembersOver k n c ts
+pub over-brace : (k : TypeKind) (n : ℕ) (c : Bool) (ts : List Symbol) → starts (64 ∷ []) ts ≡ true → max_children < n + added_to k c → MembersOver k n c ts
 over-brace k n c ts b lt =
     inr ([], drop 1 ts, read-phrase (closed_members k) (3 * length ts) ts [] (drop 1 ts) (closed-here k (3 * length ts) ts (omega arith) b), omega (arith, lt, ap (λ (x : Bool). added_to k x) (or-false c)))
 

@@ -1,6 +1,7 @@
 -- A walk over parameters: what is said of the ones that are left, step by step.
 use Rattle.std.proofs.Common.{◌≡◌, ℕ, ◌+◌, ◌*◌, ◌<◌, ◌≤◌, Bool, true, false, List, [], ◌∷◌, ◌++◌, drop, length, inl, inr, refl, sym, ap, subst, ◌∙◌, append_assoc, arith}
 use Rattle.std.proofs.lemmas.Bool.{eqb-true}
+use Rattle.apt_base.specs.Limits.{max_children}
 use Rattle.decl_grammar.specs.declared.symbol.Symbol.{Symbol}
 use Rattle.decl_grammar.specs.declared.written.ParamAt.{ParamAt}
 use Rattle.decl_grammar.specs.declared.written.ParamEnd.{ParamEnd}
@@ -11,7 +12,7 @@ use Rattle.decl_grammar.specs.Form.{ats, names, primitive_sorts, nullable, first
 use Rattle.decl_grammar.specs.Types.{sign, annotation, annotations, base_type, class_type, named_part, name, primitive_type}
 use Rattle.decl_grammar.specs.Grammar.{param_modifier, param_modifiers, params_from, next_params, behind_annotations, first_params}
 use Rattle.decl_grammar.proofs.OneToken.{within, within-has}
-use Rattle.decl_limits.specs.Children.{most, OpensWith, FurtherParam}
+use Rattle.decl_limits.specs.Children.{OpensWith, FurtherParam}
 use Rattle.decl_children.specs.ParamReads.{ParamRead, FirstRead, arguments_of, takes_any, TailWhole, TailCrowds, ParamsCrowd}
 use Rattle.decl_children.proofs.CommaRows.{item-starts, opens-has, has-opens}
 use Rattle.decl_children.proofs.Phrases.{Phrase, put-behind, un-behind}
@@ -85,7 +86,7 @@ of-comma t ts ps s p =
     put-behind there p
 
 -- what is left of a front that is full
-tail-left : (n k : ℕ) (back : List Symbol) (later items : List ParamAt) (c t : Symbol) (vs : List Symbol) → TailWhole back later → c.sort ≡ operator token.comma → OpensWith params_from t → most ≤ n + length items → length items ≡ k + length later → TailCrowds (n + k) (back ++ (c ∷ t ∷ vs))
+tail-left : (n k : ℕ) (back : List Symbol) (later items : List ParamAt) (c t : Symbol) (vs : List Symbol) → TailWhole back later → c.sort ≡ operator token.comma → OpensWith params_from t → max_children ≤ n + length items → length items ≡ k + length later → TailCrowds (n + k) (back ++ (c ∷ t ∷ vs))
 tail-left n k back later items c t vs whole is begins le count = (
   back ++ c ∷ t ∷ [],
   vs,
@@ -93,7 +94,7 @@ tail-left n k back later items c t vs whole is begins le count = (
   record { front = back; comma = c; next = t; items = later; parts = refl; is_comma = is; whole = whole; begins = begins; many = omega (arith, le, count) },
 )
 
-pub tail-goes : (n room : ℕ) (ts : List Symbol) → 3 * length ts ≤ room → n < most → TailCrowds n ts → Goes n room ts
+pub tail-goes : (n room : ℕ) (ts : List Symbol) → 3 * length ts ≤ room → n < max_children → TailCrowds n ts → Goes n room ts
 tail-goes n room ts fits lt (us, vs, e, f) = go f.whole
   where
     behind : List Symbol
@@ -145,7 +146,7 @@ tail-back n room (t ∷ ts) end after s r one (us, vs, e, f) =
     )
 
 -- as many as there may be: a further one may begin
-pub tail-full : (n : ℕ) (ts : List Symbol) → most ≤ n → starts (68 ∷ []) ts ≡ true → starts param_firsts (drop 1 ts) ≡ true → TailCrowds n ts
+pub tail-full : (n : ℕ) (ts : List Symbol) → max_children ≤ n → starts (68 ∷ []) ts ≡ true → starts param_firsts (drop 1 ts) ≡ true → TailCrowds n ts
 tail-full n [] le s b = absurd cc
 tail-full n (t ∷ []) le s b = absurd cc
 tail-full n (t ∷ u ∷ ts) le s b = (
@@ -190,7 +191,7 @@ pub record Begun (n room : ℕ) (ts : List Symbol) : Type 0 where
 list-behind : (t u : Symbol) (ts us : List Symbol) → t ∷ ts ≡ u ∷ us → ts ≡ us
 list-behind t u ts us e = cc
 
-pub params-goes : (n room : ℕ) (ts : List Symbol) → 3 * length ts ≤ room → n < most → ParamsCrowd n ts → Begun n room (drop 1 ts)
+pub params-goes : (n room : ℕ) (ts : List Symbol) → 3 * length ts ≤ room → n < max_children → ParamsCrowd n ts → Begun n room (drop 1 ts)
 params-goes n room [] fits lt (us, vs, e, (m, inl d, le)) = absurd (omega (arith, lt, le, d.5))
 params-goes n room (t ∷ ts) fits lt (us, vs, e, (m, inl d, le)) = absurd (omega (arith, lt, le, d.5))
 params-goes n room [] fits lt (us, vs, e, (m, inr f, le)) = absurd (let p = e ∙ ap (λ (zs : List Symbol). zs ++ vs) f.parts in cc)
@@ -216,7 +217,7 @@ params-back n room (t ∷ ts) end after s r one (us, vs, e, f) =
     record { opening = t; front = g.front ++ f.front; comma = f.comma; next = f.next; items = g.items; parts = refl; is_opening = eqb-true t.sort 61 s; is_comma = f.is_comma; whole = g.whole.is; begins = f.begins; count = refl } in
     ((t ∷ (g.front ++ f.front)) ++ f.comma ∷ f.next ∷ [], vs, all, (length g.items, inr further, omega (arith, f.many, g.count)))
 
-pub params-full : (n : ℕ) (ts : List Symbol) → most ≤ n → starts (61 ∷ []) ts ≡ true → starts param_firsts (drop 1 ts) ≡ true → ParamsCrowd n ts
+pub params-full : (n : ℕ) (ts : List Symbol) → max_children ≤ n → starts (61 ∷ []) ts ≡ true → starts param_firsts (drop 1 ts) ≡ true → ParamsCrowd n ts
 params-full n [] le s b = absurd cc
 params-full n (t ∷ []) le s b = absurd cc
 params-full n (t ∷ u ∷ ts) le s b =

@@ -1,5 +1,6 @@
 -- What a full type is full in, by what is read of it: its name, its heading, or the whole of it.
 use Rattle.std.proofs.Common.{◌≡◌, ℕ, ◌*◌, ◌≤◌, ◌<◌, true, false, List, [], ◌++◌, length, refl, ap, subst, ◌∙◌}
+use Rattle.apt_base.specs.Limits.{max_children}
 use Rattle.decl_tree.specs.declared.declaration.TypeKind.{TypeKind}
 use Rattle.decl_tree.specs.declared.declaration.TypeKind.TheVariants as kind
 use Rattle.decl_grammar.specs.declared.symbol.Symbol.{Symbol}
@@ -14,7 +15,7 @@ use Rattle.decl_grammar.proofs.OneToken.{ok, more}
 use Rattle.decl_grammar.proofs.Rivals.{plain}
 use Rattle.decl_grammar.proofs.RuleFair.{fair}
 use Rattle.decl_grammar.proofs.Knot.{sound-plain}
-use Rattle.decl_limits.specs.Children.{most, Then, IsFull, NextTypeParam, NextConstant, class_heading, interface_heading, annotation_heading, enum_heading, whole_constants, generic_name, declared_children}
+use Rattle.decl_limits.specs.Children.{Then, IsFull, NextTypeParam, NextConstant, class_heading, interface_heading, annotation_heading, enum_heading, whole_constants, generic_name, declared_children}
 use Rattle.decl_children.specs.Fronts.{SomeFront}
 use Rattle.decl_children.specs.Members.{MembersFull, heading_of, HeadingCrowds, TooLong}
 use Rattle.decl_children.proofs.Thens.{Behind-read, then-goes, ends-stop}
@@ -105,6 +106,6 @@ heading-read k room ts fits c =
     then-goes room (heading_of k) (λ (n : ℕ) us. MembersFull k n us) ts has_end.sound (ends-stop (heading_of k) (λ (n : ℕ) us. MembersFull k n us) has_end.ends) fits c
 
 -- by what the language adds to the whole of it
-pub whole-read : (room : ℕ) (ts : List Symbol) → 3 * length ts ≤ room → SomeFront TooLong ts → (x : TypeRest) × (rest : List Symbol) × (reads room type_rest ts ≡ done x rest) × (most < declared_children x)
+pub whole-read : (room : ℕ) (ts : List Symbol) → 3 * length ts ≤ room → SomeFront TooLong ts → (x : TypeRest) × (rest : List Symbol) × (reads room type_rest ts ≡ done x rest) × (max_children < declared_children x)
 whole-read room ts fits (us, vs, e, (x, is, lt)) =
     (x, vs, ap (λ (zs : List Symbol). reads room type_rest zs) e ∙ end-reads type_rest rest-ends room us vs x (subst (λ (zs : List Symbol). 3 * length zs ≤ room) e fits) (record { is = is }), lt)

@@ -18,7 +18,7 @@ use Rattle.decl_children.specs.TypeWalks.{has_constructor, added_to}
 use Rattle.decl_children.proofs.Phrases.{Phrase, paired, turned, put-behind, put-before, moved, un-pair, un-turn, un-behind, un-before}
 use Rattle.decl_children.proofs.Passages.{onto, under}
 
--- so many children, behind a heading with so many
+-- this many children, behind a heading with this many
 pub record Split (k : TypeKind) (head : Form ℕ) (tail : Form (List MemberAt)) (us : List Symbol) (children : ℕ) : Type 0 where
   pub front : List Symbol
   pub back : List Symbol
@@ -29,7 +29,7 @@ pub record Split (k : TypeKind) (head : Form ℕ) (tail : Form (List MemberAt)) 
   pub others : Phrase tail back members
   pub total : children ≡ count + length members + added_to k (has_constructor members)
 
--- a type of these symbols, with so many children
+-- a type of these symbols, with this many children
 pub record Joined (f : Form TypeRest) (us : List Symbol) (children : ℕ) : Type 0 where
   pub value : TypeRest
   pub whole : Phrase f us value

@@ -5,6 +5,7 @@ use Rattle.std.specs.Borrow.{Bor}
 use Rattle.apt_base.specs.declared.memory.NoMemory.{NoMemory}
 use Rattle.decl_tree.specs.declared.annotation.AnnotationText.{AnnotationText}
 use Rattle.apt_base.specs.declared.around.Around.{Around}
+use Rattle.apt_base.specs.Limits.{max_children}
 use Rattle.decl_tree.specs.declared.type_text.BaseType.{BaseType}
 use Rattle.decl_grammar.specs.declared.written.Modifiers.{Modifiers}
 use Rattle.decl_grammar.specs.declared.symbol.Symbol.{Symbol}
@@ -19,7 +20,6 @@ use Rattle.decl_types.specs.Params.{bracket_step, annotated_step, varargs_step, 
 use Rattle.decl_grammar.proofs.OneToken.{not_both}
 use Rattle.decl_grammar.proofs.Progress.{done_rest}
 use Rattle.decl_grammar.proofs.Loop.{falls}
-use Rattle.decl_limits.specs.Children.{most}
 use Rattle.decl_children.specs.Fronts.{Tells}
 use Rattle.decl_children.specs.ParamReads.{step_form, EndRead, BasedRead, ParamRead, FirstBehind, FirstRead, FindsEnd, arguments_of, takes_any, TailCrowds, ParamsCrowd}
 use Rattle.decl_children.specs.Results.{names_constructor, TypeRead, ResultRead, FindsAt, NamedCrowds}
@@ -103,26 +103,26 @@ values-same : {A : Type 0} (x y : A) (a b : List Symbol) → done x a ≡ done y
 values-same x y a b same = cc
 
 -- what is read as the next one is open, so that none further stands behind it
-pub tail-open : (n room : ℕ) (ts : List Symbol) (end : ParamEnd) (after : List Symbol) → 3 * length ts ≤ room → n < most → ParamRead room (drop 1 ts) end after → takes_any end ≡ true → TailCrowds n ts → ⊥
+pub tail-open : (n room : ℕ) (ts : List Symbol) (end : ParamEnd) (after : List Symbol) → 3 * length ts ≤ room → n < max_children → ParamRead room (drop 1 ts) end after → takes_any end ≡ true → TailCrowds n ts → ⊥
 tail-open n room ts end after fits lt r any c =
     let g = tail-goes n room ts fits lt c in
     let same = values-same end g.end after g.after (param-one room (drop 1 ts) end g.end after g.after r g.there) in
     not_both (takes_any g.end) (ap (λ (e : ParamEnd). takes_any e) (sym same) ∙ any) g.one
 
-pub tail-next : (n room : ℕ) (ts : List Symbol) (end : ParamEnd) (after : List Symbol) → 3 * length ts ≤ room → n < most → ParamRead room (drop 1 ts) end after → TailCrowds n ts → TailCrowds (n + arguments_of end) after
+pub tail-next : (n room : ℕ) (ts : List Symbol) (end : ParamEnd) (after : List Symbol) → 3 * length ts ≤ room → n < max_children → ParamRead room (drop 1 ts) end after → TailCrowds n ts → TailCrowds (n + arguments_of end) after
 tail-next n room ts end after fits lt r c =
     let g = tail-goes n room ts fits lt c in
     let one = param-one room (drop 1 ts) end g.end after g.after r g.there in
     subst (λ (zs : List Symbol). TailCrowds (n + arguments_of end) zs) (sym (done_rest end g.end after g.after one))
     (subst (λ (e : ParamEnd). TailCrowds (n + arguments_of e) g.after) (sym (values-same end g.end after g.after one)) g.rest)
 
-pub params-open : (n room : ℕ) (ts : List Symbol) (end : ParamEnd) (after : List Symbol) → 3 * length ts ≤ room → n < most → FirstRead room (drop 1 ts) end after → takes_any end ≡ true → ParamsCrowd n ts → ⊥
+pub params-open : (n room : ℕ) (ts : List Symbol) (end : ParamEnd) (after : List Symbol) → 3 * length ts ≤ room → n < max_children → FirstRead room (drop 1 ts) end after → takes_any end ≡ true → ParamsCrowd n ts → ⊥
 params-open n room ts end after fits lt r any c =
     let g = params-goes n room ts fits lt c in
     let same = values-same end g.end after g.after (first-one room (drop 1 ts) end g.end after g.after r g.there) in
     not_both (takes_any g.end) (ap (λ (e : ParamEnd). takes_any e) (sym same) ∙ any) g.one
 
-pub params-next : (n room : ℕ) (ts : List Symbol) (end : ParamEnd) (after : List Symbol) → 3 * length ts ≤ room → n < most → FirstRead room (drop 1 ts) end after → ParamsCrowd n ts → TailCrowds (n + arguments_of end) after
+pub params-next : (n room : ℕ) (ts : List Symbol) (end : ParamEnd) (after : List Symbol) → 3 * length ts ≤ room → n < max_children → FirstRead room (drop 1 ts) end after → ParamsCrowd n ts → TailCrowds (n + arguments_of end) after
 params-next n room ts end after fits lt r c =
     let g = params-goes n room ts fits lt c in
     let one = first-one room (drop 1 ts) end g.end after g.after r g.there in
@@ -133,11 +133,11 @@ pub comma-less : (room : ℕ) (ts : List Symbol) (end : ParamEnd) (after : List 
 comma-less room [] end after s r = absurd cc
 comma-less room (t ∷ ts) end after s r = omega (arith, param-less room ts end after r)
 
--- Behind so many, in symbols no more than there were, all are too many just where the rest is.
+-- Behind this many, in symbols no more than there were, all are too many just where the rest is.
 abbrev pub TailSame : ℕ → List Symbol → ℕ → List Symbol → Type 0
 TailSame before symbols n ts = (length ts ≤ length symbols) × (TailCrowds before symbols → TailCrowds n ts) × (TailCrowds n ts → TailCrowds before symbols)
 
-pub tail-same : (before n m room : ℕ) (symbols ts after res : List Symbol) (end : ParamEnd) → 3 * length symbols ≤ room → n < most → starts (68 ∷ []) ts ≡ true → ParamRead room (drop 1 ts) end after → takes_any end ≡ false → m ≡ arguments_of end → res ≡ after
+pub tail-same : (before n m room : ℕ) (symbols ts after res : List Symbol) (end : ParamEnd) → 3 * length symbols ≤ room → n < max_children → starts (68 ∷ []) ts ≡ true → ParamRead room (drop 1 ts) end after → takes_any end ≡ false → m ≡ arguments_of end → res ≡ after
     → TailSame before symbols n ts → TailSame before symbols (n + m) res
 tail-same before n m room symbols ts after res end fits lt s r one count there same =
     subst (λ (zs : List Symbol). TailSame before symbols (n + m) zs) (sym there)

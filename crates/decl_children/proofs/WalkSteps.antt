@@ -1,6 +1,7 @@
 -- What the steps of a walk over members answer, from what their calls answered.
 use Rattle.std.proofs.Common.{◌≡◌, ◌==◌, ℕ, ◌+◌, ◌*◌, ◌<◌, ◌≤◌, Bool, true, false, ◌||◌, List, [], ◌∷◌, ◌++◌, drop, length, Result, Ok, Err, ◌⊎◌, inl, inr, ⊎_elim, refl, sym, ap, subst, ◌∙◌, length-append, arith}
 use Rattle.apt_base.specs.declared.memory.NoMemory.{NoMemory}
+use Rattle.apt_base.specs.Limits.{max_children}
 use Rattle.decl_tree.specs.declared.declaration.TypeKind.{TypeKind}
 use Rattle.decl_tree.specs.declared.declaration.TypeKind.TheVariants as kind
 use Rattle.decl_grammar.specs.declared.symbol.Symbol.{Symbol}
@@ -16,7 +17,6 @@ use Rattle.decl_grammar.specs.Grammar.{type_rest, modified_form, member_form}
 use Rattle.decl_grammar.specs.Rule.{reads}
 use Rattle.decl_grammar.proofs.Progress.{done_rest}
 use Rattle.decl_grammar.proofs.OneToken.{not_both}
-use Rattle.decl_limits.specs.Children.{most}
 use Rattle.decl_children.specs.Fronts.{SomeFront, Passes}
 use Rattle.decl_children.specs.Members.{InType, MemberCrowds, TypeCrowds}
 use Rattle.decl_children.specs.Results.{ExecutableCrowds}
@@ -46,8 +46,8 @@ pub one-full : (k : TypeKind) (n : ℕ) (ts : List Symbol) → OneMore k n ts �
 one-full k n ts o = case-member k n ts (one_more o.0 o.1)
 
 -- a member that is not full in any way
-pub member-not : (k : TypeKind) (n room : ℕ) (ts rest : List Symbol) (m : Modifiers) → n ≤ most → 3 * length ts ≤ room → (OneMore k n ts → ⊥) → reads room type_modifiers ts ≡ done m rest
-    → (TypeCrowds rest → ⊥) → (ExecutableCrowds rest → ⊥) → (n < most → FieldsBehind k n rest → ⊥) → (OwnBehind k rest → ⊥) → MemberCrowds k n ts → ⊥
+pub member-not : (k : TypeKind) (n room : ℕ) (ts rest : List Symbol) (m : Modifiers) → n ≤ max_children → 3 * length ts ≤ room → (OneMore k n ts → ⊥) → reads room type_modifiers ts ≡ done m rest
+    → (TypeCrowds rest → ⊥) → (ExecutableCrowds rest → ⊥) → (n < max_children → FieldsBehind k n rest → ⊥) → (OwnBehind k rest → ⊥) → MemberCrowds k n ts → ⊥
 member-not k n room ts rest m le fits one there a b c d crowd = ⊎_elim one go (member-behind k n room ts rest m le fits there crowd)
   where
     go : BehindCase k n rest → ⊥
@@ -57,7 +57,7 @@ member-not k n room ts rest m le fits one there a b c d crowd = ⊎_elim one go 
     go (in_own x) = d x
 
 -- its modifiers are not read
-pub marks-not : (k : TypeKind) (n room : ℕ) (ts : List Symbol) → n ≤ most → 3 * length ts ≤ room → (OneMore k n ts → ⊥) → ((m : Modifiers) (rest : List Symbol) → reads room type_modifiers ts ≡ done m rest → ⊥) → MemberCrowds k n ts → ⊥
+pub marks-not : (k : TypeKind) (n room : ℕ) (ts : List Symbol) → n ≤ max_children → 3 * length ts ≤ room → (OneMore k n ts → ⊥) → ((m : Modifiers) (rest : List Symbol) → reads room type_modifiers ts ≡ done m rest → ⊥) → MemberCrowds k n ts → ⊥
 marks-not k n room ts le fits one none crowd = ⊎_elim one (λ (b : BehindMarks k n room ts). none b.mods b.rest b.there) (member-goes k n room ts le fits crowd)
 
 pub steps-of : (k : TypeKind) (n room : ℕ) (ts : List Symbol) (r : Result Step NoMemory) → 3 * length ts ≤ room → (MemberCrowds k n ts → ⊥) → ((rest : List Symbol) → DeclaredTo k room ts rest → ⊥) → NothingSteps k ts r → Steps k n ts r
@@ -71,7 +71,7 @@ steps-of k n room ts (Err e) fits not none w = tt
 
 -- ---- a type as a member
 
-pub type-not : (k : TypeKind) (n room : ℕ) (ts rest : List Symbol) (m : Modifiers) → n ≤ most → 3 * length ts ≤ room → (OneMore k n ts → ⊥) → reads room type_modifiers ts ≡ done m rest → starts (first_of nested_type) rest ≡ true
+pub type-not : (k : TypeKind) (n room : ℕ) (ts rest : List Symbol) (m : Modifiers) → n ≤ max_children → 3 * length ts ≤ room → (OneMore k n ts → ⊥) → reads room type_modifiers ts ≡ done m rest → starts (first_of nested_type) rest ≡ true
     → (TypeCrowds rest → ⊥) → (ExecutableCrowds rest → ⊥) → MemberCrowds k n ts → ⊥
 type-not k n room ts rest m le fits one there s a b crowd = member-not k n room ts rest m le fits one there a b (λ lt f. no-fields k n rest lt s f) (λ o. no-own k rest s o) crowd
 
@@ -89,7 +89,7 @@ no-type ts s (us, vs, e, full) = not_both (starts (first_of nested_type) ts) (ap
 
 -- ---- members up to the `}`
 
-pub same-begins : (k : TypeKind) (n : ℕ) (symbols ts : List Symbol) → n ≤ most → ts ≡ symbols → MembersSame k n symbols n false ts
+pub same-begins : (k : TypeKind) (n : ℕ) (symbols ts : List Symbol) → n ≤ max_children → ts ≡ symbols → MembersSame k n symbols n false ts
 same-begins k n symbols ts le e = subst (λ (zs : List Symbol). MembersSame k n symbols n false zs) (sym e) (omega arith, le, λ o. o, λ o. o, λ r m. m, λ r m. m)
 
 pub same-full : (k : TypeKind) (b : ℕ) (symbols : List Symbol) (n : ℕ) (c : Bool) (ts : List Symbol) → MembersSame k b symbols n c ts → MemberCrowds k n ts → MembersOver k b false symbols
@@ -99,10 +99,10 @@ pub same-ended : (k : TypeKind) (b : ℕ) (symbols : List Symbol) (n : ℕ) (c :
     → (MembersOver k b false symbols → ⊥) × ((rest : List Symbol) → MembersEnd k symbols rest → ⊥)
 same-ended k b symbols n c ts same s none stuck = (λ o. over-stuck k n c ts s none stuck (same.2 o), λ rest m. end-stuck k ts rest s stuck (same.4 rest m))
 
-pub same-most : (k : TypeKind) (b : ℕ) (symbols : List Symbol) (n : ℕ) (c : Bool) (ts mid : List Symbol) (ms : List MemberAt) → MembersSame k b symbols n c ts → Passes (member_form k) ts ms mid → most < n + length ms → MembersOver k b false symbols
+pub same-most : (k : TypeKind) (b : ℕ) (symbols : List Symbol) (n : ℕ) (c : Bool) (ts mid : List Symbol) (ms : List MemberAt) → MembersSame k b symbols n c ts → Passes (member_form k) ts ms mid → max_children < n + length ms → MembersOver k b false symbols
 same-most k b symbols n c ts mid ms same p lt = same.3 (over-later k n c ts mid ms p (over-here k (n + length ms) (c || has_constructor ms) mid (most-full k (n + length ms) mid lt)))
 
-pub same-goes : (k : TypeKind) (b : ℕ) (symbols : List Symbol) (n : ℕ) (c : Bool) (ts mid : List Symbol) (ms : List MemberAt) → MembersSame k b symbols n c ts → (MemberCrowds k n ts → ⊥) → Passes (member_form k) ts ms mid → n + length ms ≤ most
+pub same-goes : (k : TypeKind) (b : ℕ) (symbols : List Symbol) (n : ℕ) (c : Bool) (ts mid : List Symbol) (ms : List MemberAt) → MembersSame k b symbols n c ts → (MemberCrowds k n ts → ⊥) → Passes (member_form k) ts ms mid → n + length ms ≤ max_children
     → MembersSame k b symbols (n + length ms) (c || has_constructor ms) mid
 same-goes k b symbols n c ts mid ms same none p le = (
   omega (arith, same.0, passes-falls (member_form k) (member-never k) ts ms mid p),
@@ -113,9 +113,9 @@ same-goes k b symbols n c ts mid ms same none p le = (
   λ r m. same.5 r (end-later k ts mid r ms p m),
 )
 
-pub same-over : (k : TypeKind) (b : ℕ) (symbols : List Symbol) (n : ℕ) (c : Bool) (ts : List Symbol) → MembersSame k b symbols n c ts → starts (64 ∷ []) ts ≡ true → most < n + added_to k c → MembersOver k b false symbols
+pub same-over : (k : TypeKind) (b : ℕ) (symbols : List Symbol) (n : ℕ) (c : Bool) (ts : List Symbol) → MembersSame k b symbols n c ts → starts (64 ∷ []) ts ≡ true → max_children < n + added_to k c → MembersOver k b false symbols
 same-over k b symbols n c ts same s lt = same.3 (over-brace k n c ts s lt)
 
-pub same-brace : (k : TypeKind) (b : ℕ) (symbols : List Symbol) (n : ℕ) (c : Bool) (ts : List Symbol) → MembersSame k b symbols n c ts → starts (64 ∷ []) ts ≡ true → n + added_to k c ≤ most
+pub same-brace : (k : TypeKind) (b : ℕ) (symbols : List Symbol) (n : ℕ) (c : Bool) (ts : List Symbol) → MembersSame k b symbols n c ts → starts (64 ∷ []) ts ≡ true → n + added_to k c ≤ max_children
     → (MembersOver k b false symbols → ⊥) × MembersEnd k symbols (drop 1 ts)
 same-brace k b symbols n c ts same s le = (λ o. omega (arith, le, brace-over k n c ts same.1 s (same.2 o)), same.5 (drop 1 ts) (brace-end k ts s))

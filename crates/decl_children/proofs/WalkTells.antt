@@ -2,6 +2,7 @@
 use Rattle.std.proofs.Common.{◌≡◌, ◌==◌, ℕ, suc, ◌+◌, ◌*◌, ◌<◌, ◌≤◌, Bool, true, false, ◌||◌, List, [], ◌∷◌, ◌++◌, length, ◌-◌, Result, Ok, ◌⊎◌, inl, inr, refl, sym, ap, subst, ◌∙◌, arith}
 use Rattle.std.proofs.lemmas.Bool.{eqb-true}
 use Rattle.apt_base.specs.declared.memory.NoMemory.{NoMemory}
+use Rattle.apt_base.specs.Limits.{max_children}
 use Rattle.decl_tree.specs.declared.declaration.TypeKind.{TypeKind}
 use Rattle.decl_tree.specs.declared.declaration.TypeKind.TheVariants as kind
 use Rattle.decl_grammar.specs.declared.fault.ReadFault.{ReadFault}
@@ -21,7 +22,7 @@ use Rattle.decl_grammar.proofs.Rivals.{plain}
 use Rattle.decl_grammar.proofs.RuleFair.{fair}
 use Rattle.decl_grammar.proofs.Knot.{sound-plain}
 use Rattle.decl_crossings.specs.Crossings.{FieldCrosses}
-use Rattle.decl_limits.specs.Children.{most, IsFull, NextTypeParam, NextConstant, enum_heading, generic_name}
+use Rattle.decl_limits.specs.Children.{IsFull, NextTypeParam, NextConstant, enum_heading, generic_name}
 use Rattle.decl_types.proofs.MemberFirsts.{modified_first}
 use Rattle.decl_types.specs.Members.{modified_firsts, member_firsts}
 use Rattle.decl_children.specs.Fronts.{Passes, Tells}
@@ -71,13 +72,13 @@ pub constants-tell : (room : ℕ) (ts rest : List Symbol) (r : Result Bool NoMem
 constants-tell room ts rest r fits e t =
     tells-as (ConstantsCrowd rest) (ConstantsOver ts) r (λ p. then-back room enum_heading InConstants ts tt rest e p) (λ p. then-as room enum_heading InConstants ts tt rest e (constants-read room ts fits p)) t
 
-pub fields-few : (room n : ℕ) (ts : List Symbol) → most ≤ n → FieldsOver room n ts → ⊥
+pub fields-few : (room n : ℕ) (ts : List Symbol) → max_children ≤ n → FieldsOver room n ts → ⊥
 fields-few room n ts le f = omega (arith, le, f.2)
 
 pub fields-none : (room n : ℕ) (ts : List Symbol) → ((x : Unit {0}) (rest : List Symbol) → reads room field_front ts ≡ done x rest → ⊥) → FieldsOver room n ts → ⊥
 fields-none room n ts none f = none tt f.1 f.3
 
-pub fields-tell : (room n left : ℕ) (ts rest : List Symbol) (b : Bool) → left + suc n ≡ most → reads room field_front ts ≡ done tt rest → Tells {E = ReadFault} (FieldCrosses left rest) (Ok b) → Tells {E = NoMemory} (FieldsOver room n ts) (Ok b)
+pub fields-tell : (room n left : ℕ) (ts rest : List Symbol) (b : Bool) → left + suc n ≡ max_children → reads room field_front ts ≡ done tt rest → Tells {E = ReadFault} (FieldCrosses left rest) (Ok b) → Tells {E = NoMemory} (FieldsOver room n ts) (Ok b)
 fields-tell room n left ts rest true e there t = (left, rest, e, there, t)
 fields-tell room n left ts rest false e there t =
     λ f. t (subst (λ (j : ℕ). FieldCrosses j rest) (omega (arith, e, f.2)) (subst (λ (zs : List Symbol). FieldCrosses f.0 zs) (done_rest tt tt f.1 rest (sym f.3 ∙ there)) f.4))
@@ -108,10 +109,10 @@ unmodified-more kind.Interface = refl
 pub unmodified-ends : (k : TypeKind) → HasEnd (unmodified_form k)
 unmodified-ends k = record { sound = sound-plain fair (unmodified_form k) (unmodified-ok k) (unmodified-plain k); ends = unmodified-more k }
 
-pub own-many : (k : TypeKind) (room : ℕ) (ts rest : List Symbol) (u : Unmodified) → reads room (unmodified_form k) ts ≡ done u rest → most < own_of u → OwnBehind k ts
+pub own-many : (k : TypeKind) (room : ℕ) (ts rest : List Symbol) (u : Unmodified) → reads room (unmodified_form k) ts ≡ done u rest → max_children < own_of u → OwnBehind k ts
 own-many k room ts rest u e lt = let p = read-phrase (unmodified_form k) room ts u rest e in (p.0, rest, p.1, (u, p.2, lt))
 
-pub own-few : (k : TypeKind) (room : ℕ) (ts rest : List Symbol) (u : Unmodified) → reads room (unmodified_form k) ts ≡ done u rest → own_of u ≤ most → OwnBehind k ts → ⊥
+pub own-few : (k : TypeKind) (room : ℕ) (ts rest : List Symbol) (u : Unmodified) → reads room (unmodified_form k) ts ≡ done u rest → own_of u ≤ max_children → OwnBehind k ts → ⊥
 own-few k room ts rest u e le (us, vs, cut, (w, is, lt)) =
     let same = passes-value (unmodified_form k) (unmodified-ends k) ts w u vs rest (us, cut, is) (read-phrase (unmodified_form k) room ts u rest e) in
     omega (arith, le, lt, ap own_of same)
@@ -127,15 +128,15 @@ fields-member k n room ts rest m there f = member-back k n room ts rest m there 
 pub own-member : (k : TypeKind) (n room : ℕ) (ts rest : List Symbol) (m : Modifiers) → reads room type_modifiers ts ≡ done m rest → OwnBehind k rest → MemberCrowds k n ts
 own-member k n room ts rest m there o = member-back k n room ts rest m there (in_own o)
 
-pub plain-not : (k : TypeKind) (n room : ℕ) (ts rest : List Symbol) (m : Modifiers) → n ≤ most → 3 * length ts ≤ room → 3 * length rest ≤ room → (OneMore k n ts → ⊥) → reads room type_modifiers ts ≡ done m rest → starts (first_of nested_type) rest ≡ false
+pub plain-not : (k : TypeKind) (n room : ℕ) (ts rest : List Symbol) (m : Modifiers) → n ≤ max_children → 3 * length ts ≤ room → 3 * length rest ≤ room → (OneMore k n ts → ⊥) → reads room type_modifiers ts ≡ done m rest → starts (first_of nested_type) rest ≡ false
     → (ExecutableCrowds rest → ⊥) → (FieldsOver room n rest → ⊥) → (OwnBehind k rest → ⊥) → MemberCrowds k n ts → ⊥
 plain-not k n room ts rest m le fits fits_rest one there s a f o crowd =
     member-not k n room ts rest m le fits one there (no-type rest s) a (λ lt b. let left = left_of lt in f (over (left.0) left.1 (fields-goes k n left.0 room rest left.1 fits_rest b))) o crowd
   where
-    left_of : n < most → (left : ℕ) × (left + suc n ≡ most)
-    left_of lt = (most - suc n, omega (arith, lt))
+    left_of : n < max_children → (left : ℕ) × (left + suc n ≡ max_children)
+    left_of lt = (max_children - suc n, omega (arith, lt))
 
-    over : (left : ℕ) → left + suc n ≡ most → FieldsRead left room rest → FieldsOver room n rest
+    over : (left : ℕ) → left + suc n ≡ max_children → FieldsRead left room rest → FieldsOver room n rest
     over left e r = (left, r.rest, e, r.there, r.crosses)
 
 pub plain-declared : (k : TypeKind) (room : ℕ) (ts rest : List Symbol) (m : Modifiers) → reads room type_modifiers ts ≡ done m rest → ((u : Unmodified) (end : List Symbol) → Passes (unmodified_form k) rest u end → ⊥) → (end : List Symbol) → DeclaredTo k room ts end → ⊥
@@ -176,7 +177,7 @@ none-begins k (t ∷ ts) e = none-has k t.sort e
 pub begins-none : (k : TypeKind) (n : ℕ) (ts : List Symbol) → (starts (67 ∷ []) ts ≡ true) ⊎ (starts (63 ∷ []) ts ≡ true) → OneMore k n ts → ⊥
 begins-none k n ts e o = not_both (starts (modified_firsts k) ts) (ap (λ (ks : List ℕ). starts ks ts) (sym (modified_first k)) ∙ o.1) (none-begins k ts e)
 
-pub begins-tell : (k : TypeKind) (n : ℕ) (ts : List Symbol) (b : Bool) → most ≤ n → starts (67 ∷ []) ts ≡ false → starts (63 ∷ []) ts ≡ false → b ≡ starts (member_firsts k) ts → Decides (OneMore k n ts) b
+pub begins-tell : (k : TypeKind) (n : ℕ) (ts : List Symbol) (b : Bool) → max_children ≤ n → starts (67 ∷ []) ts ≡ false → starts (63 ∷ []) ts ≡ false → b ≡ starts (member_firsts k) ts → Decides (OneMore k n ts) b
 begins-tell k n ts true le a c e = (le, ap (λ (ks : List ℕ). starts ks ts) (modified_first k) ∙ (sym (member-starts k ts a c) ∙ sym e))
 begins-tell k n ts false le a c e =
     λ o. not_both (starts (modified_firsts k) ts) (ap (λ (ks : List ℕ). starts ks ts) (sym (modified_first k)) ∙ o.1) (sym (member-starts k ts a c) ∙ sym e)

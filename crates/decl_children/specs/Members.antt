@@ -1,5 +1,6 @@
 -- When members of a type are too many, or one of them is in itself.
 use Rattle.std.specs.Prelude.{◌≡◌, ℕ, ◌+◌, ◌<◌, List, [], ◌∷◌, ◌++◌, length, ◌⊎◌, Option}
+use Rattle.apt_base.specs.Limits.{max_children}
 use Rattle.decl_tree.specs.declared.declaration.TypeKind.{TypeKind}
 use Rattle.decl_tree.specs.declared.declaration.TypeKind.TheVariants as kind
 use Rattle.decl_grammar.specs.declared.symbol.Symbol.{Symbol}
@@ -13,7 +14,7 @@ use Rattle.decl_grammar.specs.Form.{Form, turn, many}
 use Rattle.decl_grammar.specs.Types.{sign, before, type_modifiers}
 use Rattle.decl_grammar.specs.Grammar.{joined_lists, member_form, type_rest, top_type}
 use Rattle.decl_grammar.specs.File.{IsPhrase}
-use Rattle.decl_limits.specs.Children.{most, blank, Then, class_heading, interface_heading, annotation_heading, whole_constants, whole_members, member_children, ExecutableFull, MemberFull, declared_children, TypeFull}
+use Rattle.decl_limits.specs.Children.{blank, Then, class_heading, interface_heading, annotation_heading, whole_constants, whole_members, member_children, ExecutableFull, MemberFull, declared_children, TypeFull}
 use Rattle.decl_children.specs.Fronts.{SomeFront}
 
 -- a type is full, whatever stands within it
@@ -24,7 +25,7 @@ InType ts = (h : ℕ) × TypeFull h ts
 abbrev pub TypeCrowds : List Symbol → Type 0
 TypeCrowds ts = SomeFront InType ts
 
--- a front of the symbols is full as a member of a type of this kind with so many children before it
+-- a front of the symbols is full as a member of a type of this kind with this many children before it
 abbrev pub MemberCrowds : TypeKind → ℕ → List Symbol → Type 0
 MemberCrowds k n ts = SomeFront (MemberFull InType k n) ts
 
@@ -54,15 +55,15 @@ HeadingCrowds k ts = SomeFront (Then (heading_of k) (λ (n : ℕ) us. MembersFul
 
 -- a whole type, to which the language adds more than it may have
 abbrev pub TooLong : List Symbol → Type 0
-TooLong us = (x : TypeRest) × IsPhrase type_rest us x × (most < declared_children x)
+TooLong us = (x : TypeRest) × IsPhrase type_rest us x × (max_children < declared_children x)
 
--- The fields of one declaration are too many: with a `;` behind some front it is a whole member of so many fields.
+-- The fields of one declaration are too many: with a `;` behind some front it is a whole member of this many fields.
 abbrev pub FieldsFull : TypeKind → ℕ → List Symbol → Type 0
-FieldsFull k n us = (ms : List MemberAt) × IsPhrase (member_form k) (us ++ blank (operator token.semicolon) ∷ []) ms × (most < n + length ms)
+FieldsFull k n us = (ms : List MemberAt) × IsPhrase (member_form k) (us ++ blank (operator token.semicolon) ∷ []) ms × (max_children < n + length ms)
 
 -- a whole member has too many children of its own
 abbrev pub OwnFull : TypeKind → List Symbol → Type 0
-OwnFull k us = (m : MemberAt) × IsPhrase (member_form k) us (m ∷ []) × (most < member_children m)
+OwnFull k us = (m : MemberAt) × IsPhrase (member_form k) us (m ∷ []) × (max_children < member_children m)
 
 -- behind its modifiers a member is full, as a type or as a method or a constructor
 abbrev pub InnerFull : List Symbol → Type 0

@@ -2,6 +2,7 @@
 -- parameters behind a comma are too many.
 use Rattle.std.specs.Prelude.{◌≡◌, ℕ, zero, suc, ◌+◌, ◌≤◌, Bool, true, false, List, [], ◌∷◌, ◌++◌, length, drop, ◌⊎◌, Option, Some, None}
 use Rattle.std.specs.Borrow.{Bor}
+use Rattle.apt_base.specs.Limits.{max_children}
 use Rattle.decl_tree.specs.declared.type_text.BaseType.{BaseType}
 use Rattle.decl_tree.specs.declared.annotation.AnnotationText.{AnnotationText}
 use Rattle.decl_grammar.specs.declared.symbol.Symbol.{Symbol}
@@ -18,7 +19,7 @@ use Rattle.decl_grammar.specs.Grammar.{param_modifiers, params_from, next_params
 use Rattle.decl_grammar.specs.Rule.{reads}
 use Rattle.decl_grammar.specs.File.{IsPhrase}
 use Rattle.decl_types.specs.Params.{param_step, first_step}
-use Rattle.decl_limits.specs.Children.{most, OpensWith, IsFull, NextParam}
+use Rattle.decl_limits.specs.Children.{OpensWith, IsFull, NextParam}
 use Rattle.decl_children.specs.Fronts.{SomeFront}
 
 -- a step behind the base of the type of a parameter, of the first one or of a further one
@@ -30,7 +31,7 @@ abbrev pub after_step : (List Symbol → Outcome ParamEnd) → Option ParamEnd �
 after_step next (Some e) rest = done e rest
 after_step next None rest = next rest
 
--- what is read by at most so many steps up to the end of a parameter
+-- what is read by at most this many steps up to the end of a parameter
 abbrev pub end_read : ℕ → ℕ → Bool → List Symbol → Outcome ParamEnd
 end_read zero room b ts = fault ts
 end_read (suc k) room b ts = reads room (step_form b) ts >>= after_step (end_read k room b)
@@ -79,7 +80,7 @@ takes_any param_end.Receiver = false
 abbrev pub TailWhole : List Symbol → List ParamAt → Type 0
 TailWhole ts items = ((ts ≡ []) × (items ≡ [])) ⊎ IsPhrase next_params ts (items, false)
 
--- Behind parameters that are whole, so many of a child list are there; a further one begins at the last symbol, behind a comma.
+-- Behind parameters that are whole, this many of a child list are there; a further one begins at the last symbol, behind a comma.
 pub record TailFull (n : ℕ) (ts : List Symbol) : Type 0 where
   pub front : List Symbol
   pub comma : Symbol
@@ -89,11 +90,11 @@ pub record TailFull (n : ℕ) (ts : List Symbol) : Type 0 where
   pub is_comma : comma.sort ≡ operator token.comma
   pub whole : TailWhole front items
   pub begins : OpensWith params_from next
-  pub many : most ≤ n + length items
+  pub many : max_children ≤ n + length items
 
 abbrev pub TailCrowds : ℕ → List Symbol → Type 0
 TailCrowds n ts = SomeFront (TailFull n) ts
 
--- the parameters of a method or a constructor with so many type parameters, from their bracket on, are too many
+-- the parameters of a method or a constructor with this many type parameters, from their bracket on, are too many
 abbrev pub ParamsCrowd : ℕ → List Symbol → Type 0
 ParamsCrowd n ts = SomeFront (IsFull NextParam n) ts

@@ -2,6 +2,7 @@
 use Rattle.std.specs.Prelude.{◌≡◌, ℕ, ◌+◌, ◌<◌, Bool, true, false, ◌||◌, List, [], ◌∷◌, ◌++◌, drop, length, ◌⊎◌, Result, Ok, Err, if◌then◌else◌}
 use Rattle.std.specs.List.{list_any}
 use Rattle.apt_base.specs.declared.memory.NoMemory.{NoMemory}
+use Rattle.apt_base.specs.Limits.{max_children}
 use Rattle.decl_tree.specs.Legal.{constructs}
 use Rattle.decl_tree.specs.declared.declaration.Member.{Member, out-Member}
 use Rattle.decl_tree.specs.declared.declaration.TypeKind.{TypeKind}
@@ -14,7 +15,7 @@ use Rattle.decl_grammar.specs.declared.written.Unmodified.TheVariants as unmodif
 use Rattle.decl_grammar.specs.Form.{Form, pair, turn, either}
 use Rattle.decl_grammar.specs.Types.{keyword, sign, behind, before, name, silently}
 use Rattle.decl_grammar.specs.Grammar.{block, constants, enum_members, member_form, plain_members, type_rest, unmodified_of, annotation_unmodified}
-use Rattle.decl_limits.specs.Children.{most, Then, IsFull, NextTypeParam, NextConstant, generic_name, enum_heading}
+use Rattle.decl_limits.specs.Children.{Then, IsFull, NextTypeParam, NextConstant, generic_name, enum_heading}
 use Rattle.decl_grammar.specs.Reading.{starts}
 use Rattle.decl_children.specs.declared.walks.Walk.{Walk}
 use Rattle.decl_children.specs.declared.walks.Walk.TheVariants as walk
@@ -75,10 +76,10 @@ added_to kind.Class constructor = if constructor then 0 else 1
 added_to kind.AnnotationType constructor = 0
 added_to kind.Interface constructor = 0
 
--- Behind so many children, with a constructor among them or without, the members are too many, or they are whole and with what the language adds too many.
+-- Behind this many children, with a constructor among them or without, the members are too many, or they are whole and with what the language adds too many.
 abbrev pub MembersOver : TypeKind → ℕ → Bool → List Symbol → Type 0
 MembersOver k n c ts =
-    MembersCrowd k n ts ⊎ ((ms : List MemberAt) × (rest : List Symbol) × Passes (closed_members k) ts ms rest × (most < n + length ms + added_to k (c || has_constructor ms)))
+    MembersCrowd k n ts ⊎ ((ms : List MemberAt) × (rest : List Symbol) × Passes (closed_members k) ts ms rest × (max_children < n + length ms + added_to k (c || has_constructor ms)))
 
 -- the members end before these symbols
 abbrev pub MembersEnd : TypeKind → List Symbol → List Symbol → Type 0
@@ -105,11 +106,11 @@ ParamsOver ts = SomeFront (Then generic_name (λ (x : Unit {0}) us. IsFull NextT
 abbrev pub ConstantsOver : List Symbol → Type 0
 ConstantsOver ts = SomeFront (Then enum_heading (λ (x : Unit {0}) us. IsFull NextConstant 0 us)) ts
 
--- Behind so many constants it is full behind a `;`, or at the `}`.
+-- Behind this many constants it is full behind a `;`, or at the `}`.
 abbrev pub EnumOver : ℕ → List Symbol → Type 0
 EnumOver n ts =
     ((starts (operator token.semicolon ∷ []) ts ≡ true) × MembersOver kind.Enum n false (drop 1 ts))
-    ⊎ ((starts (operator token.close_brace ∷ []) ts ≡ true) × (most < n + added_to kind.Enum false))
+    ⊎ ((starts (operator token.close_brace ∷ []) ts ≡ true) × (max_children < n + added_to kind.Enum false))
 
 -- behind its constants it ends before these symbols
 abbrev pub EnumEnd : List Symbol → List Symbol → Type 0

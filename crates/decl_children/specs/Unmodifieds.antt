@@ -1,5 +1,6 @@
 -- Members behind their modifiers: how many each is, how many children it has of its own, and when the fields of one declaration are too many.
 use Rattle.std.specs.Prelude.{◌≡◌, ℕ, ◌+◌, ◌<◌, Bool, true, false, List, [], ◌∷◌, ◌++◌, length, Result, Ok, Err, Option, Some, None}
+use Rattle.apt_base.specs.Limits.{max_children}
 use Rattle.decl_tree.specs.declared.declaration.TypeKind.{TypeKind}
 use Rattle.decl_grammar.specs.declared.symbol.Symbol.{Symbol}
 use Rattle.decl_grammar.specs.declared.written.Unmodified.{Unmodified}
@@ -9,7 +10,7 @@ use Rattle.decl_grammar.specs.TokenNames as token
 use Rattle.decl_grammar.specs.Form.{Form, pair, turn, many}
 use Rattle.decl_grammar.specs.Types.{name, dim, type_form, silently}
 use Rattle.decl_grammar.specs.File.{IsPhrase}
-use Rattle.decl_limits.specs.Children.{most, blank}
+use Rattle.decl_limits.specs.Children.{blank}
 use Rattle.decl_children.specs.Fronts.{SomeFront}
 use Rattle.decl_children.specs.TypeWalks.{unmodified_form}
 
@@ -41,11 +42,11 @@ own_of (unmodified.Nested rest) = 0
 abbrev pub field_front : Form (Unit {0})
 field_front = turn silently (pair type_form (pair name (many dim)))
 
--- With a `;` behind some front there are more fields than a type with so many children may have.
+-- With a `;` behind some front there are more fields than a type with this many children may have.
 abbrev pub FieldsBehind : TypeKind → ℕ → List Symbol → Type 0
 FieldsBehind k n ts =
-    SomeFront (λ us. (u : Unmodified) × IsPhrase (unmodified_form k) (us ++ blank (operator token.semicolon) ∷ []) u × (most < n + count_of u)) ts
+    SomeFront (λ us. (u : Unmodified) × IsPhrase (unmodified_form k) (us ++ blank (operator token.semicolon) ∷ []) u × (max_children < n + count_of u)) ts
 
 -- a whole method or constructor has too many children
 abbrev pub OwnBehind : TypeKind → List Symbol → Type 0
-OwnBehind k ts = SomeFront (λ us. (u : Unmodified) × IsPhrase (unmodified_form k) us u × (most < own_of u)) ts
+OwnBehind k ts = SomeFront (λ us. (u : Unmodified) × IsPhrase (unmodified_form k) us u × (max_children < own_of u)) ts

@@ -6,16 +6,13 @@ ghost use Rattle.decl_children.specs.Fronts.{Tells};
 ghost use Rattle.decl_children.specs.Walks.{TypeParamsCrowd, ConstantsCrowd};
 
 use crate::steps::{behind, read_or_none};
-use apt_base::NoMemory;
+use apt_base::{MAX_CHILDREN, NoMemory};
 use decl_grammar::Symbol;
 use decl_grammar::sorts::{COMMA, LESS_THAN, OPEN_BRACE};
 use decl_members::{constant_in, starts_constant};
 use decl_types::type_param_of;
 use decl_values::{is_next, starts_annotation, starts_name};
 use std::alloc::Global;
-
-/// The most items of a child list.
-pub const MOST: usize = 65_535;
 
 // Whether a type parameter may begin here.
 fn starts_type_param(symbols: &[Symbol<'_>]) -> bool
@@ -37,7 +34,7 @@ pub fn type_params_full(
     let mut count: usize = 0;
     let mut rest = behind(symbols);
     'row: while starts_type_param(rest) {
-        if count >= MOST {
+        if count >= MAX_CHILDREN {
             return Ok(true);
         }
         let Some((_, after)) = read_or_none(type_param_of(alloc, room, rest))? else {
@@ -61,7 +58,7 @@ pub fn constants_full(alloc: Global, room: usize, symbols: &[Symbol<'_>]) -> Res
     let mut count: usize = 0;
     let mut rest = behind(symbols);
     'row: while starts_constant(rest) {
-        if count >= MOST {
+        if count >= MAX_CHILDREN {
             return Ok(true);
         }
         let Some((_, after)) = read_or_none(constant_in(alloc, room, rest))? else {

@@ -5,11 +5,11 @@ ghost use Rattle.decl_children.specs.TypeWalks.{ParamsOver, ConstantsOver};
 ghost use Rattle.decl_children.specs.WalkSteps.{FieldsOver};
 
 use crate::headings::{enum_heading_of, generic_name_of};
-use crate::items::{MOST, constants_full};
+use crate::items::constants_full;
 use crate::members::field_front_of;
 use crate::results::params_crowd;
 use crate::steps::read_or_none;
-use apt_base::NoMemory;
+use apt_base::{MAX_CHILDREN, NoMemory};
 use decl_crossings::fields_cross;
 use decl_grammar::Symbol;
 use decl_grammar::sorts::OPEN_BRACE;
@@ -49,7 +49,7 @@ pub fn enum_constants_full(
     constants_full(alloc, room, rest)
 }
 
-/// Whether the fields of one declaration are too many for a type with so many children.
+/// Whether the fields of one declaration are too many for a type with this many children.
 pub fn fields_full(
     alloc: Global,
     room: usize,
@@ -59,13 +59,13 @@ pub fn fields_full(
     requires room { 3 * length symbols.now ≤ room }
     ensures { Tells (FieldsOver room count symbols.now) result }
 {
-    if count >= MOST {
+    if count >= MAX_CHILDREN {
         return Ok(false);
     }
     let Some(rest) = read_or_none(field_front_of(alloc, room, symbols))? else {
         return Ok(false);
     };
-    match fields_cross(alloc, room, MOST - 1 - count, rest) {
+    match fields_cross(alloc, room, MAX_CHILDREN - 1 - count, rest) {
         Ok(full) => Ok(full),
         Err(_) => Err(NoMemory),
     }

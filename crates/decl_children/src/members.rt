@@ -1,5 +1,6 @@
 // Readers of members that are no types, and what is counted of them (JLS 8.1.7, 8.9.2, 9.1.5, 9.6.1).
 ghost use Rattle.std.specs.Prelude.{◌≡◌, ◌+◌, false, nat_lt};
+ghost use Rattle.apt_base.specs.Limits.{max_children};
 ghost use Rattle.decl_grammar.specs.Reading.{Gives, starts};
 ghost use Rattle.decl_grammar.specs.Form.{first_of, nested_type};
 ghost use Rattle.decl_grammar.specs.Form.{turn};
@@ -10,7 +11,7 @@ ghost use Rattle.decl_grammar.specs.TokenNames as token;
 ghost use Rattle.decl_children.specs.TypeWalks.{unmodified_form, initialiser_block, nothing_form};
 ghost use Rattle.decl_children.specs.Unmodifieds.{count_of, constructs_one, own_of, field_front};
 
-use crate::items::MOST;
+use apt_base::MAX_CHILDREN;
 use decl_grammar::sorts::{OPEN_BRACE, SEMICOLON, STATIC, VOID};
 use decl_grammar::{MemberRest, ReadFault, Symbol, Unmodified};
 use decl_members::{generic_member_of, named_member_of, primitive_member_of, void_method_of};
@@ -139,12 +140,12 @@ pub fn field_front_of<'a, 's>(
 
 // Whether two lists together are too long.
 fn is_long(first: usize, second: usize) -> bool
-    ensures { result ≡ nat_lt 65535 (first + second) }
+    ensures { result ≡ nat_lt max_children (first + second) }
 {
-    if first > MOST {
+    if first > MAX_CHILDREN {
         return true;
     }
-    second > MOST - first
+    second > MAX_CHILDREN - first
 }
 
 /// How many members it gives.
@@ -175,7 +176,7 @@ pub fn is_constructor(unmodified: &Unmodified) -> bool
 
 /// Whether it is a method or a constructor with too many children.
 pub fn has_many(unmodified: &Unmodified) -> bool
-    ensures { result ≡ nat_lt 65535 (own_of unmodified.now) }
+    ensures { result ≡ nat_lt max_children (own_of unmodified.now) }
 {
     match unmodified {
         Unmodified::Nothing => false,

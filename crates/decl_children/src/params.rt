@@ -5,9 +5,8 @@ ghost use Rattle.decl_grammar.specs.Rule.{reads};
 ghost use Rattle.decl_children.specs.Fronts.{Tells};
 ghost use Rattle.decl_children.specs.ParamReads.{step_form, EndRead, BasedRead, ParamRead, FirstBehind, FirstRead, FindsEnd, arguments_of, takes_any, TailCrowds, ParamsCrowd};
 
-use crate::items::MOST;
 use crate::steps::{all, behind, read_or_none};
-use apt_base::NoMemory;
+use apt_base::{MAX_CHILDREN, NoMemory};
 use decl_grammar::sorts::{COMMA, FINAL, OPEN_PARENTHESIS};
 use decl_grammar::{ParamEnd, ReadFault, Symbol};
 use decl_types::{first_step_of, param_modifiers_of, param_step_of, starts_params};
@@ -130,7 +129,7 @@ fn is_open(end: &ParamEnd) -> bool
     }
 }
 
-// Whether the parameters behind a comma are too many, where so many of the child list stand before.
+// Whether the parameters behind a comma are too many, where this many of the child list stand before.
 fn more_full(
     alloc: Global,
     room: usize,
@@ -144,7 +143,7 @@ fn more_full(
     let mut rest = all(symbols);
     'row: while is_next(rest, COMMA) {
         let next = behind(rest);
-        if count >= MOST {
+        if count >= MAX_CHILDREN {
             return Ok(starts_params(next));
         }
         let Some(found) = param_of(alloc, room, next)? else {
@@ -160,7 +159,7 @@ fn more_full(
     Ok(false)
 }
 
-/// Whether the parameters of a method or a constructor with so many type parameters, from their `(` on, are too many.
+/// Whether the parameters of a method or a constructor with this many type parameters, from their `(` on, are too many.
 pub fn params_full(
     alloc: Global,
     room: usize,
@@ -172,7 +171,7 @@ pub fn params_full(
     ensures { Tells (ParamsCrowd before symbols.now) result }
 {
     let inside = behind(symbols);
-    if before >= MOST {
+    if before >= MAX_CHILDREN {
         return Ok(starts_params(inside));
     }
     let Some(found) = first_of(alloc, room, inside)? else {

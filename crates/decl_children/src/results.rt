@@ -56,7 +56,7 @@ pub fn behind_result<'a, 's>(
     behind_type(alloc, room, symbols)
 }
 
-// Whether a method or a constructor with so many type parameters has too many children, from its result or its name on.
+// Whether a method or a constructor with this many type parameters has too many children, from its result or its name on.
 fn named_full(
     alloc: Global,
     room: usize,

@@ -1,5 +1,6 @@
 // A walk over types, their members and the types among these, up to where a child list is too long.
 ghost use Rattle.std.specs.Prelude.{◌≡◌, ◌≤◌, ◌*◌, ◌||◌, true, false, [], ◌∷◌, length};
+ghost use Rattle.apt_base.specs.Limits.{max_children};
 ghost use Rattle.decl_grammar.specs.Reading.{starts, done};
 ghost use Rattle.decl_grammar.specs.Form.{first_of, nested_type};
 ghost use Rattle.decl_grammar.specs.Types.{type_modifiers};
@@ -12,13 +13,12 @@ ghost use Rattle.decl_children.specs.TypeWalks.{Walks, Steps, added_to, MembersO
 ghost use Rattle.decl_children.specs.WalkSteps.{Decides, OneMore, NothingSteps, PlainSteps};
 
 use crate::headings::{enum_front_of, heading_at};
-use crate::items::MOST;
 use crate::lists::{enum_constants_full, fields_full, named_params_full};
 use crate::members::{count_in, has_many, is_constructor, nothing_of, unnested_of};
 use crate::results::executable_full;
 use crate::steps::{all, behind, read_or_none};
 use crate::walks::{Passed, Step, Walk};
-use apt_base::NoMemory;
+use apt_base::{MAX_CHILDREN, NoMemory};
 use decl_grammar::sorts::{
     AT_INTERFACE, CLASS, CLOSE_BRACE, ENUM, INTERFACE, OPEN_BRACE, SEMICOLON,
 };
@@ -32,7 +32,7 @@ use std::alloc::Global;
 fn begins_full(kind: TypeKind, before: usize, symbols: &[Symbol<'_>]) -> bool
     ensures { Decides (OneMore kind before symbols.now) result }
 {
-    if before < MOST {
+    if before < MAX_CHILDREN {
         return false;
     }
     if is_next(symbols, SEMICOLON) {
@@ -124,7 +124,7 @@ fn plain_member<'a, 's>(
     rest: &'s [Symbol<'a>],
 ) -> Result<Step<'a, 's>, NoMemory>
     requires room { 3 * length symbols.now ≤ room }
-    requires few { before ≤ 65535 }
+    requires few { before ≤ max_children }
     requires one { OneMore kind before symbols.now → ⊥ }
     requires marks { (m : Modifiers) × (reads room type_modifiers symbols.now ≡ done m rest.now) }
     requires plain { starts (first_of nested_type) rest.now ≡ false }
@@ -151,7 +151,7 @@ fn walk_member<'a, 's>(
     symbols: &'s [Symbol<'a>],
 ) -> Result<Step<'a, 's>, NoMemory>
     requires room { 3 * length symbols.now ≤ room }
-    requires few { before ≤ 65535 }
+    requires few { before ≤ max_children }
     ensures { Steps kind before symbols.now result }
 {
     if begins_full(kind, before, symbols) {
@@ -179,7 +179,7 @@ fn walk_member<'a, 's>(
     }
 }
 
-// Members of a type with so many children before them, up to its `}`.
+// Members of a type with this many children before them, up to its `}`.
 #[cycle(types)]
 fn walk_members<'a, 's>(
     alloc: Global,
@@ -189,7 +189,7 @@ fn walk_members<'a, 's>(
     symbols: &'s [Symbol<'a>],
 ) -> Result<Walk<'a, 's>, NoMemory>
     requires room { 3 * length symbols.now ≤ room }
-    requires few { before ≤ 65535 }
+    requires few { before ≤ max_children }
     ensures { Walks (MembersOver kind before false symbols.now) (MembersEnd kind symbols.now) result }
 {
     let mut so_far = before;
@@ -200,7 +200,7 @@ fn walk_members<'a, 's>(
             Step::Full => return Ok(Walk::Full),
             Step::Ended => return Ok(Walk::Ended),
             Step::Behind(passed) => {
-                if passed.count > MOST - so_far {
+                if passed.count > MAX_CHILDREN - so_far {
                     return Ok(Walk::Full);
                 }
                 so_far += passed.count;
@@ -209,7 +209,7 @@ fn walk_members<'a, 's>(
             }
         }
     }
-    if added(kind, constructor) > MOST - so_far {
+    if added(kind, constructor) > MAX_CHILDREN - so_far {
         return Ok(Walk::Full);
     }
     Ok(Walk::Behind(behind(rest)))
@@ -235,13 +235,13 @@ fn walk_headed<'a, 's>(
         return Ok(Walk::Ended);
     };
     let (before, rest) = found;
-    if before > MOST {
+    if before > MAX_CHILDREN {
         return Ok(Walk::Full);
     }
     walk_members(alloc, room, kind, before, rest)
 }
 
-// An enum behind its constants, of which there are so many.
+// An enum behind its constants, of which there are this many.
 #[cycle(types)]
 fn walk_behind_constants<'a, 's>(
     alloc: Global,
@@ -253,7 +253,7 @@ fn walk_behind_constants<'a, 's>(
     ensures { Walks (EnumOver before symbols.now) (EnumEnd symbols.now) result }
 {
     if is_next(symbols, SEMICOLON) {
-        if before > MOST {
+        if before > MAX_CHILDREN {
             return Ok(Walk::Full);
         }
         return walk_members(alloc, room, TypeKind::Enum, before, behind(symbols));
@@ -261,7 +261,7 @@ fn walk_behind_constants<'a, 's>(
     if !is_next(symbols, CLOSE_BRACE) {
         return Ok(Walk::Ended);
     }
-    if before > MOST - 3 {
+    if before > MAX_CHILDREN - 3 {
         return Ok(Walk::Full);
     }
     Ok(Walk::Behind(behind(symbols)))

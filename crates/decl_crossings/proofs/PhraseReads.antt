@@ -15,7 +15,7 @@ use Rattle.decl_grammar.proofs.Heights.{full-at, most-at, Whole, Started}
 use Rattle.decl_grammar.proofs.Knot.{told-at, comes-at, inside-at, IsSound, sound-plain}
 use Rattle.decl_grammar.proofs.RuleFair.{fair}
 
--- a height at which all that may be read of so many symbols stands
+-- a height at which all that may be read of this many symbols stands
 abbrev height_of : List Symbol → ℕ
 height_of ts = suc (suc (3 * suc (length ts)))
 

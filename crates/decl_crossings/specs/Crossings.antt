@@ -18,7 +18,7 @@ SomeFront p ts = (us : List Symbol) × (vs : List Symbol) × (ts ≡ us ++ vs) �
 abbrev pub closed : List Symbol → List Symbol
 closed us = us ++ blank (operator token.semicolon) ∷ []
 
--- With a `;` behind them the symbols are this form, and declare more than so many.
+-- With a `;` behind them the symbols are this form, and declare more than this many.
 abbrev pub Declares : {A : Type 0} → Form A → (A → List Declarator) → ℕ → List Symbol → Type 0
 Declares {A} f behind n us = (x : A) × IsPhrase f (closed us) x × (n < length (behind x))
 
@@ -31,7 +31,7 @@ behind_rest x = x.1
 abbrev pub behind_end : List Declarator → List Declarator
 behind_end ds = ds
 
--- More further fields than so many begin: behind a name and its brackets, in an initialiser that begins here, in the rest of one, and where one ends.
+-- More further fields than this many begin: behind a name and its brackets, in an initialiser that begins here, in the rest of one, and where one ends.
 abbrev pub FieldCrosses : ℕ → List Symbol → Type 0
 FieldCrosses n ts = SomeFront (Declares value_or_end behind_value n) ts
 

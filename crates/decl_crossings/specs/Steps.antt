@@ -50,7 +50,7 @@ WhereSome (Ok (Some x)) p = p x
 WhereSome (Ok None) p = Unit {0}
 WhereSome (Err e) p = Unit {0}
 
--- more fields than so many begin from this spot on
+-- more fields than this many begin from this spot on
 abbrev pub CrossesAt : Spot → ℕ → List Symbol → Type 0
 CrossesAt spot.Field n ts = FieldCrosses n ts
 CrossesAt (spot.Row b) n ts = RestCrosses n (after_of b) ts
@@ -58,7 +58,7 @@ CrossesAt (spot.Row b) n ts = RestCrosses n (after_of b) ts
 abbrev pub Alike : Type 0 → Type 0 → Type 0
 Alike p q = (p → q) × (q → p)
 
--- What a step says of p, where more fields than so many may not begin: that it holds, that it does not, or what it is behind the step. Fewer symbols are left.
+-- What a step says of p, where more fields than this many may not begin: that it holds, that it does not, or what it is behind the step. Fewer symbols are left.
 abbrev pub StepTo : ℕ → Type 0 → List Symbol → Step → Type 0
 StepTo n p ts steps.Full = p
 StepTo n p ts steps.Over = p → ⊥

@@ -20,7 +20,7 @@ pub enum Step<'a, 's> {
     Full,
     /// No more fields begin.
     Over,
-    /// The walk goes on with these symbols, in which so many fields may still begin.
+    /// The walk goes on with these symbols, in which this many fields may still begin.
     On(usize, Spot, &'s [Symbol<'a>]),
     /// The walk goes on behind a type with its `::`, and within it, where its `<` is the operator.
     Type(&'s [Symbol<'a>], &'s [Symbol<'a>]),
@@ -33,7 +33,7 @@ pub enum Kind {
     Full,
     /// No more fields begin.
     Over,
-    /// The walk goes on, and so many fields may still begin.
+    /// The walk goes on, and this many fields may still begin.
     On(usize, Spot),
     /// The walk goes on behind a type with its `::`, and within it.
     Type,

@@ -44,7 +44,7 @@ fn move_at<'a, 's>(
     Ok(move_of(step, symbols))
 }
 
-// Whether more fields than so many begin from this spot on.
+// Whether more fields than this many begin from this spot on.
 fn crosses(
     alloc: Global,
     room: usize,
@@ -79,7 +79,7 @@ fn crosses(
     }
 }
 
-/// Whether behind a field, from what stands behind its name and its brackets on, more fields of its declaration than so many begin.
+/// Whether behind a field, from what stands behind its name and its brackets on, more fields of its declaration than this many begin.
 pub fn fields_cross(
     alloc: Global,
     room: usize,

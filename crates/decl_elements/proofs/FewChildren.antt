@@ -7,7 +7,8 @@ use Rattle.std.proofs.lemmas.Bool.{leb-true}
 use Rattle.std.proofs.lemmas.List.{length-map, length-append}
 use Rattle.std.proofs.lemmas.Option.{same_Some, none-some}
 use Rattle.apt_base.specs.Forms.{is_short}
-use Rattle.decl_tree.specs.Legal.{is_legal, is_legal_body, is_legal_declaration, inside_declaration, declaration_fits, member_fits, is_legal_method, is_legal_constructor, are_few, constructs, default_constructors, enum_methods, depth, package_start}
+use Rattle.apt_base.specs.Limits.{max_children, max_depth}
+use Rattle.decl_tree.specs.Legal.{is_legal, is_legal_body, is_legal_declaration, inside_declaration, declaration_fits, member_fits, is_legal_method, is_legal_constructor, are_few, constructs, default_constructors, enum_methods, package_start}
 use Rattle.decl_tree.specs.Legal as legal
 use Rattle.decl_tree.specs.declared.member.TypeParam.{TypeParam}
 use Rattle.decl_tree.specs.declared.member.Param.{Param}
@@ -149,24 +150,24 @@ children_fit ValueOfName f = tt
 last_fits : (room start : ℕ) (d : TypeDecl) → declaration_fits (inside_declaration room) room start d ≡ true → are_few (legal.children d) ≡ true
 last_fits room start d e = right _ (are_few (legal.children d)) e
 
-few_of_type : (around : Option TypeKind) (room start : ℕ) (d : TypeDecl) → declaration_fits (inside_declaration room) room start d ≡ true → length (type_children around d) ≤ 65535
+few_of_type : (around : Option TypeKind) (room start : ℕ) (d : TypeDecl) → declaration_fits (inside_declaration room) room start d ≡ true → length (type_children around d) ≤ max_children
 few_of_type around room start d e =
-    let few : legal.children d ≤ 65535 = leb-true (legal.children d) 65535 (last_fits room start d e) in
+    let few : legal.children d ≤ max_children = leb-true (legal.children d) max_children (last_fits room start d e) in
     let same : length (type_children around d) ≡ legal.children d = length-type_children around d in
     omega arith
 
-few_of_nested : (around : Option TypeKind) (room start : ℕ) (d : TypeDecl) → inside_declaration room start d ≡ true → length (type_children around d) ≤ 65535
+few_of_nested : (around : Option TypeKind) (room start : ℕ) (d : TypeDecl) → inside_declaration room start d ≡ true → length (type_children around d) ≤ max_children
 unfolding inside_declaration
 few_of_nested around zero start d e = absurd (cc)
 few_of_nested around (suc room) start d e = few_of_type around room start d e
 
-few_of_executable : (ps : List TypeParam) (ns : List Param) → are_few (length ps + length ns) ≡ true → length (executable_children ps ns) ≤ 65535
+few_of_executable : (ps : List TypeParam) (ns : List Param) → are_few (length ps + length ns) ≡ true → length (executable_children ps ns) ≤ max_children
 few_of_executable ps ns e =
-    let few : length ps + length ns ≤ 65535 = leb-true (length ps + length ns) 65535 e in
+    let few : length ps + length ns ≤ max_children = leb-true (length ps + length ns) max_children e in
     let same : length (executable_children ps ns) ≡ length ps + length ns = length-executable_children ps ns in
     omega arith
 
-few_of_member : (kind : TypeKind) (room start : ℕ) (m : Member-F Member TypeDecl) → member_fits room (inside_declaration room start) m ≡ true → length (member_children kind m) ≤ 65535
+few_of_member : (kind : TypeKind) (room start : ℕ) (m : Member-F Member TypeDecl) → member_fits room (inside_declaration room start) m ≡ true → length (member_children kind m) ≤ max_children
 unfolding is_legal_method is_legal_constructor
 few_of_member kind room start (Member-F.Field field) e = lit≤ tt
 few_of_member kind room start (Member-F.Method method) e = few_of_executable method.parameters method.arguments (right _ _ e)
@@ -174,7 +175,7 @@ few_of_member kind room start (Member-F.Constructor constructor) e = few_of_exec
 few_of_member kind room start (Member-F.Constant constant) e = lit≤ tt
 few_of_member kind room start (Member-F.Nested d) e = few_of_nested (Some kind) room start d e
 
-few_children : (n : Node) → IsFit n → length (children n) ≤ 65535
+few_children : (n : Node) → IsFit n → length (children n) ≤ max_children
 unfolding children
 few_children (OfPackage info) f = lit≤ tt
 few_children (Top d) f = few_of_type None f.0 f.1 d f.2
@@ -195,7 +196,7 @@ body_fits u (Info annotations doc) room start e = tt
 
 root_fits : (u : UnitText) → is_legal u ≡ true → IsFit (root u)
 unfolding is_legal root
-root_fits u e = body_fits u u.body depth (package_start u.package) (right _ _ e)
+root_fits u e = body_fits u u.body max_depth (package_start u.package) (right _ _ e)
 
 fit_down : (path : List ℕ) (n m : Node) → IsFit n → down path n ≡ Some m → IsFit m
 fit_down [] n m f e = subst IsFit (same_Some _ _ e) f
@@ -205,5 +206,5 @@ fit_down (at ∷ path) n m f e =
       | Some c ↦ λ is e. fit_down path c m (fit_at (children n) at c (children_fit n f) is) e
     ] refl e
 
-pub few_at : (u : UnitText) (path : List ℕ) (m : Node) → is_legal u ≡ true → down path (root u) ≡ Some m → length (children m) ≤ 65535
+pub few_at : (u : UnitText) (path : List ℕ) (m : Node) → is_legal u ≡ true → down path (root u) ≡ Some m → length (children m) ≤ max_children
 few_at u path m legal e = few_children m (fit_down path (root u) m (root_fits u legal) e)

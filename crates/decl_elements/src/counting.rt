@@ -1,5 +1,6 @@
 // The lengths of child lists.
 ghost use Rattle.std.specs.Prelude.{◌≡◌, ◌+◌, ◌≤◌, length};
+ghost use Rattle.apt_base.specs.Limits.{max_children};
 ghost use Rattle.decl_tree.specs.Legal as legal;
 ghost use Rattle.decl_tree.specs.declared.declaration.Member.{out-Member};
 ghost use Rattle.decl_elements.specs.Nodes.{children, member_children};
@@ -29,7 +30,7 @@ fn added_methods(kind: TypeKind) -> usize
 }
 
 fn of_type(declaration: &TypeDecl) -> usize
-    requires { legal.children declaration.now ≤ 65535 }
+    requires { legal.children declaration.now ≤ max_children }
     ensures { result ≡ legal.children declaration.now }
 {
     let written = declaration.parameters.len() + declaration.members.len();
@@ -38,7 +39,7 @@ fn of_type(declaration: &TypeDecl) -> usize
 }
 
 fn of_member(kind: TypeKind, member: &Member) -> usize
-    requires { length (member_children kind (out-Member member.now)) ≤ 65535 }
+    requires { length (member_children kind (out-Member member.now)) ≤ max_children }
     ensures { result ≡ length (member_children kind (out-Member member.now)) }
 {
     match member {
@@ -55,7 +56,7 @@ impl<'a> Place<'a> {
     /// The number of children, which are at most 65,535, as a condition: those of a place that `place_at` gives are. It takes no memory.
     #[tactic(auto, unfolding(crate::specs::Nodes::children))]
     pub fn children(self) -> u16
-        requires { length (children (node_of self)) ≤ 65535 }
+        requires { length (children (node_of self)) ≤ max_children }
         ensures { result ≡ length (children (node_of self.entry)) }
     {
         let count = match self {

@@ -1,6 +1,7 @@
 // Places in a unit, and the way down to them.
 ghost use Rattle.std.specs.Prelude.{◌≡◌, ◌≤◌, true, length, map, slice_get, option_map, IfSome};
 ghost use Rattle.std.specs.List.{list_any};
+ghost use Rattle.apt_base.specs.Limits.{max_children};
 ghost use Rattle.decl_tree.specs.Legal.{constructs, is_legal};
 ghost use Rattle.decl_tree.specs.declared.declaration.Member.{out-Member};
 ghost use Rattle.decl_elements.specs.Nodes.{OfTypeParam, OfParam, Inside, has_default_constructor, added, added_methods, type_children, executable_children, member_children, children, down, root};
@@ -210,7 +211,7 @@ impl<'a> Place<'a> {
 /// What stands at the end of a path in a unit, each number of the path a position in a child list, or `None` where nothing does. It has at most 65,535 children. It takes no memory.
 pub fn place_at<'a>(unit: &'a Unit, path: &[u16]) -> Option<Place<'a>>
     ensures value { option_map node_of result ≡ down path.now (root unit.now) }
-    ensures few { IfSome result (λ place. length (children (node_of place)) ≤ 65535) }
+    ensures few { IfSome result (λ place. length (children (node_of place)) ≤ max_children) }
 {
     let mut place = Place::root(unit);
     for at in path {

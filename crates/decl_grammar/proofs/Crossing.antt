@@ -275,7 +275,7 @@ greater-rest v h (seen k f) e vs n b = absurd cc
 greater-rest v h (over opens) e vs n b = absurd cc
 greater-rest v h (attempt f g) e vs n b = absurd cc
 
--- what goes on behind the first part of a pair does so with so many lists open
+-- what goes on behind the first part of a pair does so with this many lists open
 abbrev Goes : Bool → ℕ → {A : Type 0} → Form A → Type 0
 Goes v h g = (d : ℕ) (us vs : List Symbol) (n : ℕ) → Leads us (angles (suc d)) [] → Begins (WholeAt h) (BegunAt h) g (us ++ vs) n → Crossed v vs n
 

@@ -65,7 +65,7 @@ gathers-more read old new last (Some token) found all g on put = record {
 pub fault-read : (read : Chars) (old new : TokenReader) (ts : List Lexeme) (fault : TextFault) → HasRead read ts old → ReadsOn old ts new (Err fault) → FaultAt (IsTokenFaultIn read) fault
 fault-read read old new ts fault h (place, is, bad, same) = subst (FaultAt (IsTokenFaultIn read)) (sym is) (subst (λ (r : Chars). IsTokenFaultIn r place) h.file bad)
 
--- want of memory
+-- out of memory
 pub fault-memory : (read : Chars) (fault : TextFault) → fault ≡ Memory → FaultAt (IsTokenFaultIn read) fault
 fault-memory read fault is = subst (FaultAt (IsTokenFaultIn read)) (sym is) tt
 

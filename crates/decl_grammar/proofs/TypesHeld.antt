@@ -22,7 +22,7 @@ use Rattle.decl_grammar.specs.TokenNames as token
 abbrev pub extra : Bool → ℕ
 extra v = cond v 1 0
 
--- at most so many are open, or so many more than in what is begun at a `<` or an `@` of the type
+-- at most this many are open, or this many more than in what is begun at a `<` or an `@` of the type
 abbrev pub Held : ℕ → ℕ → List Symbol → ℕ → Type 0
 Held x d us n =
     (n ≤ x) ⊎

@@ -137,7 +137,7 @@ fn add_symbols<'a>(
 }
 
 /// The symbols of a file, made as its tokens are read, of which no more than two are held at a time; or `Bad` with the offset in the file of the first
-/// token or separator at which no list of tokens goes on. `Memory` comes for want of memory alone.
+/// token or separator at which no list of tokens goes on. `Memory` comes only when memory runs out.
 pub fn symbols<'a>(alloc: Global, chars: &'a Chars) -> Result<Vec<Symbol<'a>>, TextFault>
     ensures { AreSymbols chars.now result }
 {

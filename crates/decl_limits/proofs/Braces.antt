@@ -128,7 +128,7 @@ effect (attempt f g) = alike (effect f) (effect g)
 
 -- ---- what is so of symbols of such an effect
 
--- one pair of braces more is open, and around it at least so many are counted as before
+-- one pair of braces more is open, and around it at least this many are counted as before
 abbrev pub Opens : List Symbol → Type 0
 Opens ts = (s : Scan) → (n : ℕ) × ((scanned s ts).around ≡ n ∷ s.around) × (s.count ≤ n)
 

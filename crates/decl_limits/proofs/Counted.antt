@@ -1,4 +1,4 @@
--- At least so many separators stand directly in a phrase of a form, by what the phrase means, and the braces around it stay: one lemma for each way to make forms of others.
+-- At least this many separators stand directly in a phrase of a form, by what the phrase means, and the braces around it stay: one lemma for each way to make forms of others.
 use Rattle.std.proofs.Common.{◌≡◌, ℕ, zero, suc, ◌+◌, ◌≤◌, true, List, [], ◌∷◌, Option, Some, None, inl, inr, sym, ap, subst, ◌∙◌, arith}
 use Rattle.std.proofs.lemmas.Bool.{eqb-true}
 use Rattle.decl_grammar.specs.declared.symbol.Symbol.{Symbol}
@@ -17,7 +17,7 @@ use Rattle.decl_limits.proofs.RuleBraces.{phrase-level, phrase-levels}
 
 -- ---- phrases
 
--- of phrases that stand at most this high: so many more are counted within the same braces, and so many separate
+-- of phrases that stand at most this high: this many more are counted within the same braces, and this many separate
 pub record AtLeast (h : ℕ) {A : Type 0} (f : Form A) (least : A → ℕ) : Type 0 where
   pub added : (ts : List Symbol) (x : A) → Is (WholeAt h) f ts x → Adds ts (least x)
   pub there : (ts : List Symbol) (x : A) → Is (WholeAt h) f ts x → least x ≤ separators ts
@@ -60,7 +60,7 @@ in-pair p q = at-least (λ ts x is. adds-both is.2 (p.added is.0 x.0 is.3) (q.ad
 pub in-turn : {h : ℕ} {A B : Type 0} {f : Form A} {s : A → ℕ} (k : A → B) (t : B → ℕ) → AtLeast h f s → ((x : A) → t (k x) ≤ s x) → AtLeast h (turn k f) t
 in-turn k t p le = at-least (λ ts y is. adds-less (p.added ts is.0 is.1) (omega (arith, le is.0, ap t is.2)))
 
--- behind and before a form of at least so many
+-- behind and before a form of at least this many
 pub in-behind : {h : ℕ} {A B : Type 0} {g : Form B} {f : Form A} {t : A → ℕ} (n : ℕ) → AtLeast h g (λ y. n) → AtLeast h f t → AtLeast h (behind g f) (λ x. n + t x)
 in-behind {t = t} n p q =
     at-least (λ ts x is. adds-less (adds-both is.1.2 (p.added is.1.0 is.0.0 is.1.3) (q.added is.1.1 is.0.1 is.1.4)) (omega (arith, ap t is.2)))

@@ -5,6 +5,7 @@ use Rattle.std.proofs.Common.{◌≡◌, ℕ, zero, suc, ◌+◌, ◌*◌, ◌�
 use Rattle.std.proofs.lemmas.List.{length-map}
 use Rattle.std.proofs.lemmas.List.Sums.{sum_by-cons}
 use Rattle.std.specs.List.{list_any}
+use Rattle.apt_base.specs.Limits.{max_children}
 use Rattle.decl_tree.specs.declared.declaration.Member.{Member, out-Member}
 use Rattle.decl_tree.specs.declared.declaration.TypeKind.{TypeKind}
 use Rattle.decl_tree.specs.declared.declaration.TypeKind.TheVariants as kind
@@ -22,7 +23,7 @@ use Rattle.decl_grammar.specs.Rule.{WholeAt}
 use Rattle.decl_grammar.specs.File.{IsPhrase}
 use Rattle.decl_grammar.specs.Reading.{has}
 use Rattle.decl_limits.specs.Separators.{Scan, unscanned, scan_next, scanned}
-use Rattle.decl_limits.specs.Children.{most, blank, NextItem, FurtherParam, NextParam, class_heading, interface_heading, annotation_heading, enum_heading, whole_members, whole_constants, both, open_type, executable_heading, member_children, declared_children, ExecutableFull, MemberFull, TypeFull, FileFull, IsCrowded}
+use Rattle.decl_limits.specs.Children.{blank, NextItem, FurtherParam, NextParam, class_heading, interface_heading, annotation_heading, enum_heading, whole_members, whole_constants, both, open_type, executable_heading, member_children, declared_children, ExecutableFull, MemberFull, TypeFull, FileFull, IsCrowded}
 use Rattle.decl_limits.proofs.Scans.{whole-count, whole-most, first-scanned, one-scanned, more-most, bounded, Adds, adds-less, adds-both, mark-adds}
 use Rattle.decl_limits.proofs.Braces.{level, effect}
 use Rattle.decl_limits.proofs.EvenForms.{even}
@@ -133,7 +134,7 @@ type-few ts x is s le =
 
 -- ---- types that are open, and headings
 
--- behind a heading with so many children before its members
+-- behind a heading with this many children before its members
 abbrev Heads : ℕ → Form ℕ → Type 0
 Heads h f = (ts : List Symbol) (n : ℕ) → Is (WholeAt h) f ts n → (s : Scan) → s.count ≤ s.most → n ≤ suc (scanned s ts).most
 
@@ -181,7 +182,7 @@ open-there h kind.Interface = open-from h kind.Interface interface_heading (inte
 open-there h kind.AnnotationType = open-from h kind.AnnotationType annotation_heading (annotation-heads h)
 open-there h kind.Enum = open-from h kind.Enum whole_constants (constants-head h)
 
--- a method or a constructor up to its parameters, with so many type parameters
+-- a method or a constructor up to its parameters, with this many type parameters
 heading-few : (ts : List Symbol) (n : ℕ) → IsPhrase executable_heading ts n → (s : Scan) → s.count + n ≤ suc (scanned s ts).count
 unfolding executable_heading
 heading-few ts n is s =
@@ -205,7 +206,7 @@ member-few k ts m is s le =
 
 -- ---- full symbols
 
--- behind one symbol some that add so many, and others
+-- behind one symbol some that add this many, and others
 front-reached : (t : Symbol) (ts us vs : List Symbol) (k : ℕ) → ts ≡ t ∷ (us ++ vs) → Adds us k → (s : Scan) → s.count ≤ s.most → (scan_next s t).count + k ≤ (scanned s ts).most
 front-reached t ts us vs k e p s le =
     let first = bounded (t ∷ []) s le in
@@ -237,7 +238,7 @@ next-param-few : (ts : List Symbol) (n : ℕ) → NextParam ts n → (s : Scan) 
 next-param-few ts n (inl f) s le = omega (arith, f.5, le, more-most ts s)
 next-param-few ts n (inr f) s le = further-param-few ts n f s le
 
-executable-full-few : (ts : List Symbol) → ExecutableFull ts → (s : Scan) → s.count ≤ s.most → most ≤ suc (scanned s ts).most
+executable-full-few : (ts : List Symbol) → ExecutableFull ts → (s : Scan) → s.count ≤ s.most → max_children ≤ suc (scanned s ts).most
 executable-full-few ts (inl f) s le = omega (arith, next-few 14 type_param even.type_param_even ts f.0 f.1 s le, f.2)
 executable-full-few ts (inr f) s le =
     let g = f.5 in
@@ -250,10 +251,10 @@ one-more ts s = whole-count ts (blank (operator token.semicolon) ∷ []) refl s 
 
 -- what is full within others
 abbrev Few : (List Symbol → Type 0) → Type 0
-Few full = (ts : List Symbol) → full ts → (s : Scan) → s.count ≤ s.most → most ≤ 3 + 2 * (scanned s ts).most
+Few full = (ts : List Symbol) → full ts → (s : Scan) → s.count ≤ s.most → max_children ≤ 3 + 2 * (scanned s ts).most
 
 member-full-few : (inside : List Symbol → Type 0) → Few inside → (k : TypeKind) (ts : List Symbol) (n : ℕ) → MemberFull inside k n ts
-    → (s : Scan) → s.count ≤ s.most → n ≤ suc s.most + s.count → most ≤ 3 + 2 * (scanned s ts).most
+    → (s : Scan) → s.count ≤ s.most → n ≤ suc s.most + s.count → max_children ≤ 3 + 2 * (scanned s ts).most
 member-full-few inside few k ts n (inl f) s le there = omega (arith, there, f.3, le, more-most ts s)
 member-full-few inside few k ts n (inr (inl f)) s le there =
     let added = (members-few k (ts ++ blank (operator token.semicolon) ∷ []) f.0 f.1).adds s in
@@ -261,7 +262,7 @@ member-full-few inside few k ts n (inr (inl f)) s le there =
 member-full-few inside few k ts n (inr (inr (inl f))) s le there = omega (arith, member-few k ts f.0 f.1 s le, f.2)
 member-full-few inside few k ts n (inr (inr (inr f))) s le there = go f.5
   where
-    go : inside f.1 ⊎ ExecutableFull f.1 → most ≤ 3 + 2 * (scanned s ts).most
+    go : inside f.1 ⊎ ExecutableFull f.1 → max_children ≤ 3 + 2 * (scanned s ts).most
     go (inl g) = omega (arith, few f.1 g (scanned s f.0) (bounded f.0 s le), whole-most f.0 f.1 f.3 s)
     go (inr g) = omega (arith, executable-full-few f.1 g (scanned s f.0) (bounded f.0 s le), whole-most f.0 f.1 f.3 s)
 
@@ -287,6 +288,6 @@ full-few ts f s le =
     let within = bounded g.0 (scanned s f.0) types in
     omega (arith, type-full-few g.5.0 g.1 g.5.1 (scanned (scanned s f.0) g.0) within, whole-most g.0 g.1 g.3 (scanned s f.0), whole-most f.0 f.1 f.3 s)
 
-pub crowded-few : (ts : List Symbol) → IsCrowded ts → most ≤ 3 + 2 * (scanned unscanned ts).most
+pub crowded-few : (ts : List Symbol) → IsCrowded ts → max_children ≤ 3 + 2 * (scanned unscanned ts).most
 crowded-few ts c =
     omega (arith, full-few c.0 c.3 unscanned (omega arith), more-most c.1 (scanned unscanned c.0), whole-most c.0 c.1 c.2 unscanned)

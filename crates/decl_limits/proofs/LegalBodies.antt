@@ -4,6 +4,7 @@ use Rattle.std.specs.Prelude.{nat_le}
 use Rattle.std.specs.List.{list_all}
 use Rattle.std.proofs.lemmas.Bool.{leb-true, leb-false}
 use Rattle.std.proofs.lemmas.List.{append-nil}
+use Rattle.apt_base.specs.Limits.{max_children}
 use Rattle.decl_tree.specs.declared.declaration.TypeKind.{TypeKind}
 use Rattle.decl_tree.specs.declared.declaration.TypeKind.TheVariants as kind
 use Rattle.decl_grammar.specs.declared.symbol.Symbol.{Symbol}
@@ -14,7 +15,7 @@ use Rattle.decl_grammar.specs.Rule.{WholeAt}
 use Rattle.decl_grammar.specs.File.{IsShallow}
 use Rattle.decl_grammar.proofs.OneToken.{both}
 use Rattle.decl_limits.specs.Texts.{AreTexts}
-use Rattle.decl_limits.specs.Children.{most, member_children, class_heading, interface_heading, annotation_heading, members_there, whole_members, whole_constants, open_type, TypeFull}
+use Rattle.decl_limits.specs.Children.{member_children, class_heading, interface_heading, annotation_heading, members_there, whole_members, whole_constants, open_type, TypeFull}
 use Rattle.decl_limits.proofs.LegalTexts.{and-true, texts-front, texts-back}
 use Rattle.decl_limits.proofs.LegalForms.{shallow-first, shallow-rest}
 use Rattle.decl_limits.proofs.LegalItems.{member_test, SingleFew}
@@ -70,13 +71,13 @@ member-safe h k whole pre us rest e safe begun a b m phrase p c d g q full =
 
 single-few : (h : ℕ) (k : TypeKind) (whole pre us rest : List Symbol) (ms : List MemberAt) → whole ≡ pre ++ (us ++ rest) → TypeSafe whole → Opens h k pre → Is (WholeAt h) (member_form k) us ms → SingleFew ms
 unfolding TypeFull
-single-few h k whole pre us rest ms e safe begun is m same = go (nat_le (member_children m) most) refl
+single-few h k whole pre us rest ms e safe begun is m same = go (nat_le (member_children m) max_children) refl
   where
-    go : (c : Bool) → nat_le (member_children m) most ≡ c → member_children m ≤ most
-    go true few = leb-true (member_children m) most few
+    go : (c : Bool) → nat_le (member_children m) max_children ≡ c → member_children m ≤ max_children
+    go true few = leb-true (member_children m) max_children few
     go false many_more =
         absurd (safe (pre ++ us) rest (suc zero) (e ∙ sym (append_assoc pre us rest))
-        (inr (inr (inl (k, (pre, us, begun.0, refl, (h, begun.1), inr (inr (inl (m, (h, subst (λ (xs : List MemberAt). Is (WholeAt h) (member_form k) us xs) same is), leb-false (member_children m) most many_more)))))))))
+        (inr (inr (inl (k, (pre, us, begun.0, refl, (h, begun.1), inr (inr (inl (m, (h, subst (λ (xs : List MemberAt). Is (WholeAt h) (member_form k) us xs) same is), leb-false (member_children m) max_children many_more)))))))))
 
 -- ---- all members
 

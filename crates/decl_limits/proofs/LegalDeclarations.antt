@@ -3,6 +3,7 @@ use Rattle.std.proofs.Common.{◌≡◌, ◌+◌, ◌≤◌, ℕ, zero, suc, Boo
 use Rattle.std.specs.List.{list_all}
 use Rattle.std.proofs.lemmas.Bool.{leb-true}
 use Rattle.apt_base.specs.Forms.{is_name, fits_if_some}
+use Rattle.apt_base.specs.Limits.{max_name_bytes}
 use Rattle.decl_tree.specs.Legal.{inside_declaration}
 use Rattle.decl_tree.specs.declared.declaration.Member.TheOpen.{Member-F}
 use Rattle.decl_tree.specs.declared.declaration.Member.TheVariants as member
@@ -56,9 +57,9 @@ bare-safe ts safe = safe [] ts no_modifiers no-marks refl
 
 -- ---- what is said of types and members
 
--- the names in some members, in a type whose canonical name has so many bytes
+-- the names in some members, in a type whose canonical name has this many bytes
 abbrev pub member_named : ℕ → MemberAt → Bool
-member_named start x = nat_le (start + longest_member x.member) 1024
+member_named start x = nat_le (start + longest_member x.member) max_name_bytes
 
 abbrev pub AllNamed : ℕ → List MemberAt → Type 0
 AllNamed start ms = list_all (member_named start) ms ≡ true
@@ -69,7 +70,7 @@ AllLegal room start ms = list_all (member_test room start) ms ≡ true
 -- a type in a type, whatever legal modifiers and doc comment it has
 abbrev pub NestedLegal : ℕ → List Symbol → TypeRest → Type 0
 NestedLegal room ts rest =
-    TypeSafe ts → (doc : Option (List ℕ)) → fits_if_some is_name doc ≡ true → (m : Modifiers) → legal.Modified (below room) m → (start : ℕ) → start + longest (declaration_of doc m rest) ≤ 1024
+    TypeSafe ts → (doc : Option (List ℕ)) → fits_if_some is_name doc ≡ true → (m : Modifiers) → legal.Modified (below room) m → (start : ℕ) → start + longest (declaration_of doc m rest) ≤ max_name_bytes
     → inside_declaration room start (declaration_of doc m rest) ≡ true
 
 abbrev pub NestedRows : ℕ → Type 0
@@ -100,11 +101,11 @@ nested-legal room start doc m rest named fit =
     let d = declaration_of doc m rest in
     and-true (test-is room start (Member-F.Nested d) (member_at (member.Nested d) (type_lines rest)) (member.rolls-Nested d) fit) refl
 
-nested-named : (start : ℕ) (doc : Option (List ℕ)) (m : Modifiers) (rest : TypeRest) → AllNamed start (members_with doc m (unmodified.Nested rest)) → (start + 1) + longest (declaration_of doc m rest) ≤ 1024
+nested-named : (start : ℕ) (doc : Option (List ℕ)) (m : Modifiers) (rest : TypeRest) → AllNamed start (members_with doc m (unmodified.Nested rest)) → (start + 1) + longest (declaration_of doc m rest) ≤ max_name_bytes
 nested-named start doc m rest named =
     let d = declaration_of doc m rest in
-    let z = both (nat_le (start + longest_member (member.Nested d)) 1024) true named in
-    omega (arith, leb-true (start + longest_member (member.Nested d)) 1024 z.0, longest_member-Nested d)
+    let z = both (nat_le (start + longest_member (member.Nested d)) max_name_bytes) true named in
+    omega (arith, leb-true (start + longest_member (member.Nested d)) max_name_bytes z.0, longest_member-Nested d)
 
 nested-has : (h room : ℕ) → NestedRows h → Has h room nested_member (UnmodifiedLegal room)
 unfolding nested_member

@@ -4,6 +4,7 @@ use Rattle.std.specs.Prelude.{nat_le}
 use Rattle.std.proofs.lemmas.Bool.{le-leb, leb-true, leb-false}
 use Rattle.std.proofs.lemmas.List.{length-map, append-nil}
 use Rattle.apt_base.specs.Forms.{is_name, all_fit, fits_if_some}
+use Rattle.apt_base.specs.Limits.{max_children, max_name_bytes}
 use Rattle.decl_tree.specs.Legal.{is_legal_annotation, is_legal_constant, is_legal_type_param, member_fits, declaration_fits, inside_declaration}
 use Rattle.decl_tree.specs.declared.declaration.Member.{out-Member}
 use Rattle.decl_tree.specs.declared.declaration.Member.TheOpen.{Member-F}
@@ -23,7 +24,7 @@ use Rattle.decl_grammar.specs.Grammar.{doc_of, first_doc, declaration_of, plain_
 use Rattle.decl_grammar.specs.Rule.{WholeAt}
 use Rattle.decl_grammar.specs.File.{IsShallow}
 use Rattle.decl_limits.specs.Texts.{AreTexts}
-use Rattle.decl_limits.specs.Children.{most, enum_heading, whole_constants, declared_children, TypeFull}
+use Rattle.decl_limits.specs.Children.{enum_heading, whole_constants, declared_children, TypeFull}
 use Rattle.decl_limits.specs.Names.{greatest, longest, longest_member}
 use Rattle.decl_limits.proofs.NameRows.{greatest-first, greatest-rest, longest-is}
 use Rattle.decl_limits.proofs.LegalTexts.{and-true, items-fit}
@@ -166,42 +167,42 @@ types-have h room rows =
     has-either class (has-either interface (has-either annotation enum))
 
 -- a type whose child list is not too long
-declared-few : (h : ℕ) (ts : List Symbol) (rest : TypeRest) → TypeSafe ts → Is (WholeAt h) type_rest ts rest → declared_children rest ≤ most
+declared-few : (h : ℕ) (ts : List Symbol) (rest : TypeRest) → TypeSafe ts → Is (WholeAt h) type_rest ts rest → declared_children rest ≤ max_children
 unfolding TypeFull
-declared-few h ts rest safe is = go (nat_le (declared_children rest) most) refl
+declared-few h ts rest safe is = go (nat_le (declared_children rest) max_children) refl
   where
-    go : (c : Bool) → nat_le (declared_children rest) most ≡ c → declared_children rest ≤ most
-    go true few = leb-true (declared_children rest) most few
-    go false many_more = absurd (safe ts [] (suc zero) (sym (append-nil ts)) (inr (inr (inr (rest, (h, is), leb-false (declared_children rest) most many_more)))))
+    go : (c : Bool) → nat_le (declared_children rest) max_children ≡ c → declared_children rest ≤ max_children
+    go true few = leb-true (declared_children rest) max_children few
+    go false many_more = absurd (safe ts [] (suc zero) (sym (append-nil ts)) (inr (inr (inr (rest, (h, is), leb-false (declared_children rest) max_children many_more)))))
 
 -- names that are short enough all together are so one by one
-names-each : (start : ℕ) (ms : List MemberAt) → start + greatest (map longest_member (plain_members ms)) ≤ 1024 → AllNamed start ms
+names-each : (start : ℕ) (ms : List MemberAt) → start + greatest (map longest_member (plain_members ms)) ≤ max_name_bytes → AllNamed start ms
 names-each start [] le = refl
 names-each start (m ∷ ms) le =
     let ns = map longest_member (plain_members ms) in
-    and-true (le-leb (start + longest_member m.member) 1024 (omega (arith, le, greatest-first (longest_member m.member) ns)))
+    and-true (le-leb (start + longest_member m.member) max_name_bytes (omega (arith, le, greatest-first (longest_member m.member) ns)))
     (names-each start ms (omega (arith, le, greatest-rest (longest_member m.member) ns)))
 
 abbrev pub TypeLegal : ℕ → List Symbol → TypeRest → Type 0
 TypeLegal room ts rest =
-    TypeSafe ts → (doc : Option (List ℕ)) → fits_if_some is_name doc ≡ true → (m : Modifiers) → legal.Modified room m → (start : ℕ) → start + longest (declaration_of doc m rest) ≤ 1024
+    TypeSafe ts → (doc : Option (List ℕ)) → fits_if_some is_name doc ≡ true → (m : Modifiers) → legal.Modified room m → (start : ℕ) → start + longest (declaration_of doc m rest) ≤ max_name_bytes
     → declaration_fits (inside_declaration room) room start (declaration_of doc m rest) ≡ true
 
 -- the declaration of legal parts
-parts-declare : (room : ℕ) (rest : TypeRest) → TypeParts room rest → declared_children rest ≤ most → (doc : Option (List ℕ)) → fits_if_some is_name doc ≡ true → (m : Modifiers) → legal.Modified room m → (start : ℕ) → start + longest (declaration_of doc m rest) ≤ 1024
+parts-declare : (room : ℕ) (rest : TypeRest) → TypeParts room rest → declared_children rest ≤ max_children → (doc : Option (List ℕ)) → fits_if_some is_name doc ≡ true → (m : Modifiers) → legal.Modified room m → (start : ℕ) → start + longest (declaration_of doc m rest) ≤ max_name_bytes
     → declaration_fits (inside_declaration room) room start (declaration_of doc m rest) ≡ true
 parts-declare room rest p few doc d m q start short =
     let t = declaration_of doc m rest in
     let name_bytes = length rest.name.name in
     let long = longest-is t in
-    let some : length rest.parameters ≤ most = omega (arith, few, length-map rest.parameters (λ (x : TypeParamAt). x.param)) in
-    let given : length rest.members ≤ most = omega (arith, few, length-map rest.members (λ (x : MemberAt). x.member)) in
-    let canonical = and-true p.named (le-leb (start + name_bytes) 1024 (omega (arith, short, long))) in
+    let some : length rest.parameters ≤ max_children = omega (arith, few, length-map rest.parameters (λ (x : TypeParamAt). x.param)) in
+    let given : length rest.members ≤ max_children = omega (arith, few, length-map rest.members (λ (x : MemberAt). x.member)) in
+    let canonical = and-true p.named (le-leb (start + name_bytes) max_name_bytes (omega (arith, short, long))) in
     let params = few-fit (is_legal_type_param room) (λ (x : TypeParamAt). x.param) rest.parameters some p.parameters in
     let legal_members = p.members (start + name_bytes) (names-each (start + name_bytes) rest.members (omega (arith, short, long))) in
     let members = few-fit (λ y. member_fits room (inside_declaration room (start + name_bytes + 1)) (out-Member y)) (λ (x : MemberAt). x.member) rest.members given legal_members in
     let heading = and-true (and-true (and-true (and-true (and-true (and-true canonical q.0) q.1) d) params) p.above) p.interfaces in
-    and-true (and-true heading members) (le-leb (declared_children rest) 65535 few)
+    and-true (and-true heading members) (le-leb (declared_children rest) max_children few)
 
 there-legal : (h room : ℕ) → NestedRows h → (ts : List Symbol) (rest : TypeRest) → AreTexts ts → IsShallow type_rest room ts → Is (WholeAt h) type_rest ts rest → TypeLegal room ts rest
 there-legal h room rows ts rest a sh is safe doc d m q start short =

@@ -14,6 +14,7 @@ use Rattle.decl_tree.specs.declared.member.FieldDecl.{FieldDecl}
 use Rattle.decl_tree.specs.declared.member.MethodDecl.{MethodDecl}
 use Rattle.decl_tree.specs.declared.annotation.AnnotationText.{AnnotationText}
 use Rattle.apt_base.specs.declared.around.Around.{Around}
+use Rattle.apt_base.specs.Limits.{max_children}
 use Rattle.decl_tree.specs.declared.type_text.TypeText.{TypeText, out-TypeText}
 use Rattle.decl_grammar.specs.declared.symbol.Symbol.{Symbol}
 use Rattle.decl_grammar.specs.declared.written.Declarator.{Declarator}
@@ -27,7 +28,7 @@ use Rattle.decl_grammar.specs.declared.written.Unmodified.{Unmodified}
 use Rattle.decl_grammar.specs.declared.written.Unmodified.TheVariants as unmodified
 use Rattle.decl_grammar.specs.Grammar.{in_dims, plain_type_params, plain_params, field_of, method_of, constructor_of, members_with}
 use Rattle.decl_grammar.proofs.OneToken.{both}
-use Rattle.decl_limits.specs.Children.{most, member_children}
+use Rattle.decl_limits.specs.Children.{member_children}
 use Rattle.decl_limits.proofs.FewMembers.{own-is}
 use Rattle.decl_limits.proofs.LegalTexts.{and-true}
 use Rattle.decl_limits.proofs.LegalRooms.{fit-up, annotation-up}
@@ -38,13 +39,13 @@ use Rattle.decl_limits.proofs.LegalMembers.{UnmodifiedFits}
 
 -- ---- what is said of members
 
--- a member of a type whose canonical name has so many bytes, in a declaration with this much room
+-- a member of a type whose canonical name has this many bytes, in a declaration with this much room
 abbrev pub member_test : ℕ → ℕ → MemberAt → Bool
 member_test room start x = member_fits room (inside_declaration room (start + 1)) (out-Member x.member)
 
 -- a member that is given alone has a child list that is short enough
 abbrev pub SingleFew : List MemberAt → Type 0
-SingleFew ms = (m : MemberAt) → ms ≡ m ∷ [] → member_children m ≤ most
+SingleFew ms = (m : MemberAt) → ms ≡ m ∷ [] → member_children m ≤ max_children
 
 -- modifiers are read where one less may be open
 abbrev pub below : ℕ → ℕ
@@ -67,7 +68,7 @@ mapped-all fits k [] e = refl
 mapped-all fits k (x ∷ xs) e = let z = both (fits (k x)) (list_all (λ y. fits (k y)) xs) e in and-true z.0 (mapped-all fits k xs z.1)
 
 -- a list of so few items
-pub few-fit : {A B : Type 0} (fits : B → Bool) (k : A → B) (xs : List A) → length xs ≤ most → list_all (λ x. fits (k x)) xs ≡ true → all_fit fits (map k xs) ≡ true
+pub few-fit : {A B : Type 0} (fits : B → Bool) (k : A → B) (xs : List A) → length xs ≤ max_children → list_all (λ x. fits (k x)) xs ≡ true → all_fit fits (map k xs) ≡ true
 few-fit fits k xs few e = and-true (lt-ltb _ _ (omega (arith, few, length-map xs k))) (mapped-all fits k xs e)
 
 -- ---- fields
@@ -93,7 +94,7 @@ fields-legal room start doc m of (d ∷ ds) p q r e =
 -- ---- methods and constructors
 
 method-legal : (room start : ℕ) (doc : Option (List ℕ)) (m : Modifiers) (ps : List TypeParamAt) (of : TypeText) (n : NameAt) (s : Signature) (ts : List Symbol) → fits_if_some is_name doc ≡ true → Modified room m
-    → UnmodifiedFits room ts (unmodified.Method ps of n s) → member_children (method_of doc m ps of n s) ≤ most → member_test room start (method_of doc m ps of n s) ≡ true
+    → UnmodifiedFits room ts (unmodified.Method ps of n s) → member_children (method_of doc m ps of n s) ≤ max_children → member_test room start (method_of doc m ps of n s) ≡ true
 unfolding is_legal_method
 method-legal room start doc m ps of n s ts p q u few =
     let method : MethodDecl = record {
@@ -109,17 +110,17 @@ method-legal room start doc m ps of n s ts p q u few =
       default = s.default;
     } in
     let own = own-is (Member-F.Method method) (method_of doc m ps of n s).member (member.rolls-Method method) in
-    let params_few : length ps ≤ most = omega (arith, own, few, length-map ps (λ (x : TypeParamAt). x.param), length-map s.params.params (λ (x : ParamAt). x.param)) in
-    let arguments_few : length s.params.params ≤ most = omega (arith, own, few, length-map ps (λ (x : TypeParamAt). x.param), length-map s.params.params (λ (x : ParamAt). x.param)) in
+    let params_few : length ps ≤ max_children = omega (arith, own, few, length-map ps (λ (x : TypeParamAt). x.param), length-map s.params.params (λ (x : ParamAt). x.param)) in
+    let arguments_few : length s.params.params ≤ max_children = omega (arith, own, few, length-map ps (λ (x : TypeParamAt). x.param), length-map s.params.params (λ (x : ParamAt). x.param)) in
     let params_fit = few-fit (is_legal_type_param room) (λ (x : TypeParamAt). x.param) ps params_few u.0 in
     let arguments_fit = few-fit (is_legal_param room) (λ (x : ParamAt). x.param) s.params.params arguments_few u.1.1.1.0 in
     let begun = and-true (and-true (and-true (and-true u.1.1.0 q.0) q.1) p) params_fit in
     let middle = and-true (and-true (and-true begun (in-dims-legal room s.dims of u.1.0)) arguments_fit) refl in
     test-is room start (Member-F.Method method) (method_of doc m ps of n s) (member.rolls-Method method)
-    (and-true (and-true (and-true middle u.1.1.1.1.0) u.1.1.1.1.1) (le-leb (length (plain_type_params ps) + length (plain_params s.params.params)) 65535 (omega (arith, own, few))))
+    (and-true (and-true (and-true middle u.1.1.1.1.0) u.1.1.1.1.1) (le-leb (length (plain_type_params ps) + length (plain_params s.params.params)) max_children (omega (arith, own, few))))
 
 constructor-legal : (room start : ℕ) (doc : Option (List ℕ)) (m : Modifiers) (line : ℕ) (ps : List TypeParamAt) (s : Signature) (ts : List Symbol) → fits_if_some is_name doc ≡ true → Modified room m
-    → UnmodifiedFits room ts (unmodified.Constructor line ps s) → member_children (constructor_of doc m line ps s) ≤ most → member_test room start (constructor_of doc m line ps s) ≡ true
+    → UnmodifiedFits room ts (unmodified.Constructor line ps s) → member_children (constructor_of doc m line ps s) ≤ max_children → member_test room start (constructor_of doc m line ps s) ≡ true
 unfolding is_legal_constructor
 constructor-legal room start doc m line ps s ts p q u few =
     let constructor : ConstructorDecl = record {
@@ -132,13 +133,13 @@ constructor-legal room start doc m line ps s ts p q u few =
       thrown = s.thrown;
     } in
     let own = own-is (Member-F.Constructor constructor) (constructor_of doc m line ps s).member (member.rolls-Constructor constructor) in
-    let params_few : length ps ≤ most = omega (arith, own, few, length-map ps (λ (x : TypeParamAt). x.param), length-map s.params.params (λ (x : ParamAt). x.param)) in
-    let arguments_few : length s.params.params ≤ most = omega (arith, own, few, length-map ps (λ (x : TypeParamAt). x.param), length-map s.params.params (λ (x : ParamAt). x.param)) in
+    let params_few : length ps ≤ max_children = omega (arith, own, few, length-map ps (λ (x : TypeParamAt). x.param), length-map s.params.params (λ (x : ParamAt). x.param)) in
+    let arguments_few : length s.params.params ≤ max_children = omega (arith, own, few, length-map ps (λ (x : TypeParamAt). x.param), length-map s.params.params (λ (x : ParamAt). x.param)) in
     let params_fit = few-fit (is_legal_type_param room) (λ (x : TypeParamAt). x.param) ps params_few u.0 in
     let arguments_fit = few-fit (is_legal_param room) (λ (x : ParamAt). x.param) s.params.params arguments_few u.1.0 in
     test-is room start (Member-F.Constructor constructor) (constructor_of doc m line ps s) (member.rolls-Constructor constructor)
     (and-true (and-true (and-true (and-true (and-true (and-true (and-true q.0 q.1) p) params_fit) arguments_fit) refl) u.1.1.0)
-    (le-leb (length (plain_type_params ps) + length (plain_params s.params.params)) 65535 (omega (arith, own, few))))
+    (le-leb (length (plain_type_params ps) + length (plain_params s.params.params)) max_children (omega (arith, own, few))))
 
 -- ---- all that is no type
 

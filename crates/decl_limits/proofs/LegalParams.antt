@@ -72,7 +72,7 @@ pub list_all-one : {A : Type 0} (fits : A → Bool) (xs : List A) (x : A) → li
 list_all-one fits [] x p q = and-true q refl
 list_all-one fits (y ∷ ys) x p q = let z = both (fits y) (list_all fits ys) p in and-true z.0 (list_all-one fits ys x z.1 q)
 
--- modifiers with more marks: so many annotations more at most
+-- modifiers with more marks: this many annotations more at most
 marks-fit : (room n : ℕ) (m : Modifiers) (ks : List Mark) → is_modifiers m.bits ≡ true → list_all (is_legal_annotation room) m.annotations ≡ true → length m.annotations ≤ n → list_all (mark_fits room) ks ≡ true
     → (is_modifiers (with_marks m ks).bits ≡ true) × (list_all (is_legal_annotation room) (with_marks m ks).annotations ≡ true) × (length (with_marks m ks).annotations ≤ n + length ks)
 marks-fit room n m [] p q le fit = (p, q, omega (arith, le))

@@ -6,7 +6,8 @@ use Rattle.std.proofs.lemmas.Bool.{le-leb, leb-true}
 use Rattle.std.proofs.lemmas.List.{append-nil}
 use Rattle.std.proofs.lemmas.Str.{is_utf8-from_IsUtf8, IsUtf8-nil}
 use Rattle.apt_base.specs.Forms.{is_name, all_fit, fits_if_some}
-use Rattle.decl_tree.specs.Legal.{is_canonical, is_legal_annotation, is_legal_declaration, is_legal_import, package_start, depth, is_legal_body, is_legal}
+use Rattle.apt_base.specs.Limits.{max_depth, max_name_bytes}
+use Rattle.decl_tree.specs.Legal.{is_canonical, is_legal_annotation, is_legal_declaration, is_legal_import, package_start, is_legal_body, is_legal}
 use Rattle.decl_tree.specs.declared.compilation.Import.{Import}
 use Rattle.decl_tree.specs.declared.declaration.TypeDecl.{TypeDecl}
 use Rattle.decl_grammar.specs.declared.symbol.Symbol.{Symbol}
@@ -21,7 +22,7 @@ use Rattle.decl_grammar.specs.Rule.{WholeAt}
 use Rattle.decl_grammar.specs.File.{IsPhrase, IsShallow}
 use Rattle.decl_grammar.proofs.OneToken.{both}
 use Rattle.decl_limits.specs.Children.{IsCrowded}
-use Rattle.decl_limits.specs.Names.{most_name, longest, fits_behind, type_named, named_package}
+use Rattle.decl_limits.specs.Names.{longest, fits_behind, type_named, named_package}
 use Rattle.decl_limits.specs.Units.{package_name, names_in, unit_of, units_from, PackagePart, info_of}
 use Rattle.decl_limits.specs.Texts.{AreTexts}
 use Rattle.decl_limits.specs.Limits.{IsWhole, AreLegal, AllLegal, IsLegalInfo}
@@ -52,7 +53,7 @@ optional-package h room = has-maybe PackageFits (package-has h room) (λ ts. emp
 
 -- a type of a file, whatever names stand before its own
 abbrev DeclarationLegal : TypeDecl → Type 0
-DeclarationLegal d = (is_name d.name ≡ true) × ((start : ℕ) → start + longest d ≤ 1024 → is_legal_declaration depth start d ≡ true)
+DeclarationLegal d = (is_name d.name ≡ true) × ((start : ℕ) → start + longest d ≤ max_name_bytes → is_legal_declaration max_depth start d ≡ true)
 
 -- where its symbols, behind its modifiers, are not full
 abbrev TopLegal : List Symbol → Option TypeAt → Type 0
@@ -62,21 +63,21 @@ TopLegal ts (Some d) = InsideSafe ts → DeclarationLegal d.declaration
 abbrev ModifiedLegal : List Symbol → Modifiers × TypeRest → Type 0
 ModifiedLegal ts x = InsideSafe ts → (doc : Option (List ℕ)) → fits_if_some is_name doc ≡ true → DeclarationLegal (declaration_of doc x.0 x.1)
 
-modifiers-have : (h : ℕ) → Has h depth type_modifiers (λ ts m. Modified depth m × IsPhrase type_modifiers ts m)
-modifiers-have h = record { there = λ ts m a sh is. (modified-is depth ts m a ((type-modifiers-have h depth).there ts m a sh is), (h, is)) }
+modifiers-have : (h : ℕ) → Has h max_depth type_modifiers (λ ts m. Modified max_depth m × IsPhrase type_modifiers ts m)
+modifiers-have h = record { there = λ ts m a sh is. (modified-is max_depth ts m a ((type-modifiers-have h max_depth).there ts m a sh is), (h, is)) }
 
-modified-has : (h : ℕ) → Has h depth modified_type ModifiedLegal
+modified-has : (h : ℕ) → Has h max_depth modified_type ModifiedLegal
 unfolding modified_type is_legal_declaration
 modified-has h =
-    has-pair ModifiedLegal (modifiers-have h) (has-both (type-has h depth) (type-named-has h depth))
+    has-pair ModifiedLegal (modifiers-have h) (has-both (type-has h max_depth) (type-named-has h max_depth))
     (λ us vs x a p q. λ safe doc d.
     let inside = safe us vs x.0 p.1 refl in
     (q.1 inside, λ start short. q.0 inside doc d x.0 p.0 start short))
 
-top-has : (h : ℕ) → Has h depth top_type TopLegal
+top-has : (h : ℕ) → Has h max_depth top_type TopLegal
 unfolding top_type
 top-has h =
-    has-either (has-turn no_type TopLegal (anything h depth (sign token.semicolon)) (λ ts s a p. tt))
+    has-either (has-turn no_type TopLegal (anything h max_depth (sign token.semicolon)) (λ ts s a p. tt))
     (has-turn top_declared TopLegal (has-seen first_doc (modified-has h))
     (λ ts x a p. λ safe. p.1 safe (doc_of x.0) (ap (λ raw. fits_if_some is_name (doc_of raw)) p.0 ∙ doc-fits ts a)))
 
@@ -132,14 +133,14 @@ keep-one : (ts : List Symbol) (o : Option TypeAt) (ds : List (Option TypeAt)) �
 keep-one ts None ds p safe rest = rest
 keep-one ts (Some d) ds p safe rest = (p safe, rest)
 
-types-legal : (h : ℕ) (whole pre : List Symbol) (ds : List (Option TypeAt)) (ts : List Symbol) → whole ≡ pre ++ ts → (IsCrowded whole → ⊥) → FileParts h pre → AreTexts ts → IsShallow (many top_type) depth ts → Each (Is (WholeAt h) top_type) ts ds → AllTypes ds
+types-legal : (h : ℕ) (whole pre : List Symbol) (ds : List (Option TypeAt)) (ts : List Symbol) → whole ≡ pre ++ ts → (IsCrowded whole → ⊥) → FileParts h pre → AreTexts ts → IsShallow (many top_type) max_depth ts → Each (Is (WholeAt h) top_type) ts ds → AllTypes ds
 types-legal h whole pre [] ts e few p a sh each = tt
 types-legal h whole pre (x ∷ ds) ts e few p a sh each =
     let us = each.0 in
     let vs = each.1 in
     let here : whole ≡ pre ++ (us ++ vs) = e ∙ ap (λ (ss : List Symbol). pre ++ ss) each.2 in
-    let rest = types-legal h whole (pre ++ us) ds vs (here ∙ sym (append_assoc pre us vs)) few (one-type h pre us x p each.3) (texts-back ts us vs each.2 a) (shallow-rest top_type depth h ts us vs x each.2 each.3 sh) each.4 in
-    keep-one us x ds ((top-has h).there us x (texts-front ts us vs each.2 a) (shallow-first top_type depth ts us vs each.2 sh) each.3) (type-safe h whole pre us vs here few p) rest
+    let rest = types-legal h whole (pre ++ us) ds vs (here ∙ sym (append_assoc pre us vs)) few (one-type h pre us x p each.3) (texts-back ts us vs each.2 a) (shallow-rest top_type max_depth h ts us vs x each.2 each.3 sh) each.4 in
+    keep-one us x ds ((top-has h).there us x (texts-front ts us vs each.2 a) (shallow-first top_type max_depth ts us vs each.2 sh) each.3) (type-safe h whole pre us vs here few p) rest
 
 -- ---- their units
 
@@ -153,7 +154,7 @@ names-fit (None ∷ ds) all = let r = names-fit ds all in (r.0, omega (arith, r.
 names-fit (Some d ∷ ds) all = let r = names-fit ds all.1 in (and-true all.0.0 r.0, omega (arith, r.1))
 
 unit-legal : (pkg : List ℕ) (imports : List Import) (siblings : List (List ℕ)) (d : TypeDecl) → is_canonical 0 pkg ≡ true → all_fit is_legal_import imports ≡ true → all_fit is_name siblings ≡ true
-    → is_legal_declaration depth (package_start pkg) d ≡ true → is_legal (unit_of pkg imports siblings d) ≡ true
+    → is_legal_declaration max_depth (package_start pkg) d ≡ true → is_legal (unit_of pkg imports siblings d) ≡ true
 unfolding is_legal is_legal_body
 unit-legal pkg imports siblings d p q r s = and-true (and-true (and-true p q) r) s
 
@@ -163,15 +164,15 @@ units-legal pkg imports siblings [] p q r all named = tt
 units-legal pkg imports siblings (None ∷ ds) p q r all named = units-legal pkg imports siblings ds p q r all named
 units-legal pkg imports siblings (Some d ∷ ds) p q r all named =
     let z = both (fits_behind (package_start pkg) d.declaration) (list_all (type_named (package_start pkg)) ds) named in
-    let short = leb-true (package_start pkg + longest d.declaration) most_name z.0 in
+    let short = leb-true (package_start pkg + longest d.declaration) max_name_bytes z.0 in
     (unit-legal pkg imports siblings d.declaration p q r (all.0.1 (package_start pkg) short), units-legal pkg imports siblings ds p q r all.1 z.1)
 
 -- ---- files
 
-canonical : (name : List ℕ) → is_name name ≡ true → nat_le (length name) most_name ≡ true → is_canonical 0 name ≡ true
-canonical name p q = and-true p (le-leb (0 + length name) 1024 (omega (arith, leb-true (length name) most_name q)))
+canonical : (name : List ℕ) → is_name name ≡ true → nat_le (length name) max_name_bytes ≡ true → is_canonical 0 name ≡ true
+canonical name p q = and-true p (le-leb (0 + length name) max_name_bytes (omega (arith, leb-true (length name) max_name_bytes q)))
 
-whole-fine : {A : Type 0} (f : Form A) (h : ℕ) (ts : List Symbol) (x : A) → AreTexts ts → IsShallow f depth ts → Is (WholeAt h) f ts x → Fine h depth f ts x
+whole-fine : {A : Type 0} (f : Form A) (h : ℕ) (ts : List Symbol) (x : A) → AreTexts ts → IsShallow f max_depth ts → Is (WholeAt h) f ts x → Fine h max_depth f ts x
 whole-fine f h ts x a sh is = record { texts = a; shallow = sh; whole = is }
 
 -- an ordinary file within its limits
@@ -179,8 +180,8 @@ pub ordinary-legal : (ts : List Symbol) (x : Ordinary) → AreTexts ts → IsWho
 unfolding ordinary
 ordinary-legal ts x a whole few named =
     let h = whole.0.0 in
-    let p = two-parts h depth (maybe package_form) (pair (many import_form) (many top_type)) ts x (whole-fine ordinary h ts x a whole.1 whole.0.1) in
-    let i = two-parts h depth (many import_form) (many top_type) p.1 x.1 p.4 in
+    let p = two-parts h max_depth (maybe package_form) (pair (many import_form) (many top_type)) ts x (whole-fine ordinary h ts x a whole.1 whole.0.1) in
+    let i = two-parts h max_depth (many import_form) (many top_type) p.1 x.1 p.4 in
     let heading : ts ≡ (p.0 ++ (i.0 ++ [])) ++ i.1 = p.2 ∙ (ap (λ (ss : List Symbol). p.0 ++ ss) (i.2 ∙ ap (λ (ss : List Symbol). ss ++ i.1) (sym (append-nil i.0))) ∙ sym (append_assoc p.0 (i.0 ++ []) i.1)) in
     let begun : FileParts h (p.0 ++ (i.0 ++ [])) = record {
       front = p.0;
@@ -195,33 +196,33 @@ ordinary-legal ts x a whole few named =
       types_are = refl;
     } in
     let all = types-legal h ts (p.0 ++ (i.0 ++ [])) x.1.1 i.1 heading few begun i.4.texts i.4.shallow i.4.whole in
-    let n = both (nat_le (length (package_name x.0)) most_name) (list_all (type_named (package_start (package_name x.0))) x.1.1) named in
+    let n = both (nat_le (length (package_name x.0)) max_name_bytes) (list_all (type_named (package_start (package_name x.0))) x.1.1) named in
     let siblings = names-fit x.1.1 all in
     let count = row-symbols h top_type top-full x.1.1 i.1 i.4.whole in
-    units-legal (package_name x.0) x.1.0 (names_in x.1.1) x.1.1 (canonical (package_name x.0) (found (optional-package h depth) p.3) n.0)
-    (items-fit is_legal_import i.0 x.1.0 i.3.texts (found (imports-have h depth) i.3))
+    units-legal (package_name x.0) x.1.0 (names_in x.1.1) x.1.1 (canonical (package_name x.0) (found (optional-package h max_depth) p.3) n.0)
+    (items-fit is_legal_import i.0 x.1.0 i.3.texts (found (imports-have h max_depth) i.3))
     (and-true (list-short i.1 (names_in x.1.1) i.4.texts (omega (arith, siblings.1, count))) siblings.0) all n.1
 
 -- ---- files `package-info.java`
 
 abbrev PartFits : List Symbol → PackagePart → Type 0
-PartFits ts x = (fits_if_some is_name x.0 ≡ true) × ((all_fit (is_legal_annotation depth) x.1.0 ≡ true) × (is_name x.1.1.name ≡ true))
+PartFits ts x = (fits_if_some is_name x.0 ≡ true) × ((all_fit (is_legal_annotation max_depth) x.1.0 ≡ true) × (is_name x.1.1.name ≡ true))
 
-part-has : (h : ℕ) → Has h depth annotated_package PartFits
+part-has : (h : ℕ) → Has h max_depth annotated_package PartFits
 unfolding annotated_package package_part
 part-has h =
     has-turn documented_package PartFits
     (has-seen first_doc
-    (has-pair (λ ts x. (all_fit (is_legal_annotation depth) x.0 ≡ true) × (is_name x.1.name ≡ true))
-    (has-more (λ ts xs. all_fit (is_legal_annotation depth) xs ≡ true) (annotations-have h depth) (λ ts xs a i. items-fit (is_legal_annotation depth) ts xs a i))
-    (package-has h depth) (λ us vs x a p q. (p, q))))
+    (has-pair (λ ts x. (all_fit (is_legal_annotation max_depth) x.0 ≡ true) × (is_name x.1.name ≡ true))
+    (has-more (λ ts xs. all_fit (is_legal_annotation max_depth) xs ≡ true) (annotations-have h max_depth) (λ ts xs a i. items-fit (is_legal_annotation max_depth) ts xs a i))
+    (package-has h max_depth) (λ us vs x a p q. (p, q))))
     (λ ts x a p. (ap (λ raw. fits_if_some is_name (doc_of raw)) p.0 ∙ doc-fits ts a, p.1))
 
 abbrev OptionalFits : List Symbol → Option PackagePart → Type 0
 OptionalFits ts None = Unit {0}
 OptionalFits ts (Some p) = PartFits ts p
 
-info-unit-legal : (ts : List Symbol) (o : Option PackagePart) (imports : List Import) → OptionalFits ts o → nat_le (length (named_package o)) most_name ≡ true → all_fit is_legal_import imports ≡ true → is_legal (info_of o imports) ≡ true
+info-unit-legal : (ts : List Symbol) (o : Option PackagePart) (imports : List Import) → OptionalFits ts o → nat_le (length (named_package o)) max_name_bytes ≡ true → all_fit is_legal_import imports ≡ true → is_legal (info_of o imports) ≡ true
 unfolding is_legal is_legal_body
 info-unit-legal ts None imports p named q = and-true (and-true (and-true (canonical [] empty-name refl) q) refl) refl
 info-unit-legal ts (Some x) imports p named q = and-true (and-true (and-true (canonical x.1.1.name p.1.1 named) q) refl) (and-true p.1.0 p.0)
@@ -230,7 +231,7 @@ pub info-legal : (ts : List Symbol) (x : Info) → AreTexts ts → IsWhole packa
 unfolding package_info
 info-legal ts x a whole named =
     let h = whole.0.0 in
-    let p = two-parts h depth (maybe annotated_package) (pair (many import_form) (turn silently (many semicolon))) ts x (whole-fine package_info h ts x a whole.1 whole.0.1) in
-    let i = two-parts h depth (many import_form) (turn silently (many semicolon)) p.1 x.1 p.4 in
+    let p = two-parts h max_depth (maybe annotated_package) (pair (many import_form) (turn silently (many semicolon))) ts x (whole-fine package_info h ts x a whole.1 whole.0.1) in
+    let i = two-parts h max_depth (many import_form) (turn silently (many semicolon)) p.1 x.1 p.4 in
     let part = found (has-maybe OptionalFits (part-has h) (λ us. tt) (λ us y b q. q)) p.3 in
-    (info-unit-legal p.0 x.0 x.1.0 part named (items-fit is_legal_import i.0 x.1.0 i.3.texts (found (imports-have h depth) i.3)), tt)
+    (info-unit-legal p.0 x.0 x.1.0 part named (items-fit is_legal_import i.0 x.1.0 i.3.texts (found (imports-have h max_depth) i.3)), tt)

@@ -8,7 +8,7 @@ use Rattle.decl_grammar.proofs.OneToken.{within, within-has}
 use Rattle.decl_limits.specs.Separators.{Scan, left_to, scan_next, scanned}
 use Rattle.decl_limits.proofs.Scans.{picked, Adds}
 
--- Once these brackets are closed, the braces around are those, and at least so many are counted within the innermost: each `}` among them closes the innermost braces.
+-- Once these brackets are closed, the braces around are those, and at least this many are counted within the innermost: each `}` among them closes the innermost braces.
 abbrev Ready : List ℕ → ℕ → List ℕ → List ℕ → ℕ → Type 0
 Ready [] n ns around k = (ns ≡ around) × (k ≤ n)
 Ready (b ∷ bs) n ns around k = cond (eqb b 64) ((m : ℕ) × (ms : List ℕ) × (ns ≡ m ∷ ms) × Ready bs (suc m) ms around k) (Ready bs n ns around k)

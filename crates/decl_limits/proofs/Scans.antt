@@ -1,4 +1,4 @@
--- What a scan of symbols does to the counts: one list behind another, that the most never falls, and symbols that keep the braces around and add so many.
+-- What a scan of symbols does to the counts: one list behind another, that the most never falls, and symbols that keep the braces around and add this many.
 use Rattle.std.proofs.Common.{◌≡◌, ℕ, suc, ◌+◌, ◌≤◌, Bool, true, false, cond, eqb, ◌||◌, List, [], ◌∷◌, ◌++◌, ◌⊎◌, inl, inr, refl, sym, ap, subst, ◌∙◌, arith}
 use Rattle.std.proofs.Math.Nat.{le-max_left, le-max_right}
 use Rattle.std.proofs.lemmas.Bool.{eqb-true}
@@ -98,7 +98,7 @@ scanned-counted (t ∷ ts) s =
 
 -- ---- symbols that keep the braces around
 
--- Behind these symbols the same braces are open as before them, and at least so many more are counted within the innermost.
+-- Behind these symbols the same braces are open as before them, and at least this many more are counted within the innermost.
 pub record Adds (ts : List Symbol) (k : ℕ) : Type 0 where
   pub keeps : (s : Scan) → (scanned s ts).around ≡ s.around
   pub adds : (s : Scan) → s.count + k ≤ (scanned s ts).count
@@ -121,7 +121,7 @@ adds-append us vs a b p q = record {
 pub adds-both : {ts us vs : List Symbol} {a b : ℕ} → ts ≡ us ++ vs → Adds us a → Adds vs b → Adds ts (a + b)
 adds-both {us = us} {vs = vs} {a = a} {b = b} e p q = subst (λ (ss : List Symbol). Adds ss (a + b)) (sym e) (adds-append us vs a b p q)
 
--- at least so many of them separate
+-- at least this many of them separate
 pub adds-few : {ts : List Symbol} {k : ℕ} → Adds ts k → k ≤ separators ts
 adds-few {ts = ts} p = omega (arith, p.adds unscanned, scanned-counted ts unscanned)
 

@@ -2,6 +2,7 @@
 -- (its type parameters, then its parameters). What is written counts from its first symbol on, as long as the symbols so far may still make it one; what the language
 -- adds to a type counts from the last symbol of the type on. Symbols are full where at the last of them a child list has more items than it may.
 use Rattle.std.specs.Prelude.{◌≡◌, ℕ, zero, suc, ◌+◌, ◌<◌, ◌≤◌, false, List, [], ◌∷◌, ◌++◌, length, ◌⊎◌, None}
+use Rattle.apt_base.specs.Limits.{max_children}
 use Rattle.decl_tree.specs.Legal.{children}
 use Rattle.decl_tree.specs.declared.declaration.Member.{Member, out-Member}
 use Rattle.decl_tree.specs.declared.declaration.Member.TheOpen.{Member-F}
@@ -20,10 +21,6 @@ use Rattle.decl_grammar.specs.Types.{keyword, sign, behind, before, name, annota
 use Rattle.decl_grammar.specs.Grammar.{params_from, first_params, superclass, implemented, extended, constant, constants, joined_lists, member_form, modified_form, type_rest, ordinary, declaration_of, Ordinary}
 use Rattle.decl_grammar.specs.File.{IsPhrase, BeginsPhrase}
 
--- the most items of a child list
-abbrev pub most : ℕ
-most = 65535
-
 -- ---- one item more
 
 -- the form may begin with this symbol
@@ -34,7 +31,7 @@ OpensWith f t = (n : ℕ) × BeginsPhrase f (t ∷ []) n
 abbrev pub blank : ℕ → Symbol
 blank sort = record { sort = sort; further = false; start = 0; line = 0; text = []; doc = None }
 
--- An item of a list begins at the last symbol. Before it stand the list's opening sign and so many items, each with a comma behind it.
+-- An item of a list begins at the last symbol. Before it stand the list's opening sign and this many items, each with a comma behind it.
 pub record NextItem {A : Type 0} (opens : ℕ) (item : Form A) (ts : List Symbol) (n : ℕ) : Type 0 where
   pub opening : Symbol
   pub front : List Symbol
@@ -46,7 +43,7 @@ pub record NextItem {A : Type 0} (opens : ℕ) (item : Form A) (ts : List Symbol
   pub begins : OpensWith item next
   pub count : n ≡ length items
 
--- a type parameter begins, behind so many
+-- a type parameter begins, behind this many
 abbrev pub NextTypeParam : List Symbol → ℕ → Type 0
 NextTypeParam ts n = NextItem token.less_than type_param ts n
 
@@ -68,7 +65,7 @@ pub record FurtherParam (ts : List Symbol) (n : ℕ) : Type 0 where
   pub begins : OpensWith params_from next
   pub count : n ≡ length items
 
--- a parameter begins, behind so many: the first one directly behind the bracket
+-- a parameter begins, behind this many: the first one directly behind the bracket
 abbrev pub NextParam : List Symbol → ℕ → Type 0
 NextParam ts n =
     ((opening : Symbol) × (next : Symbol) × (ts ≡ opening ∷ next ∷ []) × (opening.sort ≡ operator token.open_parenthesis) × OpensWith first_params next × (n ≡ 0))
@@ -131,7 +128,7 @@ Then {A} f p ts = (us : List Symbol) × (vs : List Symbol) × (x : A) × (ts ≡
 
 -- an item begins, and as many as there may be stand before it
 abbrev pub IsFull : (List Symbol → ℕ → Type 0) → ℕ → List Symbol → Type 0
-IsFull next n ts = (m : ℕ) × next ts m × (most ≤ n + m)
+IsFull next n ts = (m : ℕ) × next ts m × (max_children ≤ n + m)
 
 -- in a method or a constructor behind its modifiers: in its type parameters, or in its parameters
 abbrev pub ExecutableFull : List Symbol → Type 0
@@ -150,9 +147,9 @@ member_children x = own_children (out-Member x.member)
 -- Or a member is full in itself: where it is whole, by its own child list, and where it is not, in its list or in the type that it is, of which `inside` says it.
 abbrev pub MemberFull : (List Symbol → Type 0) → TypeKind → ℕ → List Symbol → Type 0
 MemberFull inside k n ts =
-    ((t : Symbol) × (ts ≡ t ∷ []) × OpensWith (modified_form k) t × (most ≤ n))
-    ⊎ (((ms : List MemberAt) × IsPhrase (member_form k) (ts ++ blank (operator token.semicolon) ∷ []) ms × (most < n + length ms))
-    ⊎ (((m : MemberAt) × IsPhrase (member_form k) ts (m ∷ []) × (most < member_children m))
+    ((t : Symbol) × (ts ≡ t ∷ []) × OpensWith (modified_form k) t × (max_children ≤ n))
+    ⊎ (((ms : List MemberAt) × IsPhrase (member_form k) (ts ++ blank (operator token.semicolon) ∷ []) ms × (max_children < n + length ms))
+    ⊎ (((m : MemberAt) × IsPhrase (member_form k) ts (m ∷ []) × (max_children < member_children m))
     ⊎ Then type_modifiers (λ (m : Modifiers) us. inside us ⊎ ExecutableFull us) ts))
 
 abbrev pub declared_children : TypeRest → ℕ
@@ -166,7 +163,7 @@ TypeFull (suc h) ts =
     Then generic_name (λ x us. IsFull NextTypeParam 0 us) ts
     ⊎ (Then enum_heading (λ x us. IsFull NextConstant 0 us) ts
     ⊎ (((k : TypeKind) × Then (open_type k) (MemberFull (TypeFull h) k) ts)
-    ⊎ ((x : TypeRest) × IsPhrase type_rest ts x × (most < declared_children x))))
+    ⊎ ((x : TypeRest) × IsPhrase type_rest ts x × (max_children < declared_children x))))
 
 -- in a file: behind whole types, and the modifiers of a type
 abbrev pub FileFull : List Symbol → Type 0

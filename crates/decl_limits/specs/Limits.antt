@@ -1,5 +1,6 @@
 -- Files within the limits, and the laws on them: what they declare is legal.
 use Rattle.std.specs.Prelude.{◌≡◌, ℕ, ◌+◌, ◌*◌, ◌≤◌, true, List, [], ◌∷◌}
+use Rattle.apt_base.specs.Limits.{max_children, max_depth}
 use Rattle.decl_tree.specs.declared.compilation.UnitText.{UnitText}
 use Rattle.decl_tree.specs.Legal.{is_legal}
 use Rattle.java_tokens.specs.declared.chars.Chars.{Chars}
@@ -13,16 +14,12 @@ use Rattle.decl_grammar.specs.File.{IsPhrase, IsShallow}
 use Rattle.decl_limits.specs.Texts.{AreTexts}
 use Rattle.decl_limits.specs.Units.{units_of, info_units}
 use Rattle.decl_limits.specs.Names.{is_named, info_named}
-use Rattle.decl_limits.specs.Children.{most, IsCrowded}
+use Rattle.decl_limits.specs.Children.{IsCrowded}
 use Rattle.decl_limits.specs.Separators.{most_separators}
-
--- the most that may be open at a symbol
-abbrev pub limit : ℕ
-limit = 200
 
 -- the symbols are a file, at none of which more is open than may be
 abbrev pub IsWhole : {A : Type 0} → Form A → List Symbol → A → Type 0
-IsWhole f ts x = IsPhrase f ts x × IsShallow f limit ts
+IsWhole f ts x = IsPhrase f ts x × IsShallow f max_depth ts
 
 abbrev pub AllLegal : List UnitText → Type 0
 AllLegal [] = Unit {0}
@@ -40,7 +37,7 @@ IsLegalInfo x = info_named x ≡ true → AllLegal (info_units x).0
 -- Symbols are not crowded where within no braces more of them separate than half as many as a child list may have items, less two. Each item has a separator of its own, the type parameters of a type in
 -- what stands around it and its members in its braces, but for the first one of either, and for at most three that the language adds to a type.
 abbrev pub FewAreNotCrowded : Type 0
-FewAreNotCrowded = (ts : List Symbol) → 4 + 2 * most_separators ts ≤ most → IsCrowded ts → ⊥
+FewAreNotCrowded = (ts : List Symbol) → 4 + 2 * most_separators ts ≤ max_children → IsCrowded ts → ⊥
 
 -- The units of an ordinary file are legal, where its symbols are those of a text, at none of them too much is open, no child list is too long and its names are short enough.
 abbrev pub HasLegalUnits : Type 0

@@ -30,7 +30,7 @@ pub record Scan : Type 0 where
 abbrev pub unscanned : Scan
 unscanned = record { count = 0; around = []; most = 0 }
 
--- one more within the innermost braces, where so many were counted there, so many around these, and at most so many anywhere
+-- one more within the innermost braces, where this many were counted there, this many around these, and at most this many anywhere
 abbrev pub counted_one : ℕ → List ℕ → ℕ → Scan
 counted_one n ns most = record { count = suc n; around = ns; most = max most (suc n) }
 

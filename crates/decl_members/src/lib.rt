@@ -2,7 +2,7 @@
 //! heading of a type (JLS 8.1.4, 8.1.5, 9.1.3); and what is made of what was read.
 //!
 //! Each function that reads says that what it returns is what reading its form gives (`Gives` of `decl_grammar`): the value and
-//! the symbols behind it, or the symbols from the first fault or from where too much is open on, or want of memory. `room`
+//! the symbols behind it, or the symbols from the first fault or from where too much is open on, or out of memory. `room`
 //! is how many lists of type arguments and values may be open at once.
 #![tactic(auto)]
 

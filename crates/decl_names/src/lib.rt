@@ -1,7 +1,7 @@
 //! Readers of names, imports (JLS 7.5) and doc comments, of what stands between brackets, and of annotations that are passed over.
 //!
 //! Each reader says that what it returns is what reading its form gives (`Gives` of `decl_grammar`): the value and
-//! the symbols behind it, or the symbols from the first fault on, or want of memory. None of these forms holds another of its own
+//! the symbols behind it, or the symbols from the first fault on, or out of memory. None of these forms holds another of its own
 //! kind, so each takes time linear in what it reads.
 #![tactic(auto)]
 

@@ -1,6 +1,7 @@
--- What a file comes to is one answer: two that are not want of memory are the same place, the same limit, or the same units with the same lines.
+-- What a file comes to is one answer: two that are not out of memory are the same place, the same limit, or the same units with the same lines.
 use Rattle.std.proofs.Common.{◌≡◌, ℕ, ◌<◌, Bool, true, false, Result, Ok, Err, List, [], ◌∷◌, ◌++◌, ◌⊎◌, inl, inr, refl, sym, ap, subst, ◌∙◌, append_assoc, arith}
 use Rattle.std.proofs.lemmas.List.{append-nil}
+use Rattle.apt_base.specs.Limits.{max_depth}
 use Rattle.decl_grammar.specs.declared.symbol.Symbol.{Symbol}
 use Rattle.decl_grammar.specs.Form.{Form}
 use Rattle.decl_grammar.specs.File.{BeginsPhrase, IsFirstFault, IsFirstDeep, HasOneReading}
@@ -9,7 +10,7 @@ use Rattle.decl_parser.specs.declared.parsing.Parsed.{Parsed}
 use Rattle.decl_parser.specs.declared.parsing.FileFault.{FileFault}
 use Rattle.decl_parser.specs.declared.parsing.FileFault.TheVariants as faults
 use Rattle.decl_limits.specs.Units.{Declared}
-use Rattle.decl_limits.specs.Limits.{limit, IsWhole}
+use Rattle.decl_limits.specs.Limits.{IsWhole}
 use Rattle.decl_parser.specs.Parsed.{offset_at, shown_answer, SameAnswer, AreSeen, Answers, gives, bad, too_deep, too_many, too_long, no_memory}
 
 -- ---- two ways to cut a list: one front is a front of the other
@@ -39,20 +40,20 @@ cut (u ∷ us) at (v ∷ vs) rest same = go (cut us at vs rest (ap tail_of same)
 
 -- ---- the kinds of ends exclude each other
 
-pub whole-no-fault : {A : Type 0} (f : Form A) (ts us at : List Symbol) (x : A) → IsWhole f ts x → IsFirstFault f limit ts us at → ⊥
+pub whole-no-fault : {A : Type 0} (f : Form A) (ts us at : List Symbol) (x : A) → IsWhole f ts x → IsFirstFault f max_depth ts us at → ⊥
 whole-no-fault f ts us at x w fault = fault.none x w.0
 
-pub whole-no-deep : {A : Type 0} (f : Form A) (ts us vs : List Symbol) (t : Symbol) (x : A) → IsWhole f ts x → IsFirstDeep f limit ts us t vs → ⊥
+pub whole-no-deep : {A : Type 0} (f : Form A) (ts us vs : List Symbol) (t : Symbol) (x : A) → IsWhole f ts x → IsFirstDeep f max_depth ts us t vs → ⊥
 whole-no-deep f ts us vs t x w deep =
     let o = deep.open_there in
     let le = w.1 (us ++ t ∷ []) vs o.0 (deep.parts ∙ sym (append_assoc us (t ∷ []) vs)) o.2 in
     absurd (omega (arith, o.1, le))
 
 -- a fault and a place where too much is open: the one that comes first forbids the other
-pub fault-no-deep : {A : Type 0} (f : Form A) (ts us at vs rest : List Symbol) (t : Symbol) → IsFirstFault f limit ts us at → IsFirstDeep f limit ts vs t rest → ⊥
+pub fault-no-deep : {A : Type 0} (f : Form A) (ts us at vs rest : List Symbol) (t : Symbol) → IsFirstFault f max_depth ts us at → IsFirstDeep f max_depth ts vs t rest → ⊥
 fault-no-deep f ts us at vs rest t fault deep = go (cut us at (vs ++ t ∷ []) rest (sym fault.parts ∙ (deep.parts ∙ sym (append_assoc vs (t ∷ []) rest))))
   where
-    o : (n : ℕ) × (limit < n) × BeginsPhrase f (vs ++ t ∷ []) n
+    o : (n : ℕ) × (max_depth < n) × BeginsPhrase f (vs ++ t ∷ []) n
     o = deep.open_there
 
     -- the symbols up to the deep one begin the file, and go on behind the fault
@@ -72,11 +73,11 @@ fault-no-deep f ts us at vs rest t fault deep = go (cut us at (vs ++ t ∷ []) r
 
 -- ---- one place
 
-pub one-fault : {A : Type 0} (f : Form A) (ts us at vs rest : List Symbol) → IsFirstFault f limit ts us at → IsFirstFault f limit ts vs rest → us ≡ vs
+pub one-fault : {A : Type 0} (f : Form A) (ts us at vs rest : List Symbol) → IsFirstFault f max_depth ts us at → IsFirstFault f max_depth ts vs rest → us ≡ vs
 one-fault f ts us at vs rest a b = go (cut us at vs rest (sym a.parts ∙ b.parts))
   where
     -- the longer front begins the file, and so does its front up to the first symbol behind the shorter one
-    longer : (us at vs : List Symbol) → IsFirstFault f limit ts us at → (n : ℕ) × BeginsPhrase f vs n → (w : Symbol) (ws rest : List Symbol) → vs ≡ us ++ w ∷ ws → at ≡ (w ∷ ws) ++ rest → ⊥
+    longer : (us at vs : List Symbol) → IsFirstFault f max_depth ts us at → (n : ℕ) × BeginsPhrase f vs n → (w : Symbol) (ws rest : List Symbol) → vs ≡ us ++ w ∷ ws → at ≡ (w ∷ ws) ++ rest → ⊥
     longer us at vs a n w ws rest same is =
         let b = phrase-front f (us ++ w ∷ []) ws n.0 (subst (λ (xs : List Symbol). BeginsPhrase f xs n.0) (same ∙ sym (append_assoc us (w ∷ []) ws)) n.1) in
         a.wrong w (ws ++ rest) b.0 is b.1
@@ -89,10 +90,10 @@ one-fault f ts us at vs rest a b = go (cut us at vs rest (sym a.parts ∙ b.part
     go (inl c) = first c.0 c.1 c.2
     go (inr c) = absurd (longer vs rest us b a.begins c.0 c.1 at c.2 c.3)
 
-pub one-deep : {A : Type 0} (f : Form A) (ts us at vs rest : List Symbol) (t s : Symbol) → IsFirstDeep f limit ts us t at → IsFirstDeep f limit ts vs s rest → us ≡ vs
+pub one-deep : {A : Type 0} (f : Form A) (ts us at vs rest : List Symbol) (t s : Symbol) → IsFirstDeep f max_depth ts us t at → IsFirstDeep f max_depth ts vs s rest → us ≡ vs
 one-deep f ts us at vs rest t s a b = go (cut us (t ∷ at) vs (s ∷ rest) (sym a.parts ∙ b.parts))
   where
-    shallow : (us vs at : List Symbol) (t s : Symbol) (rest : List Symbol) → IsFirstDeep f limit ts us t at → IsFirstDeep f limit ts vs s rest → (w : Symbol) (ws : List Symbol) → vs ≡ us ++ w ∷ ws → t ∷ at ≡ (w ∷ ws) ++ s ∷ rest → ⊥
+    shallow : (us vs at : List Symbol) (t s : Symbol) (rest : List Symbol) → IsFirstDeep f max_depth ts us t at → IsFirstDeep f max_depth ts vs s rest → (w : Symbol) (ws : List Symbol) → vs ≡ us ++ w ∷ ws → t ∷ at ≡ (w ∷ ws) ++ s ∷ rest → ⊥
     shallow us vs at t s rest a b w ws same is =
         let o = a.open_there in
         let heads : t ≡ w = ap (head_of t) is in

@@ -4,6 +4,7 @@ use Rattle.std.specs.Prelude.{◌≡◌, ℕ, Bool, true, false, ◌||◌, List,
 use Rattle.std.specs.Option.{option_map_or}
 use Rattle.std.specs.List.{ends_with}
 use Rattle.apt_base.specs.declared.kinds.What.TheVariants as limits
+use Rattle.apt_base.specs.Limits.{max_depth}
 use Rattle.decl_tree.specs.declared.compilation.Import.{Import}
 use Rattle.decl_grammar.specs.declared.written.TypeAt.{TypeAt}
 use Rattle.java_tokens.specs.declared.fault.TextFault.{TextFault}
@@ -20,7 +21,7 @@ use Rattle.decl_grammar.specs.SymbolList.{symbols_of}
 use Rattle.decl_grammar.specs.Form.{Form}
 use Rattle.decl_grammar.specs.Grammar.{Ordinary, Info, ordinary, package_info}
 use Rattle.decl_grammar.specs.File.{IsFirstFault, IsFirstDeep}
-use Rattle.decl_limits.specs.Limits.{limit, IsWhole, AllLegal}
+use Rattle.decl_limits.specs.Limits.{IsWhole, AllLegal}
 use Rattle.decl_limits.specs.Units.{Declared, units_from, units_of, info_units}
 use Rattle.decl_limits.specs.Names.{is_named, info_named}
 use Rattle.decl_limits.specs.Children.{IsCrowded}
@@ -36,7 +37,7 @@ shown_parsed p = (p.units, p.lines)
 abbrev pub AreSeen : {A : Type 0} → Form A → List Symbol → List Symbol → Type 0
 AreSeen {A} f ts us =
     ((us ≡ ts) × ((x : A) × IsWhole f ts x))
-    ⊎ (((at : List Symbol) × IsFirstFault f limit ts us at) ⊎ ((t : Symbol) × (vs : List Symbol) × IsFirstDeep f limit ts us t vs))
+    ⊎ (((at : List Symbol) × IsFirstFault f max_depth ts us at) ⊎ ((t : Symbol) × (vs : List Symbol) × IsFirstDeep f max_depth ts us t vs))
 
 -- What the symbols of a file come to, where it is of this form, gives these units, has names that are short enough where this is true, and has child lists that are too long where
 -- this holds of the symbols. At the same symbol depth comes before children.
@@ -44,9 +45,9 @@ pub data Answers {A : Type 0} (f : Form A) (units : A → Declared) (named : A �
   -- its units, and the lines of their elements
   gives : (x : A) (parsed : Parsed) → result ≡ Ok parsed → IsWhole f ts x → (crowded ts → ⊥) → named x ≡ true → shown_parsed parsed ≡ units x → Answers f units named crowded end ts result
   -- the place of its first fault
-  bad : (us at : List Symbol) (place : ℕ) → result ≡ Err (faults.Bad place) → IsFirstFault f limit ts us at → place ≡ offset_at 0 at end → (crowded us → ⊥) → Answers f units named crowded end ts result
+  bad : (us at : List Symbol) (place : ℕ) → result ≡ Err (faults.Bad place) → IsFirstFault f max_depth ts us at → place ≡ offset_at 0 at end → (crowded us → ⊥) → Answers f units named crowded end ts result
   -- too much is open, before any fault and before a child list is too long
-  too_deep : (us : List Symbol) (t : Symbol) (vs : List Symbol) → result ≡ Err (faults.TooLarge limits.Depth) → IsFirstDeep f limit ts us t vs → (crowded us → ⊥) → Answers f units named crowded end ts result
+  too_deep : (us : List Symbol) (t : Symbol) (vs : List Symbol) → result ≡ Err (faults.TooLarge limits.Depth) → IsFirstDeep f max_depth ts us t vs → (crowded us → ⊥) → Answers f units named crowded end ts result
   -- a child list is too long, before any fault and before too much is open
   too_many : (us : List Symbol) → result ≡ Err (faults.TooLarge limits.Children) → AreSeen f ts us → crowded us → Answers f units named crowded end ts result
   -- a name is too long, in a file that has a reading within the other limits
@@ -71,11 +72,11 @@ abbrev pub shown_answer : Result Parsed FileFault → Result Declared FileFault
 shown_answer (Ok p) = Ok (shown_parsed p)
 shown_answer (Err e) = Err e
 
--- two answers are the same, or one of them is want of memory
+-- two answers are the same, or one of them is out of memory
 abbrev pub SameAnswer : Result Parsed FileFault → Result Parsed FileFault → Type 0
 SameAnswer r s = (shown_answer r ≡ shown_answer s) ⊎ ((r ≡ Err faults.Memory) ⊎ (s ≡ Err faults.Memory))
 
--- the same symbols of a file of the same length have at most one answer but for want of memory
+-- the same symbols of a file of the same length have at most one answer but when memory runs out
 abbrev pub HasOneAnswer : (ℕ → List Symbol → Result Parsed FileFault → Type 0) → Type 0
 HasOneAnswer answers = (end : ℕ) (ts : List Symbol) (r s : Result Parsed FileFault) → answers end ts r → answers end ts s → SameAnswer r s
 
@@ -114,11 +115,11 @@ pub data AnswersFile (path bytes : List ℕ) (result : Result Parsed FileFault) 
 
 -- the first fault is at the symbol with this number, or at the end where that is how many there are
 abbrev pub HasFaultAt : {A : Type 0} → Form A → ℕ → List Symbol → Type 0
-HasFaultAt f n ts = (us : List Symbol) × (at : List Symbol) × (n ≡ length us) × IsFirstFault f limit ts us at
+HasFaultAt f n ts = (us : List Symbol) × (at : List Symbol) × (n ≡ length us) × IsFirstFault f max_depth ts us at
 
 -- the symbol with this number is the first at which too much is open
 abbrev pub IsDeepAt : {A : Type 0} → Form A → ℕ → List Symbol → Type 0
-IsDeepAt f n ts = (us : List Symbol) × (t : Symbol) × (vs : List Symbol) × (n ≡ length us) × IsFirstDeep f limit ts us t vs
+IsDeepAt f n ts = (us : List Symbol) × (t : Symbol) × (vs : List Symbol) × (n ≡ length us) × IsFirstDeep f max_depth ts us t vs
 
 -- a fault, unless a child list is too long in the symbols before it, or memory ran out
 pub data UnlessCrowded (us : List Symbol) (wanted result : FileFault) : Type 0 where

@@ -1,24 +1,23 @@
 // Whether the names of a file are short enough.
 ghost use Rattle.std.specs.Prelude.{◌≡◌, ◌+◌, ◌≤◌, length};
 ghost use Rattle.std.specs.List.{list_all};
+ghost use Rattle.apt_base.specs.Limits.{max_name_bytes};
 ghost use Rattle.decl_tree.specs.Legal.{package_start};
 ghost use Rattle.decl_parser.specs.FileShown.{ordinary_view, info_view};
 ghost use Rattle.decl_parser.specs.NamesShown.{member_fits_behind};
 ghost use Rattle.decl_limits.specs.Units.{package_name};
-ghost use Rattle.decl_limits.specs.Names.{most_name, fits_behind, type_named, is_named, info_named};
+ghost use Rattle.decl_limits.specs.Names.{fits_behind, type_named, is_named, info_named};
 
 use crate::file::OrdinaryFile;
 use crate::info_file::InfoFile;
+use apt_base::MAX_NAME_BYTES;
 use decl_grammar::{NameAt, TypeAt};
 use decl_tree::{Member, TypeDecl};
 
-/// The most bytes of a canonical name.
-const MOST_NAME: usize = 1_024;
-
-// Whether no canonical name in a member is too long, where so many bytes stand before the dot behind its type's name.
+// Whether no canonical name in a member is too long, where this many bytes stand before the dot behind its type's name.
 #[cycle(naming)]
 fn member_fits(start: usize, member: &Member) -> bool
-    requires { start ≤ most_name }
+    requires { start ≤ max_name_bytes }
     ensures { result ≡ member_fits_behind start member.now }
 {
     match member {
@@ -30,7 +29,7 @@ fn member_fits(start: usize, member: &Member) -> bool
 // The same of each of some members.
 #[cycle(naming)]
 fn members_fit(start: usize, members: &[Member]) -> bool
-    requires { start ≤ most_name }
+    requires { start ≤ max_name_bytes }
     ensures { result ≡ list_all (member_fits_behind start) members.now }
 {
     for each in members {
@@ -41,18 +40,18 @@ fn members_fit(start: usize, members: &[Member]) -> bool
     true
 }
 
-// Whether the canonical names of a type and of those in it are short enough, where so many bytes stand before its simple name.
+// Whether the canonical names of a type and of those in it are short enough, where this many bytes stand before its simple name.
 #[cycle(naming)]
 fn type_fits(start: usize, declaration: &TypeDecl) -> bool
-    requires { start ≤ most_name + 1 }
+    requires { start ≤ max_name_bytes + 1 }
     ensures { result ≡ fits_behind start declaration.now }
 {
     let name = declaration.name.as_str().len();
-    if name > MOST_NAME {
+    if name > MAX_NAME_BYTES {
         return false;
     }
     let bytes = start + name;
-    if bytes > MOST_NAME {
+    if bytes > MAX_NAME_BYTES {
         return false;
     }
     members_fit(bytes, declaration.members.as_slice())
@@ -60,9 +59,9 @@ fn type_fits(start: usize, declaration: &TypeDecl) -> bool
 
 // The bytes before the simple names of types in this package.
 fn start_in(package: &str) -> usize
-    requires { length «package».now ≤ most_name }
+    requires { length «package».now ≤ max_name_bytes }
     ensures value { result ≡ package_start «package».now }
-    ensures few { result ≤ most_name + 1 }
+    ensures few { result ≤ max_name_bytes + 1 }
 {
     if package.is_empty() {
         return 0;
@@ -72,7 +71,7 @@ fn start_in(package: &str) -> usize
 
 // Whether the names of an item of a file are short enough.
 fn item_fits(start: usize, item: &Option<TypeAt>) -> bool
-    requires { start ≤ most_name + 1 }
+    requires { start ≤ max_name_bytes + 1 }
     ensures { result ≡ type_named start item.now }
 {
     match item {
@@ -83,7 +82,7 @@ fn item_fits(start: usize, item: &Option<TypeAt>) -> bool
 
 // Whether the names of these types are short enough.
 fn types_fit(start: usize, types: &[Option<TypeAt>]) -> bool
-    requires { start ≤ most_name + 1 }
+    requires { start ≤ max_name_bytes + 1 }
     ensures { result ≡ list_all (type_named start) types.now }
 {
     for each in types {
@@ -109,7 +108,7 @@ pub fn is_file_named(file: &OrdinaryFile) -> bool
     ensures { result ≡ is_named (ordinary_view file.now) }
 {
     let package = text_of(&file.package);
-    if package.len() > MOST_NAME {
+    if package.len() > MAX_NAME_BYTES {
         return false;
     }
     types_fit(start_in(package), file.types.as_slice())
@@ -120,7 +119,7 @@ pub fn is_info_named(file: &InfoFile) -> bool
     ensures { result ≡ info_named (info_view file.now) }
 {
     match &file.package {
-        Some(text) => text.name.name.as_str().len() <= MOST_NAME,
+        Some(text) => text.name.name.as_str().len() <= MAX_NAME_BYTES,
         None => true,
     }
 }

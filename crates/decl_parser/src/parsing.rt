@@ -1,5 +1,6 @@
 // Reads files: their units with the lines of the elements, or why there are none.
 ghost use Rattle.std.specs.Prelude.{◌≡◌, ◌≤◌, ℕ, Err, length, take};
+ghost use Rattle.apt_base.specs.Limits.{max_file_bytes};
 ghost use Rattle.decl_parser.specs.FileShown.{info_view, ordinary_view};
 ghost use Rattle.decl_grammar.specs.Grammar.{ordinary, package_info};
 ghost use Rattle.decl_grammar.specs.File.{BeginsPhrase};
@@ -12,15 +13,12 @@ use crate::info::parse_info;
 use crate::info_file::InfoFile;
 use crate::naming::{is_file_named, is_info_named};
 use crate::units::{info_declared, ordinary_declared};
-use apt_base::{List, What};
+use apt_base::{List, MAX_DEPTH, What};
 use decl_children::is_crowded;
 use decl_grammar::{Lines, ParseFault, Symbol, symbols};
 use decl_tree::Unit;
 use java_tokens::{Chars, TextFault, read_chars};
 use std::alloc::Global;
-
-// The most nested types, lists of type arguments and values that may be open at a token.
-const ROOM: usize = 200;
 
 /// The units of a file, and for each the lines of its elements, in the same order.
 #[derive(Drop)]
@@ -133,7 +131,7 @@ fn ordinary_of_symbols(alloc: Global, symbols: &[Symbol<'_>], end: u32) -> Resul
     requires { AreTexts symbols.now }
     ensures { AnswersOrdinary end symbols.now result }
 {
-    match parse_ordinary(alloc, ROOM, symbols) {
+    match parse_ordinary(alloc, MAX_DEPTH, symbols) {
         Ok(file) => whole_ordinary(alloc, symbols, file, end),
         Err(ParseFault::Bad { place }) => Err(bad_ordinary(alloc, symbols, place, end)),
         Err(ParseFault::Deep { place }) => Err(deep_ordinary(alloc, symbols, place, end)),
@@ -179,7 +177,7 @@ fn info_of_symbols(alloc: Global, symbols: &[Symbol<'_>], end: u32) -> Result<Pa
     requires { AreTexts symbols.now }
     ensures { AnswersInfo end symbols.now result }
 {
-    match parse_info(alloc, ROOM, symbols) {
+    match parse_info(alloc, MAX_DEPTH, symbols) {
         Ok(file) => named_info(alloc, file),
         Err(ParseFault::Bad { place }) => Err(bad_info(symbols, place, end)),
         Err(ParseFault::Deep { place }) => Err(deep_info(symbols, place, end)),
@@ -235,9 +233,9 @@ fn of_chars(alloc: Global, info: bool, chars: &Chars, end: u32) -> Result<Parsed
 
 /// The units of a file (JLS 7.3), or of a file `package-info.java` (JLS 7.4.1) where the path says so; or `Bad` with the offset of its first fault; or `TooLarge` with the limit that it passes
 /// first: Depth where more than 200 nested types, lists of type arguments and values are open at a token, Children where a child list has more than 65,535 items at one, both in the order of the tokens
-/// and before the first fault alone, and Name, in a file that has a reading, where the canonical name of its package or of a type has more than 1,024 bytes. `Memory` comes for want of memory alone.
+/// and before the first fault alone, and Name, in a file that has a reading, where the canonical name of its package or of a type has more than 1,024 bytes. `Memory` comes only when memory runs out.
 pub fn parse(alloc: Global, path: &str, bytes: &[u8]) -> Result<Parsed, FileFault>
-    requires { length bytes.now ≤ 8_388_608 }
+    requires { length bytes.now ≤ max_file_bytes }
     ensures { AnswersFile path.now bytes.now result }
 {
     let end = bytes.len() as u32;

@@ -4,7 +4,7 @@ use Rattle.apt_base.specs.Fields.{text_next}
 use Rattle.apt_base.specs.Forms.{Reader, name_form, u16_form, list_form, opt_form, is_name, all_fit, fits_if_some, none_next, ◌>>◌, mapped, tagged, opt_next, list_next}
 use Rattle.decl_syntax.specs.Numbers.{kind_number, kind_of, import_number, import_of}
 use Rattle.decl_syntax.specs.Shape.{type_form, annotation_form, type_param_form, field_form, method_form, constructor_form, constant_form, head_form, member_step, declaration_step, member_form, declaration_form, import_form, body_form, unit_form}
-use Rattle.decl_tree.specs.Legal.{is_modifiers, is_legal_type, is_legal_annotation, is_legal_type_param, is_canonical, member_fits, declaration_fits, inside_declaration, is_legal_declaration, is_legal_import, is_legal_body, depth, is_legal}
+use Rattle.decl_tree.specs.Legal.{is_modifiers, is_legal_type, is_legal_annotation, is_legal_type_param, is_canonical, member_fits, declaration_fits, inside_declaration, is_legal_declaration, is_legal_import, is_legal_body, is_legal}
 use Rattle.decl_syntax.specs.Reading.{annotation_next, field_next, method_next, constructor_next, constant_next, ends_in_time, canonical_next, member_choice, member_in, type_heading_of, type_heading_next, head_of, head_next, members_start, declaration_of, declaration_is_small, declaration_in, inside_declaration_next, declaration_next, import_with, import_next, info_of, body_choice, body_next, front_of_unit_next, body_start, unit_of, unit_next}
 use Rattle.decl_tree.specs.declared.member.FieldDecl.{FieldDecl}
 use Rattle.decl_tree.specs.declared.member.MethodDecl.{MethodDecl}
@@ -24,6 +24,7 @@ use Rattle.decl_syntax.proofs.Types.{list_form-spelled, Reads-type_next}
 use Rattle.decl_syntax.proofs.Values.{Reads-annotation_next}
 use Rattle.decl_syntax.proofs.Members.{Reads-modifiers, Reads-type_param, Reads-field, Reads-method, Reads-constructor, Reads-constant}
 use Rattle.apt_base.proofs.Readers.{Reads, Reads-none, Reads-then, Reads-numbered, Reads-text, Spells-none, Spells-or, variant, Reads-tagged, and_reads, opt_reads, list_reads, check_reads, map_reads, same_reads}
+use Rattle.apt_base.specs.Limits.{max_depth}
 
 -- ---- equations
 
@@ -175,7 +176,7 @@ unfolding unit_next unit_form is_legal front_of_unit_next
 Reads-unit =
     let front = and_reads (and_reads (Reads-canonical 0) (list_reads Reads-import)) (list_reads Reads-text) in
     let parts = Reads-then front_of_unit_next (λ x. name_form x.0.0 ++ list_form import_form x.0.1 ++ list_form name_form x.1)
-    (λ x. is_canonical 0 x.0.0 && all_fit is_legal_import x.0.1 && all_fit is_name x.1) (λ x. body_next depth (body_start x)) body_form (λ x. is_legal_body depth (body_start x)) front (λ x. Reads-body depth (body_start x)) in
+    (λ x. is_canonical 0 x.0.0 && all_fit is_legal_import x.0.1 && all_fit is_name x.1) (λ x. body_next max_depth (body_start x)) body_form (λ x. is_legal_body max_depth (body_start x)) front (λ x. Reads-body max_depth (body_start x)) in
     same_reads unit_form is_legal (λ u. refl) (λ u. refl)
     (map_reads unit_of (λ u. (((u.package, u.imports), u.siblings), u.body)) (λ u. refl) (λ x. refl) parts)
 

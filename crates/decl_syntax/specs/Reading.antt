@@ -3,9 +3,10 @@ use Rattle.std.specs.Prelude.{ℕ, zero, suc, ◌+◌, Bool, true, false, ◌==�
 use Rattle.apt_base.specs.Fields.{◌>>=◌, u8_next, u16_next, bool_next, text_next}
 use Rattle.apt_base.specs.Forms.{Reader, none_next, then_by, ◌>>◌, mapped, checked, numbered, tagged, opt_next, list_next}
 use Rattle.decl_syntax.specs.Numbers.{primitive_of, kind_of, import_of}
-use Rattle.decl_tree.specs.Legal.{is_modifiers, are_few, children, default_constructors, enum_methods, package_start, depth}
+use Rattle.decl_tree.specs.Legal.{is_modifiers, are_few, children, default_constructors, enum_methods, package_start}
 use Rattle.apt_base.specs.declared.around.Around.{Around}
 use Rattle.apt_base.specs.declared.around.Around.TheVariants as around
+use Rattle.apt_base.specs.Limits.{max_depth, max_name_bytes}
 use Rattle.decl_tree.specs.declared.type_text.BaseType.{BaseType}
 use Rattle.decl_tree.specs.declared.type_text.BaseType.TheVariants as base
 use Rattle.decl_tree.specs.declared.type_text.NamedPart.{NamedPart, roll-NamedPart}
@@ -238,7 +239,7 @@ constant_next room = mapped constant_of (text_next >> list_next (annotation_next
 -- ---- declarations
 
 abbrev pub ends_in_time : ℕ → List ℕ → Bool
-ends_in_time start name = nat_le (start + length name) 1024
+ends_in_time start name = nat_le (start + length name) max_name_bytes
 
 abbrev pub canonical_next : ℕ → Reader (List ℕ)
 canonical_next start = checked (ends_in_time start) text_next
@@ -335,7 +336,7 @@ abbrev pub unit_of : Front × Body → UnitText
 unit_of (((name, imports), siblings), body) = record { «package» = name; imports = imports; siblings = siblings; body = body }
 
 unfoldable pub unit_next : Reader UnitText
-unit_next = mapped unit_of (then_by front_of_unit_next (λ front. body_next depth (body_start front)))
+unit_next = mapped unit_of (then_by front_of_unit_next (λ front. body_next max_depth (body_start front)))
 
 -- a unit, and nothing behind it
 unfoldable pub whole_unit : List ℕ → Option UnitText

@@ -6,7 +6,9 @@ ghost use Rattle.decl_syntax.specs.Reading.{heading_next, field_next, signature_
 
 use crate::in_unit::{list_of, optional, read_modifiers};
 use crate::type_reading::type_text;
-use apt_base::{FieldReader, FormFault, List, Name, read_optional_text, read_text, read_truth};
+use apt_base::{
+    FieldReader, FormFault, List, MAX_CHILDREN, Name, read_optional_text, read_text, read_truth,
+};
 use decl_tree::{
     AnnotationText, ConstantDecl, ConstructorDecl, FieldDecl, MethodDecl, TypeParam, TypeText,
 };
@@ -42,7 +44,7 @@ pub(crate) struct ConstructorHeading {
 fn are_few(parameters: usize, others: usize) -> bool
     ensures { result ≡ are_few (parameters + others) }
 {
-    parameters <= 65_535 && others <= 65_535 - parameters
+    parameters <= MAX_CHILDREN && others <= MAX_CHILDREN - parameters
 }
 
 #[tactic(auto, unfolding(crate::specs::Reading::heading_next))]

@@ -4,6 +4,7 @@ ghost use Rattle.std.specs.List.{list_any};
 ghost use Rattle.apt_base.specs.Forms.{numbered};
 ghost use Rattle.apt_base.specs.Readings.{Gives, GivesAll};
 ghost use Rattle.apt_base.specs.declared.fault.FormFault.TheVariants.{Bad};
+ghost use Rattle.apt_base.specs.Limits.{max_name_bytes};
 ghost use Rattle.decl_tree.specs.Legal.{are_few, default_constructors, enum_methods, constructs, package_start};
 ghost use Rattle.decl_tree.specs.declared.declaration.Member.{out-Member};
 ghost use Rattle.decl_syntax.specs.Numbers.{kind_of};
@@ -14,8 +15,8 @@ ghost use Rattle.decl_syntax.specs.Shapes.{IsNoShape};
 use crate::in_unit::{list_of, optional, read_modifiers};
 use crate::member_reading::{constant, constructor, field, method};
 use apt_base::{
-    FieldReader, FormFault, List, Name, read_byte, read_count, read_optional_text, read_text,
-    read_texts,
+    FieldReader, FormFault, List, MAX_CHILDREN, MAX_DEPTH, MAX_NAME_BYTES, Name, read_byte,
+    read_count, read_optional_text, read_text, read_texts,
 };
 use decl_tree::{
     AnnotationText, Body, Member, TypeDecl, TypeKind, TypeParam, TypeText, Unit, UnitText,
@@ -57,10 +58,10 @@ fn kind(reader: &mut FieldReader) -> Result<TypeKind, FormFault>
 fn canonical(alloc: Global, reader: &mut FieldReader, start: usize) -> Result<Name, FormFault>
     requires { start ≤ 1025 }
     ensures gives { Gives result (canonical_next start reader.old) reader.new }
-    ensures ends { IfOk result (λ name. start + length name ≤ 1024) }
+    ensures ends { IfOk result (λ name. start + length name ≤ max_name_bytes) }
 {
     let name = read_text(alloc, reader)?;
-    if start > 1024 || name.as_str().len() > 1024 - start {
+    if start > MAX_NAME_BYTES || name.as_str().len() > MAX_NAME_BYTES - start {
         return Err(FormFault::Bad);
     }
     Ok(name)
@@ -104,9 +105,9 @@ fn are_few(kind: TypeKind, parameters: usize, members: &[Member]) -> bool
     if constructors > 1 || methods > 2 {
         return false;
     }
-    parameters <= 65_535
-        && members.len() <= 65_535
-        && parameters + members.len() + constructors + methods <= 65_535
+    parameters <= MAX_CHILDREN
+        && members.len() <= MAX_CHILDREN
+        && parameters + members.len() + constructors + methods <= MAX_CHILDREN
 }
 
 #[tactic(auto, unfolding(crate::specs::Reading::type_heading_next))]
@@ -118,7 +119,7 @@ fn read_type_heading(
 ) -> Result<TypeHeading, FormFault>
     requires { start ≤ 1025 }
     ensures gives { Gives result (type_heading_next room start reader.old) reader.new }
-    ensures ends { IfOk result (λ heading. start + length heading.name ≤ 1024) }
+    ensures ends { IfOk result (λ heading. start + length heading.name ≤ max_name_bytes) }
 {
     let kind = kind(reader)?;
     let name = canonical(alloc, reader, start)?;
@@ -143,7 +144,7 @@ fn read_type_head(
 ) -> Result<TypeHead, FormFault>
     requires { start ≤ 1025 }
     ensures gives { Gives result (head_next room start reader.old) reader.new }
-    ensures ends { IfOk result (λ head. start + length head.heading.name ≤ 1024) }
+    ensures ends { IfOk result (λ head. start + length head.heading.name ≤ max_name_bytes) }
 {
     let heading = read_type_heading(alloc, reader, room, start)?;
     let parameters = list_of(alloc, reader, room)?;
@@ -287,7 +288,7 @@ fn body(alloc: Global, reader: &mut FieldReader, room: u32, start: usize) -> Res
 
 // The bytes of a canonical name before the simple name of a type of this package.
 fn package_start(name: &str) -> usize
-    requires { length name.now ≤ 1024 }
+    requires { length name.now ≤ max_name_bytes }
     ensures value { result ≡ package_start name.now }
     ensures bound { result ≤ 1025 }
 {
@@ -303,7 +304,7 @@ fn unit(alloc: Global, reader: &mut FieldReader) -> Result<UnitText, FormFault>
     let imports = list_of(alloc, reader, 0)?;
     let siblings = read_texts(alloc, reader)?;
     let start = package_start(package.as_str());
-    let body = body(alloc, reader, 200, start)?;
+    let body = body(alloc, reader, MAX_DEPTH, start)?;
     Ok(UnitText {
         package,
         imports,

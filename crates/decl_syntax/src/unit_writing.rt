@@ -122,7 +122,7 @@ fn spell(alloc: Global, of: &UnitText) -> Result<List<u8>, NoMemory>
     Ok(writer.into_bytes())
 }
 
-/// The one spelling of a unit in bytes, or want of memory. No other unit has it, and that of no other unit begins with it.
+/// The one spelling of a unit in bytes, or out of memory. No other unit has it, and that of no other unit begins with it.
 pub fn shape(alloc: Global, of: &Unit) -> Result<List<u8>, NoMemory>
     ensures spelled { IfOk result (λ bytes. bytes ≡ unit_form of.now) }
     ensures only { IsOnlySpelled of.now }

@@ -3,6 +3,7 @@
 use Rattle.std.specs.Prelude.{ℕ, zero, suc, ◌+◌, Bool, true, false, not, ◌&&◌, List, [], ◌∷◌, length, Option, Some, None, nat_lt, nat_le, if◌then◌else◌}
 use Rattle.std.specs.List.{list_any}
 use Rattle.apt_base.specs.Forms.{is_name, all_fit, fits_if_some}
+use Rattle.apt_base.specs.Limits.{max_children, max_depth, max_name_bytes}
 use Rattle.decl_tree.specs.declared.type_text.TypeText.{TypeText, out-TypeText}
 use Rattle.decl_tree.specs.declared.type_text.NamedPart.{NamedPart, out-NamedPart}
 use Rattle.decl_tree.specs.declared.type_text.BaseType.{BaseType, out-BaseType}
@@ -88,7 +89,7 @@ is_modifiers modifiers = nat_lt modifiers 4096
 
 -- how many children an element may have: those of a method or a constructor are its type parameters and its parameters
 abbrev pub are_few : ℕ → Bool
-are_few children = nat_le children 65535
+are_few children = nat_le children max_children
 
 unfoldable pub is_legal_type_param : ℕ → TypeParam → Bool
 is_legal_type_param room p = is_name p.name && all_fit (is_legal_annotation room) p.annotations && all_fit (is_legal_type room) p.bounds
@@ -122,7 +123,7 @@ is_legal_constant room c = is_name c.name && all_fit (is_legal_annotation room) 
 
 -- a canonical name of at most 1,024 bytes, of which this many stand before the simple name
 abbrev pub is_canonical : ℕ → List ℕ → Bool
-is_canonical start name = is_name name && nat_le (start + length name) 1024
+is_canonical start name = is_name name && nat_le (start + length name) max_name_bytes
 
 abbrev pub constructs : Member-F Member TypeDecl → Bool
 constructs (Member-F.Constructor constructor) = true
@@ -183,11 +184,7 @@ unfoldable pub is_legal_body : ℕ → ℕ → Body → Bool
 is_legal_body room start (Declared declaration) = is_legal_declaration room start declaration
 is_legal_body room start (Info annotations doc) = all_fit (is_legal_annotation room) annotations && fits_if_some is_name doc
 
--- how much may be open at once in a unit
-abbrev pub depth : ℕ
-depth = 200
-
 unfoldable pub is_legal : UnitText → Bool
 is_legal u =
     is_canonical 0 u.package && all_fit is_legal_import u.imports && all_fit is_name u.siblings
-    && is_legal_body depth (package_start u.package) u.body
+    && is_legal_body max_depth (package_start u.package) u.body

@@ -396,7 +396,7 @@ pub fn next_of(place: Place, leave: Leave, before: Before, symbols: &[Symbol<'_>
     }
 }
 
-/// How free a `=` is behind a part. For want of memory no more conditions are open than a number counts.
+/// How free a `=` is behind a part. No more conditions are open than a number counts, since memory ends before.
 pub fn leave_behind(turn: Turn, leave: Leave) -> Result<Leave, ReadFault>
     ensures { UnlessMemory result (λ after. after ≡ leave_after turn leave) }
 {

@@ -119,7 +119,7 @@ pub symbols-deep : (s : Stands) (p : Part) (room : ℕ) (ts at : List Symbol) �
 unfolding part_symbols
 symbols-deep s p room ts at e = rw e refl
 
--- the symbols that were read, and those that are left
+-- the symbols that were read, and the rest
 pub nest-parts : (m : Nest) (room : ℕ) (ts rest : List Symbol) (x : Of m) → read_nest room m ts ≡ done x rest → ts ≡ read_of ts rest ++ rest
 nest-parts m room ts rest x e =
     let t : Told room Whole Started (nest m) ts (done x rest) = subst (λ (o : Outcome (Of m)). Told room Whole Started (nest m) ts o) e (told-reads (nest m) room ts) in

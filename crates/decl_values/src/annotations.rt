@@ -173,7 +173,7 @@ fn arguments_of<'a, 's>(
 }
 
 /// An annotation behind its `@` (JLS 9.7): its name and its values. `Bad` where the symbols stop being one, `Deep` where more than 200 values
-/// and lists of type arguments are open at once, `Memory` for want of memory.
+/// and lists of type arguments are open at once, `Memory` when memory runs out.
 #[cycle(values)]
 #[tactic(auto, using(decl_grammar::proofs::Firsts::arguments_first), unfolding(decl_grammar::specs::Types::annotation_body))]
 pub fn annotation_body_of<'a, 's>(

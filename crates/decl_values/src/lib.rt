@@ -2,7 +2,7 @@
 //! are handed on.
 //!
 //! Each function says that what it returns is what reading its form gives (`Gives` of `decl_grammar`): the value and
-//! the symbols behind it, or the symbols from the first fault or from where too much is open on, or want of memory. `room`
+//! the symbols behind it, or the symbols from the first fault or from where too much is open on, or out of memory. `room`
 //! is how many lists of type arguments and values may be open at once. Values hold types and types hold annotations with values, so their readers are one cycle.
 //!
 //! Annotations on the use of a type are read and passed over (JLS 9.7.4). An annotation's value that is no constant form is kept as the texts of its

@@ -101,7 +101,7 @@ outcome_by IsTooMany part unit table = Err IsFull
 abbrev pub outcome_of : Part → UnitText → TypeTable → Result TypeTable Against
 outcome_of part unit table = outcome_by (answer_to table unit) part unit table
 
--- entering a unit gave the answer that is due. Want of memory may come in place of it
+-- entering a unit gave the answer that is due. Out of memory may come in place of it
 abbrev pub Answers : Answer → Result Unit EnterFault → Type 0
 Answers answer (Ok done) = (types : ℕ) × (answer ≡ IsNew types)
 Answers answer (Err (Duplicate unit)) = answer ≡ IsDuplicate

@@ -1,6 +1,7 @@
 // The elements of a table.
 ghost use Rattle.std.specs.Prelude.{◌≡◌, ◌≤◌, length, option_map, None, IfOk, IfSome};
 ghost use Rattle.std.specs.Option.{option_copied};
+ghost use Rattle.apt_base.specs.Limits.{max_children};
 ghost use Rattle.decl_elements.specs.Nodes.{OfPackage, children, down};
 ghost use Rattle.decl_elements.specs.Shown.{shown_element, node_of};
 ghost use Rattle.element_table.specs.TypeTable.{unit_of};
@@ -49,7 +50,7 @@ fn above(alloc: Global, at: &ElementRef) -> Result<Option<ElementRef>, NoMemory>
 #[tactic(auto, unfolding(decl_elements::specs::Nodes::children))]
 fn below_package<'a>(path: &[u16]) -> Option<Place<'a>>
     ensures value { option_map node_of result ≡ down path.now (OfPackage None) }
-    ensures few { IfSome result (λ place. length (children (node_of place)) ≤ 65535) }
+    ensures few { IfSome result (λ place. length (children (node_of place)) ≤ max_children) }
 {
     if path.is_empty() {
         Some(Place::Package(None))
@@ -86,7 +87,7 @@ impl Table {
     #[tactic(auto, unfolding(crate::specs::TableElements::node_at))]
     fn place(&self, at: &ElementRef) -> Option<Place<'_>>
         ensures value { option_map node_of result ≡ node_at self.now at.now }
-        ensures few { IfSome result (λ place. length (children (node_of place)) ≤ 65535) }
+        ensures few { IfSome result (λ place. length (children (node_of place)) ≤ max_children) }
     {
         if let Some(unit) = self.find(&at.unit) {
             return place_at(unit, at.path.as_slice());

@@ -1,6 +1,7 @@
 -- It is decided whether symbols are crowded.
 use Rattle.std.proofs.Common.{◌≡◌, ℕ, zero, suc, ◌+◌, ◌<◌, ◌≤◌, Bool, false, List, [], ◌∷◌, ◌++◌, ◌⊎◌, inl, inr, length, refl, sym, ap, subst, ◌∙◌, length-append, arith}
 use Rattle.std.proofs.lemmas.Bool.{false≢true}
+use Rattle.apt_base.specs.Limits.{max_children}
 use Rattle.decl_tree.specs.declared.declaration.TypeKind.{TypeKind}
 use Rattle.decl_tree.specs.declared.declaration.TypeKind.TheVariants as kind
 use Rattle.decl_grammar.specs.declared.symbol.Symbol.{Symbol}
@@ -19,7 +20,7 @@ use Rattle.decl_grammar.proofs.Heads.{Is-nil}
 use Rattle.decl_grammar.proofs.Heights.{full-at}
 use Rattle.decl_grammar.proofs.Knot.{IsSound}
 use Rattle.decl_grammar.proofs.Law.{ordinary-sound}
-use Rattle.decl_limits.specs.Children.{most, OpensWith, blank, NextItem, NextTypeParam, NextConstant, FurtherParam, NextParam, enum_heading, open_type, generic_name, executable_heading, Then, IsFull, ExecutableFull, member_children, MemberFull, declared_children, TypeFull, FileFull, IsCrowded}
+use Rattle.decl_limits.specs.Children.{OpensWith, blank, NextItem, NextTypeParam, NextConstant, FurtherParam, NextParam, enum_heading, open_type, generic_name, executable_heading, Then, IsFull, ExecutableFull, member_children, MemberFull, declared_children, TypeFull, FileFull, IsCrowded}
 use Rattle.file_answers.proofs.Decided.{Decided, both-decided, or-decided, same-decided, equal-decided, most-decided, less-decided, false-decided, CutWith, cut-decided, HeadWith, head-decided, one-decided, two-decided, meaning-decided, then-decided, opens-decided}
 use Rattle.file_answers.proofs.Headings.{method_heading, constructor_heading, heading-split, heading-joined}
 use Rattle.file_answers.proofs.ChildForms.{listed, plain-sound, plain-forms, plain-of}
@@ -27,9 +28,9 @@ use Rattle.file_answers.proofs.ChildForms.{listed, plain-sound, plain-forms, pla
 -- ---- one item more
 
 module _ {A : Type 0} (opens : ℕ) (item : Form A) (listed_sound : IsSound (listed item)) (item_sound : IsSound item) (k : ℕ) where
-  -- so many items stand before the one that begins at this symbol
+  -- this many items stand before the one that begins at this symbol
   abbrev ItemBegins : List Symbol → Symbol → Type 0
-  ItemBegins front next = OpensWith item next × ((xs : List A) × IsPhrase (listed item) front xs × (most ≤ k + length xs))
+  ItemBegins front next = OpensWith item next × ((xs : List A) × IsPhrase (listed item) front xs × (max_children ≤ k + length xs))
 
   abbrev ItemBehind : List Symbol → List Symbol → Type 0
   ItemBehind front vs = (next : Symbol) × (vs ≡ next ∷ []) × ItemBegins front next
@@ -58,14 +59,14 @@ module _ {A : Type 0} (opens : ℕ) (item : Form A) (listed_sound : IsSound (lis
   from-item : (ts : List Symbol) → IsFull (NextItem opens item) k ts → HeadWith ItemWithin ts
   from-item ts full =
       let f = full.1 in
-      (f.opening, f.front ++ f.next ∷ [], f.parts, (f.is_opening, (f.front, f.next ∷ [], refl, (f.next, refl, (f.begins, (f.items, f.whole, subst (λ n. most ≤ k + n) f.count full.2))))))
+      (f.opening, f.front ++ f.next ∷ [], f.parts, (f.is_opening, (f.front, f.next ∷ [], refl, (f.next, refl, (f.begins, (f.items, f.whole, subst (λ n. max_children ≤ k + n) f.count full.2))))))
 
   item-decided : (ts : List Symbol) → Decided (IsFull (NextItem opens item) k ts)
   item-decided ts =
       same-decided (to-item ts) (from-item ts)
       (head-decided ItemWithin (λ opening us. both-decided (equal-decided opening.sort (operator opens))
       (cut-decided us ItemBehind (λ front vs e. one-decided (ItemBegins front)
-      (λ next. both-decided (opens-decided item item_sound next) (meaning-decided (listed item) listed_sound (λ xs. most ≤ k + length xs) front (λ xs is. most-decided most (k + length xs)))) vs))) ts)
+      (λ next. both-decided (opens-decided item item_sound next) (meaning-decided (listed item) listed_sound (λ xs. max_children ≤ k + length xs) front (λ xs is. most-decided max_children (k + length xs)))) vs))) ts)
 
 -- ---- a parameter more
 
@@ -75,7 +76,7 @@ Written = List ParamAt × Bool
 module _ (k : ℕ) where
   -- the last of the parameters so far is not of any number, and there are as many as may be
   abbrev AllBut : Written → Type 0
-  AllBut x = (x.1 ≡ false) × (most ≤ k + length x.0)
+  AllBut x = (x.1 ≡ false) × (max_children ≤ k + length x.0)
 
   abbrev ParamBegins : List Symbol → Symbol → Symbol → Type 0
   ParamBegins front comma next = (comma.sort ≡ operator token.comma) × (OpensWith params_from next × ((x : Written) × IsPhrase first_params front x × AllBut x))
@@ -113,7 +114,7 @@ module _ (k : ℕ) where
         f.opening,
         f.front ++ f.comma ∷ f.next ∷ [],
         f.parts,
-        (f.is_opening, (f.front, f.comma ∷ f.next ∷ [], refl, (f.comma, f.next, refl, (f.is_comma, (f.begins, ((f.items, false), f.whole, (refl, subst (λ n. most ≤ k + n) f.count full.2))))))),
+        (f.is_opening, (f.front, f.comma ∷ f.next ∷ [], refl, (f.comma, f.next, refl, (f.is_comma, (f.begins, ((f.items, false), f.whole, (refl, subst (λ n. max_children ≤ k + n) f.count full.2))))))),
       )
 
   further-decided : (ts : List Symbol) → Decided (IsFull FurtherParam k ts)
@@ -123,11 +124,11 @@ module _ (k : ℕ) where
       (cut-decided us ParamBehind (λ front vs e. two-decided (ParamBegins front)
       (λ comma next. both-decided (equal-decided comma.sort (operator token.comma))
       (both-decided (opens-decided params_from (plain-sound params_from plain-forms.params_from-plain) next)
-      (meaning-decided first_params (plain-sound first_params plain-forms.first_params-plain) AllBut front (λ x is. both-decided (false-decided x.1) (most-decided most (k + length x.0)))))) vs))) ts)
+      (meaning-decided first_params (plain-sound first_params plain-forms.first_params-plain) AllBut front (λ x is. both-decided (false-decided x.1) (most-decided max_children (k + length x.0)))))) vs))) ts)
 
 -- the first parameter, directly behind the bracket
 abbrev FirstThere : ℕ → Symbol → Symbol → Type 0
-FirstThere k opening next = (opening.sort ≡ operator token.open_parenthesis) × (OpensWith first_params next × (most ≤ k + 0))
+FirstThere k opening next = (opening.sort ≡ operator token.open_parenthesis) × (OpensWith first_params next × (max_children ≤ k + 0))
 
 abbrev FirstFull : ℕ → List Symbol → Type 0
 FirstFull k ts = (opening : Symbol) × (next : Symbol) × (ts ≡ opening ∷ next ∷ []) × FirstThere k opening next
@@ -136,8 +137,8 @@ to-param : (k : ℕ) (ts : List Symbol) → FirstFull k ts ⊎ IsFull FurtherPar
 to-param k ts (inl f) = (0, inl (f.0, f.1, f.2, f.3.0, f.3.1.0, refl), f.3.1.1)
 to-param k ts (inr f) = (f.0, inr f.1, f.2)
 
-from-param : (k : ℕ) (ts : List Symbol) (m : ℕ) → NextParam ts m → most ≤ k + m → FirstFull k ts ⊎ IsFull FurtherParam k ts
-from-param k ts m (inl f) le = inl (f.0, f.1, f.2, (f.3, (f.4, subst (λ n. most ≤ k + n) f.5 le)))
+from-param : (k : ℕ) (ts : List Symbol) (m : ℕ) → NextParam ts m → max_children ≤ k + m → FirstFull k ts ⊎ IsFull FurtherParam k ts
+from-param k ts m (inl f) le = inl (f.0, f.1, f.2, (f.3, (f.4, subst (λ n. max_children ≤ k + n) f.5 le)))
 from-param k ts m (inr f) le = inr (m, f, le)
 
 param-decided : (k : ℕ) (ts : List Symbol) → Decided (IsFull NextParam k ts)
@@ -145,7 +146,7 @@ param-decided k ts =
     same-decided (to-param k ts) (λ full. from-param k ts full.0 full.1 full.2)
     (or-decided (two-decided (FirstThere k)
     (λ opening next. both-decided (equal-decided opening.sort (operator token.open_parenthesis))
-    (both-decided (opens-decided first_params (plain-sound first_params plain-forms.first_params-plain) next) (most-decided most (k + 0)))) ts)
+    (both-decided (opens-decided first_params (plain-sound first_params plain-forms.first_params-plain) next) (most-decided max_children (k + 0)))) ts)
     (further-decided k ts))
 
 -- ---- in a method or a constructor
@@ -207,33 +208,33 @@ lone-decided P d (m ∷ n ∷ ms) = inr (λ p. absurd (let two : n ∷ ms ≡ []
 
 module _ (inside : List Symbol → Type 0) (k : TypeKind) (n : ℕ) (ts : List Symbol) (inside_decided : (us vs : List Symbol) → ts ≡ us ++ vs → Decided (inside vs)) where
   abbrev OneMore : Symbol → Type 0
-  OneMore t = OpensWith (modified_form k) t × (most ≤ n)
+  OneMore t = OpensWith (modified_form k) t × (max_children ≤ n)
 
-  to-begins : (t : Symbol) × (ts ≡ t ∷ []) × OneMore t → (t : Symbol) × (ts ≡ t ∷ []) × OpensWith (modified_form k) t × (most ≤ n)
+  to-begins : (t : Symbol) × (ts ≡ t ∷ []) × OneMore t → (t : Symbol) × (ts ≡ t ∷ []) × OpensWith (modified_form k) t × (max_children ≤ n)
   to-begins p = (p.0, p.1, p.2.0, p.2.1)
 
-  from-begins : (t : Symbol) × (ts ≡ t ∷ []) × OpensWith (modified_form k) t × (most ≤ n) → (t : Symbol) × (ts ≡ t ∷ []) × OneMore t
+  from-begins : (t : Symbol) × (ts ≡ t ∷ []) × OpensWith (modified_form k) t × (max_children ≤ n) → (t : Symbol) × (ts ≡ t ∷ []) × OneMore t
   from-begins p = (p.0, p.1, (p.2, p.3))
 
-  begins-decided : Decided ((t : Symbol) × (ts ≡ t ∷ []) × OpensWith (modified_form k) t × (most ≤ n))
-  begins-decided = same-decided to-begins from-begins (one-decided OneMore (λ t. both-decided (opens-decided (modified_form k) (plain-sound (modified_form k) (plain-of k).modified_form-plain) t) (most-decided most n)) ts)
+  begins-decided : Decided ((t : Symbol) × (ts ≡ t ∷ []) × OpensWith (modified_form k) t × (max_children ≤ n))
+  begins-decided = same-decided to-begins from-begins (one-decided OneMore (λ t. both-decided (opens-decided (modified_form k) (plain-sound (modified_form k) (plain-of k).modified_form-plain) t) (most-decided max_children n)) ts)
 
-  fields-decided : Decided ((ms : List MemberAt) × IsPhrase (member_form k) (ts ++ blank (operator token.semicolon) ∷ []) ms × (most < n + length ms))
-  fields-decided = meaning-decided (member_form k) (plain-sound (member_form k) (plain-of k).member_form-plain) (λ ms. most < n + length ms) (ts ++ blank (operator token.semicolon) ∷ []) (λ ms is. less-decided most (n + length ms))
+  fields-decided : Decided ((ms : List MemberAt) × IsPhrase (member_form k) (ts ++ blank (operator token.semicolon) ∷ []) ms × (max_children < n + length ms))
+  fields-decided = meaning-decided (member_form k) (plain-sound (member_form k) (plain-of k).member_form-plain) (λ ms. max_children < n + length ms) (ts ++ blank (operator token.semicolon) ∷ []) (λ ms is. less-decided max_children (n + length ms))
 
   abbrev HasMany : MemberAt → Type 0
-  HasMany m = most < member_children m
+  HasMany m = max_children < member_children m
 
-  to-whole : (ms : List MemberAt) × IsPhrase (member_form k) ts ms × Lone HasMany ms → (m : MemberAt) × IsPhrase (member_form k) ts (m ∷ []) × (most < member_children m)
+  to-whole : (ms : List MemberAt) × IsPhrase (member_form k) ts ms × Lone HasMany ms → (m : MemberAt) × IsPhrase (member_form k) ts (m ∷ []) × (max_children < member_children m)
   to-whole p = (p.2.0, subst (λ (ms : List MemberAt). IsPhrase (member_form k) ts ms) p.2.1 p.1, p.2.2)
 
-  from-whole : (m : MemberAt) × IsPhrase (member_form k) ts (m ∷ []) × (most < member_children m) → (ms : List MemberAt) × IsPhrase (member_form k) ts ms × Lone HasMany ms
+  from-whole : (m : MemberAt) × IsPhrase (member_form k) ts (m ∷ []) × (max_children < member_children m) → (ms : List MemberAt) × IsPhrase (member_form k) ts ms × Lone HasMany ms
   from-whole p = (p.0 ∷ [], p.1, (p.0, refl, p.2))
 
-  whole-decided : Decided ((m : MemberAt) × IsPhrase (member_form k) ts (m ∷ []) × (most < member_children m))
+  whole-decided : Decided ((m : MemberAt) × IsPhrase (member_form k) ts (m ∷ []) × (max_children < member_children m))
   whole-decided =
       same-decided to-whole from-whole
-      (meaning-decided (member_form k) (plain-sound (member_form k) (plain-of k).member_form-plain) (Lone HasMany) ts (λ ms is. lone-decided HasMany (λ m. less-decided most (member_children m)) ms))
+      (meaning-decided (member_form k) (plain-sound (member_form k) (plain-of k).member_form-plain) (Lone HasMany) ts (λ ms is. lone-decided HasMany (λ m. less-decided max_children (member_children m)) ms))
 
   modified-decided : Decided (Then type_modifiers (λ (m : Modifiers) us. inside us ⊎ ExecutableFull us) ts)
   modified-decided = then-decided type_modifiers (plain-sound type_modifiers plain-forms.type_modifiers-plain) (λ (m : Modifiers) us. inside us ⊎ ExecutableFull us) ts (λ us vs m e is. or-decided (inside_decided us vs e) (executable-decided vs))
@@ -253,7 +254,7 @@ Ways inside ts =
     Then generic_name (λ x us. IsFull NextTypeParam 0 us) ts
     ⊎ (Then enum_heading (λ x us. IsFull NextConstant 0 us) ts
     ⊎ (((k : TypeKind) × Then (open_type k) (MemberFull inside k) ts)
-    ⊎ ((x : TypeRest) × IsPhrase type_rest ts x × (most < declared_children x))))
+    ⊎ ((x : TypeRest) × IsPhrase type_rest ts x × (max_children < declared_children x))))
 
 opened-up : (h : ℕ) (ts : List Symbol) → TypeFull (suc h) ts → Ways (TypeFull h) ts
 unfolding TypeFull
@@ -341,7 +342,7 @@ type-decided (suc n) ts less = same-decided (to-full ts) (λ full. from-full ful
     (or-decided (kinds-decided (λ k. Then (open_type k) (MemberFull Full k) ts) (λ k. then-decided (open_type k) (plain-sound (open_type k) (plain-of k).open_type-plain) (MemberFull Full k) ts
     (λ us vs m e is. member-decided Full k m vs (λ xs ys s.
     type-decided n ys (omega (arith, less, ap length e, length-append us vs, ap length s, length-append xs ys, some-opened k us m is))))))
-    (meaning-decided type_rest (plain-sound type_rest plain-forms.type_rest-plain) (λ x. most < declared_children x) ts (λ x is. less-decided most (declared_children x))))))
+    (meaning-decided type_rest (plain-sound type_rest plain-forms.type_rest-plain) (λ x. max_children < declared_children x) ts (λ x is. less-decided max_children (declared_children x))))))
 
 -- ---- a file
 

@@ -1,6 +1,7 @@
 -- Each file reads as something, and as one thing.
 use Rattle.std.proofs.Common.{◌≡◌, ℕ, Bool, true, false, List, length, Result, Ok, Err, inl, inr, refl, sym, ap, subst, ◌∙◌}
 use Rattle.apt_base.specs.declared.kinds.What.TheVariants as limits
+use Rattle.apt_base.specs.Limits.{max_depth}
 use Rattle.decl_grammar.specs.declared.symbol.Symbol.{Symbol}
 use Rattle.decl_grammar.specs.Reading.{Outcome, done, fault, deep}
 use Rattle.decl_grammar.specs.Form.{Form}
@@ -14,7 +15,7 @@ use Rattle.decl_parser.specs.declared.parsing.FileFault.TheVariants as faults
 use Rattle.decl_limits.specs.Units.{Declared, units_of, info_units}
 use Rattle.decl_limits.specs.Names.{is_named, info_named}
 use Rattle.decl_limits.specs.Children.{IsCrowded}
-use Rattle.decl_limits.specs.Limits.{limit, IsWhole}
+use Rattle.decl_limits.specs.Limits.{IsWhole}
 use Rattle.decl_parser.specs.Parsed.{offset_at, shown_answer, SameAnswer, Answers, gives, bad, too_deep, too_many, too_long, NoChildren, is_info, AnswersSymbols, AnswersFile, text_bad, by_symbols, text_memory}
 use Rattle.file_answers.specs.Flaws.{Bad, TooLarge, Reading, Comes, ReadsAs}
 use Rattle.file_answers.proofs.Decided.{Decided}
@@ -37,21 +38,21 @@ module _ {A : Type 0} (f : Form A) (sound : IsSound f) (units : A → Declared) 
   whole-reads x whole (inl full) = (Err (TooLarge limits.Children), too_many ts refl (inl (refl, (x, whole))) full)
   whole-reads x whole (inr few) = by_name x whole few (named x) refl
 
-  fault-reads : (us at : List Symbol) → IsFirstFault f limit ts us at → Decided (crowded us) → Reads
+  fault-reads : (us at : List Symbol) → IsFirstFault f max_depth ts us at → Decided (crowded us) → Reads
   fault-reads us at first (inl full) = (Err (TooLarge limits.Children), too_many us refl (inr (inl (at, first))) full)
   fault-reads us at first (inr few) = (Err (Bad (offset_at 0 at end)), bad us at (offset_at 0 at end) refl first refl few)
 
-  deep-reads : (us : List Symbol) (t : Symbol) (vs : List Symbol) → IsFirstDeep f limit ts us t vs → Decided (crowded us) → Reads
+  deep-reads : (us : List Symbol) (t : Symbol) (vs : List Symbol) → IsFirstDeep f max_depth ts us t vs → Decided (crowded us) → Reads
   deep-reads us t vs first (inl full) = (Err (TooLarge limits.Children), too_many us refl (inr (inr (t, vs, first))) full)
   deep-reads us t vs first (inr few) = (Err (TooLarge limits.Depth), too_deep us t vs refl first few)
 
-  by_outcome : (o : Outcome A) → phrase_at limit f ts ≡ o → Reads
-  by_outcome (done x rest) e = whole-reads x (phrase-found f limit ts x rest e, phrase-shallow f sound limit ts x rest e) (decided ts)
-  by_outcome (fault at) e = let p = phrase-fault f sound limit ts at e in fault-reads p.0 at p.1 (decided p.0)
-  by_outcome (deep at) e = let p = phrase-deep f sound limit ts at e in deep-reads p.0 p.1 p.2 p.4 (decided p.0)
+  by_outcome : (o : Outcome A) → phrase_at max_depth f ts ≡ o → Reads
+  by_outcome (done x rest) e = whole-reads x (phrase-found f max_depth ts x rest e, phrase-shallow f sound max_depth ts x rest e) (decided ts)
+  by_outcome (fault at) e = let p = phrase-fault f sound max_depth ts at e in fault-reads p.0 at p.1 (decided p.0)
+  by_outcome (deep at) e = let p = phrase-deep f sound max_depth ts at e in deep-reads p.0 p.1 p.2 p.4 (decided p.0)
 
   symbols-read : Reads
-  symbols-read = by_outcome (phrase_at limit f ts) refl
+  symbols-read = by_outcome (phrase_at max_depth f ts) refl
 
 no-children : (us : List Symbol) → Decided (NoChildren us)
 no-children us = inr (λ none. none)

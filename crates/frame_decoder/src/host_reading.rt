@@ -94,7 +94,7 @@ fn options(alloc: Global, reader: &mut FieldReader<'_>) -> Result<List<(Name, Na
 
 // ---- frames
 
-/// The fields of Init that stand next. It is Bad where they are none, and Memory for want of memory.
+/// The fields of Init that stand next. It is Bad where they are none, and Memory when memory runs out.
 #[tactic(auto, unfolding(crate::specs::HostReadings::init_next))]
 pub(crate) fn read_init(alloc: Global, reader: &mut FieldReader<'_>) -> Result<Frame, FormFault>
     ensures { Gives result (init_next reader.old) reader.new }
@@ -109,7 +109,7 @@ pub(crate) fn read_init(alloc: Global, reader: &mut FieldReader<'_>) -> Result<F
     }))
 }
 
-/// The fields of Round that stand next. It is Bad where they are none, and Memory for want of memory.
+/// The fields of Round that stand next. It is Bad where they are none, and Memory when memory runs out.
 #[tactic(auto, unfolding(crate::specs::HostReadings::round_next))]
 pub(crate) fn read_round(alloc: Global, reader: &mut FieldReader<'_>) -> Result<Frame, FormFault>
     ensures { Gives result (round_next reader.old) reader.new }

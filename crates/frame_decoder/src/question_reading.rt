@@ -207,7 +207,7 @@ fn declared_type(alloc: Global, reader: &mut FieldReader<'_>) -> Result<Question
     Ok(Question::DeclaredType { element, arguments })
 }
 
-/// The question with this tag whose fields stand next. It is Bad where they are not the tag's fields, and for a tag that no question has, and Memory for want of memory.
+/// The question with this tag whose fields stand next. It is Bad where they are not the tag's fields, and for a tag that no question has, and Memory when memory runs out.
 pub(crate) fn read_question(
     alloc: Global,
     tag: u8,

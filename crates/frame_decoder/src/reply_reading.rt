@@ -157,7 +157,7 @@ fn refused_reply(reader: &mut FieldReader<'_>) -> Result<Reply, FormFault>
     Ok(Reply::Refused(why))
 }
 
-/// The reply with this tag whose fields stand next. It is Bad where they are not the tag's fields, and for a tag that no reply has, and Memory for want of memory.
+/// The reply with this tag whose fields stand next. It is Bad where they are not the tag's fields, and for a tag that no reply has, and Memory when memory runs out.
 pub(crate) fn read_reply(
     alloc: Global,
     tag: u8,

@@ -42,7 +42,7 @@ front_scan-cons count byte rest = go (cases_lt (length rest) count)
         let there : ltb (length (byte ∷ rest)) (suc count) ≡ false = le-ltb _ _ (omega (arith, le)) in
         rw (here, there) refl
 
--- What hangs on gathered bytes, and on the bytes from the last one of them on.
+-- What depends on gathered bytes, and on the bytes from the last one of them on.
 pub front_gathered : (front : List ℕ) (more : ℕ) (g : List ℕ → List ℕ → Reading) (bytes : List ℕ)
     → and_then (front_scan (suc more) bytes) (λ run behind. g (front ++ run) (drop more bytes) behind) ≡ gathered front more (λ f last behind. g (f ++ last ∷ []) (last ∷ behind) behind) bytes
 unfolding gathered

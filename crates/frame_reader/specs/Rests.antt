@@ -41,7 +41,7 @@ then_read first next = and_then first (λ done rest. next rest)
 
 -- ---- bytes that belong together
 
--- One byte and this many more. What comes next hangs on them: on those that were there before the last one, on the last one, and on the bytes behind.
+-- One byte and this many more. What comes next depends on them: on those that were there before the last one, on the last one, and on the bytes behind.
 unfoldable pub gathered : List ℕ → ℕ → (List ℕ → ℕ → Reading) → Reading
 gathered front more next [] = begun
 gathered front zero next (byte ∷ rest) = next front byte rest

@@ -17,7 +17,7 @@ pub enum Found {
     },
 }
 
-/// Want of memory in the midst of a piece.
+/// Out of memory in the midst of a piece.
 #[derive(Clone, Copy, Debug, PartialEq, Eq)]
 pub struct Interrupted {
     /// How many bytes of the piece were taken.

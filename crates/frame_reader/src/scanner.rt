@@ -82,7 +82,7 @@ impl FrameScanner {
         self.bytes.as_slice()
     }
 
-    /// Takes the next byte of the stream, while no frame is whole and no byte is bad. It fails only for want of memory, and the scanner is then as it was.
+    /// Takes the next byte of the stream, while no frame is whole and no byte is bad. It fails only when memory runs out, and the scanner is then as it was.
     pub fn take(&mut self, byte: u8) -> Result<(), NoMemory>
         ensures ok { OnOk result (self.new ≡ fed self.old byte) }
         ensures err { OnErr result (self.new ≡ self.old) }
@@ -140,7 +140,7 @@ impl FrameScanner {
 
     /// Takes the bytes of a piece, up to the end of the first frame or to the first bad byte, and gives how many it took. The others are for the next call, behind `release`. Texts and contents are copied at once, as far as they are in the piece; no memory is taken for bytes that have not come.
     ///
-    /// It fails only for want of memory. The scanner has then taken the bytes that `Interrupted` counts, as far as there was memory for them, and a frame is begun; those behind them are for the next call.
+    /// It fails only when memory runs out. The scanner has then taken the bytes that `Interrupted` counts, as far as there was memory for them, and a frame is begun; those behind them are for the next call.
     pub fn feed(&mut self, piece: &[u8]) -> Result<usize, Interrupted>
         ensures within { taken_of result ≤ length piece.now }
         ensures bytes { self.new ≡ self.old ++ take (taken_of result) piece.now }

@@ -22,7 +22,7 @@ pub enum ReadFault {
         /// What is wrong with it.
         kind: BadKind,
     },
-    /// Want of memory.
+    /// Out of memory.
     Memory,
 }
 
@@ -57,7 +57,7 @@ fn copy_answer(
 }
 
 impl Progress {
-    /// An equal progress. It fails only for want of memory.
+    /// An equal progress. It fails only when memory runs out.
     pub fn copy(&self, alloc: Global) -> Result<Progress, NoMemory>
         ensures { IfOk result (λ progress. progress ≡ self.now) }
     {
@@ -99,7 +99,7 @@ impl Reader {
 
     /// Takes the next byte of the stream, and gives the frame that it ends: None while the bytes since the last frame begin one and none of them is bad.
     ///
-    /// `Bad` comes exactly where this byte is the first bad one by the table of all frames, the fourth byte of a length out of range among them; from then on each call answers the same. `Memory` is want of memory, and the reader is then as it was.
+    /// `Bad` comes exactly where this byte is the first bad one by the table of all frames, the fourth byte of a length out of range among them; from then on each call answers the same. `Memory` is out of memory, and the reader is then as it was.
     pub fn feed(&mut self, byte: u8) -> Result<Option<Frame>, ReadFault>
         ensures { Comes result self.old (fed self.old byte) self.new }
     {
@@ -108,7 +108,7 @@ impl Reader {
 
     /// Takes bytes of the stream up to the first one that ends a frame or is bad, and gives how many it took with what `feed` answers the last one. The bytes behind it are for the next call.
     ///
-    /// The outcome is that of feeding the bytes one by one; a text or the content of a file is copied at once, as far as it is there, and no memory is taken for bytes that have not come. After a bad byte no byte is taken, and each call answers the same. `Memory` is want of memory: those that are counted were taken, and the others can be fed again.
+    /// The outcome is that of feeding the bytes one by one; a text or the content of a file is copied at once, as far as it is there, and no memory is taken for bytes that have not come. After a bad byte no byte is taken, and each call answers the same. `Memory` is out of memory: those that are counted were taken, and the others can be fed again.
     pub fn feed_slice(&mut self, bytes: &[u8]) -> Progress
         ensures within { result.taken ≤ length bytes.now }
         ensures comes { ComesOf result.answer result.taken bytes.now self.old self.new }

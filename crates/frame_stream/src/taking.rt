@@ -83,7 +83,7 @@ fn take_next(
     }
 }
 
-/// Takes the next byte of a stream. A whole frame that stands was not given for want of memory: it is taken anew, up to its last byte.
+/// Takes the next byte of a stream. A whole frame that stands was not given because memory ran out: it is taken anew, up to its last byte.
 pub(crate) fn take_byte(
     alloc: Global,
     scanner: &mut FrameScanner,
@@ -141,7 +141,7 @@ fn take_front(alloc: Global, scanner: &mut FrameScanner, bytes: &[u8]) -> Progre
     }
 }
 
-/// Takes bytes of a stream up to the first one that ends a frame or is bad. A whole frame that stands was not given for want of memory: it is taken anew, up to its last byte.
+/// Takes bytes of a stream up to the first one that ends a frame or is bad. A whole frame that stands was not given because memory ran out: it is taken anew, up to its last byte.
 pub(crate) fn take_slice(alloc: Global, scanner: &mut FrameScanner, bytes: &[u8]) -> Progress
     ensures within { result.taken ≤ length bytes.now }
     ensures comes { ComesOf result.answer result.taken bytes.now (pending scanner.old) (pending scanner.new) }

@@ -2,6 +2,7 @@
 use Rattle.std.proofs.Common.{◌≡◌, ℕ, ◌+◌, ◌<◌, ◌≤◌, Bool, List, [], ◌∷◌, ◌++◌, length, take, drop, cond, slice_index, string_bytes, Option, None, Some, Ok, refl, sym, ap, subst, arith}
 use Rattle.std.proofs.lemmas.Str.{IsUtf8-string_bytes, encodes-chars}
 use Rattle.std.specs.Str.{chars, IsUtf8}
+use Rattle.apt_base.specs.Limits.{max_file_bytes}
 use Rattle.java_tokens.specs.declared.token.TokenKind.{TokenKind}
 use Rattle.java_tokens.specs.declared.chars.Chars.{Chars}
 use Rattle.java_tokens.specs.declared.token_reader.TokenReader.{TokenReader}
@@ -27,7 +28,7 @@ pub record IsPassed (rest text back : List ℕ) (w width width' line line' : ℕ
 pub begun_behind : (read : Chars) (ts : List Lexeme) (reader : TokenReader) → HasRead read ts reader → IsBehind read ts reader.rest.now reader.place.width reader.place.line reader.place.after_return None
 begun_behind read ts reader has = (has.before, has.lexing)
 
-pub behind_near : (read : Chars) (ts : List Lexeme) (rest : List ℕ) (width line : ℕ) (r : Bool) (doc : Option (List ℕ)) → IsBehind read ts rest width line r doc → (width + length rest ≤ 8388608) × (line ≤ width + 1)
+pub behind_near : (read : Chars) (ts : List Lexeme) (rest : List ℕ) (width line : ℕ) (r : Bool) (doc : Option (List ℕ)) → IsBehind read ts rest width line r doc → (width + length rest ≤ max_file_bytes) × (line ≤ width + 1)
 behind_near read ts rest width line r doc (before, lexing) =
     let far = lexing_far _ _ _ _ _ _ _ _ _ lexing in
     (omega (arith, lexing.total, ap length (encodes-chars (string_bytes read.text) (IsUtf8-string_bytes read.text)), read.small), omega (arith, far.0, far.1))

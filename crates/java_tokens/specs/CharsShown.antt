@@ -46,7 +46,7 @@ AreWithin most shifts = All (λ s. s.by ≤ most) shifts
 abbrev pub HasRead : ℕ → List ℕ → Read → Type 0
 HasRead slashes text read = HasChar slashes text read.width read.code
 
--- what a fault says of its place; want of memory says nothing
+-- what a fault says of its place; out of memory says nothing
 abbrev pub FaultAt : (ℕ → Type 0) → TextFault → Type 0
 FaultAt P (Bad place) = P place
 FaultAt P Memory = ⊤

@@ -12,7 +12,7 @@ use Rattle.java_tokens.specs.Table.{bytes_of}
 use Rattle.java_tokens.specs.Tokens.{Element, Reads, Lexeme, tokens_from, line_at, returns}
 use Rattle.java_tokens.specs.TokensShown.{codes_in, offsets_in, shown_token, AreTokensIn, IsTokenFaultIn}
 
--- So many characters of a text were read, in so many bytes, and what is left begins in this line. They are whole tokens and separators; these are the tokens, and this is the last doc comment
+-- This many characters of a text were read, in this many bytes, and what is left begins in this line. They are whole tokens and separators; these are the tokens, and this is the last doc comment
 -- behind them.
 pub record IsLexing (all offsets rest : List ℕ) (before width line : ℕ) (after_return : Bool) (doc : Option (List ℕ)) (tokens : List Lexeme) : Type 0 where
   pub within : before ≤ length all

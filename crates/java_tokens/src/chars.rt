@@ -1,6 +1,7 @@
 // The characters of a file with their offsets.
 ghost use Rattle.std.specs.Prelude.{ℕ, List, ◌≡◌, ◌≤◌, ◌<◌, ◌/◌, length, string_bytes, slice_get, IfSome, IfOk, MatchResult};
 ghost use Rattle.std.specs.Str.{chars};
+ghost use Rattle.apt_base.specs.Limits.{max_file_bytes};
 ghost use Rattle.java_tokens.specs.CharsShown.{places_from, Ascend, AreWithin};
 
 use crate::shift::{Shift, shift_at};
@@ -14,8 +15,8 @@ pub struct Chars {
     /// How far their offsets are beyond their places in the text: one behind each escape, and so none in a file without.
     pub shifts: Vec<Shift>,
     ghost ascending: { Ascend shifts.items },
-    ghost within: { AreWithin 8_388_608 shifts.items },
-    ghost small: { length (string_bytes text) ≤ 8_388_608 },
+    ghost within: { AreWithin max_file_bytes shifts.items },
+    ghost small: { length (string_bytes text) ≤ max_file_bytes },
 }
 
 impl Chars {
@@ -37,7 +38,7 @@ impl Chars {
         Some(place + shift_at(self.shifts.as_slice(), place))
     }
 
-    /// Equal characters. It fails only for want of memory.
+    /// Equal characters. It fails only when memory runs out.
     pub fn copy(&self, alloc: Global) -> Result<Chars, AllocError>
         ensures text { IfOk result (λ chars. string_bytes chars.text ≡ string_bytes self.now.text) }
         ensures shifts { IfOk result (λ chars. chars.shifts.items ≡ self.now.shifts.items) }
@@ -51,7 +52,7 @@ impl Chars {
 
 // The place in a text of the character with this number.
 fn place_of(text: &str, at: u32) -> Option<u32>
-    requires { length text.now ≤ 8_388_608 }
+    requires { length text.now ≤ max_file_bytes }
     ensures place { result ≡ slice_get (places_from 0 (chars text.now)) at }
     ensures within { IfSome result (λ place. place ≤ length text.now) }
 {

@@ -1,5 +1,6 @@
 // Reads the characters of a file (JLS 3.3).
 ghost use Rattle.std.specs.Prelude.{ℕ, List, ◌≤◌, ◌<◌, ◌/◌, ◌≡◌, length};
+ghost use Rattle.apt_base.specs.Limits.{max_file_bytes};
 ghost use Rattle.java_tokens.specs.Characters.{Placed, IsDecided, AreChars, IsCharFault, slashes_after};
 ghost use Rattle.java_tokens.specs.TokensShown.{Reads, ReadsOnly, FaultsOnly};
 
@@ -11,10 +12,10 @@ use memchr::memmem;
 use std::alloc::Global;
 
 /// The characters of a file (JLS 3.3), or `Bad` with the offset of the first escape or UTF-8 sequence at which none goes on.
-/// A malformed escape and a lone surrogate are bad at their `\`. `Memory` comes for want of memory alone. Taken are as many
+/// A malformed escape and a lone surrogate are bad at their `\`. `Memory` comes only when memory runs out. Taken are as many
 /// bytes as the file has, and eight for each `\u` in it, but no more than eight for six of its bytes, which no clause says.
 pub fn read_chars(alloc: Global, bytes: &[u8]) -> Result<Chars, TextFault>
-    requires { length bytes.now ≤ 8_388_608 }
+    requires { length bytes.now ≤ max_file_bytes }
     ensures chars { Reads bytes.now result }
     ensures list { (all : List Placed) → AreChars bytes.now all → ReadsOnly all result }
     ensures decided { IsDecided bytes.now }
@@ -60,7 +61,7 @@ fn most_escapes(bytes: &[u8]) -> usize
 
 // How many `\` stand directly before what follows a character that is spelled so.
 fn count_slashes(slashes: usize, spelling: &[u8]) -> usize
-    requires { slashes < 8_388_608 }
+    requires { slashes < max_file_bytes }
     ensures { result ≡ slashes_after slashes spelling.now }
 {
     if spelling == [b'\\'].as_slice() {

@@ -8,7 +8,7 @@ use crate::{Chars, TextFault, Token};
 use std::alloc::Global;
 
 /// The tokens of these characters, or `Bad` with the offset in the file of the first token or separator at which no
-/// list of them goes on. `Memory` comes for want of memory alone. The time is linear in the text, which no clause
+/// list of them goes on. `Memory` comes only when memory runs out. The time is linear in the text, which no clause
 /// says. Memory is taken for the list alone.
 pub fn tokens<'a>(alloc: Global, chars: &'a Chars) -> Result<Vec<Token<'a>>, TextFault>
     ensures tokens { Lexes chars.now result }

@@ -9,7 +9,7 @@
 //!
 //! `TokenReader` gives the same tokens one after another, for who needs no list of them.
 //!
-//! Each file has exactly one list or one place. Want of memory alone is answered in the place of it. Nothing is
+//! Each file has exactly one list or one place. Out of memory alone is answered in the place of it. Nothing is
 //! promised of values of literals: a literal, a text block too, is its characters.
 #![tactic(auto)]
 

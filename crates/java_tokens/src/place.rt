@@ -1,6 +1,7 @@
 // Where a character stands.
 ghost use Rattle.std.specs.Prelude.{ℕ, ◌≡◌, ◌+◌, ◌≤◌, length, slice_index, if◌then◌else◌};
 ghost use Rattle.std.specs.Str.{chars as codes_of};
+ghost use Rattle.apt_base.specs.Limits.{max_file_bytes};
 ghost use Rattle.java_tokens.specs.Tokens.{ends_line, line_ends, returns};
 ghost use Rattle.java_tokens.specs.TokensShown.{IsCharAt, offsets_in};
 
@@ -20,7 +21,7 @@ pub struct Place {
 
 /// The place behind a text. No byte of a character beyond ASCII is a line end, so bytes are looked at in place of characters.
 pub fn place_after(place: Place, text: &str) -> Place
-    requires narrow { place.width + length text.now ≤ 8_388_608 }
+    requires narrow { place.width + length text.now ≤ max_file_bytes }
     requires line { place.line ≤ place.width + 1 }
     ensures width { result.width ≡ place.width + length text.now }
     ensures line { result.line ≡ place.line + line_ends place.after_return (codes_of text.now) }
@@ -53,7 +54,7 @@ fn line_end(after_return: bool, byte: u8) -> u32
 
 /// The offset in the file of the character behind this many bytes.
 pub fn offset_at(chars: &Chars, width: usize) -> u32
-    requires { width ≤ 8_388_608 }
+    requires { width ≤ max_file_bytes }
     ensures { (n : ℕ) → IsCharAt chars.now n width → result ≡ slice_index (offsets_in chars.now) n }
 {
     let place = width as u32;

@@ -76,7 +76,7 @@ impl NameIndex {
         self.put(at, names)
     }
 
-    /// Adds a name to the set at a name, or leaves the index as it was for want of memory.
+    /// Adds a name to the set at a name, or leaves the index as it was when memory runs out.
     pub fn add(&mut self, at: &str, name: &str) -> Result<(), NoMemory>
         ensures ok { OnOk result (self.new ≡ with_name_at self.old at.now name.now) }
         ensures err { OnErr result (self.new ≡ self.old) }

@@ -1,6 +1,7 @@
 // What is declared at a place.
 ghost use Rattle.std.specs.Prelude.{◌≡◌, ◌≤◌, length, IfOk};
 ghost use Rattle.std.specs.Option.{option_copied};
+ghost use Rattle.apt_base.specs.Limits.{max_children};
 ghost use Rattle.decl_elements.specs.Nodes.{children};
 ghost use Rattle.decl_elements.specs.Shown.{node_of};
 ghost use Rattle.name_resolve.specs.Ways.{declaration_of};
@@ -59,7 +60,7 @@ fn types_at<'a>(
     place: Place<'a>,
     name: &str,
 ) -> Result<Finds<'a>, NoMemory>
-    requires { length (children (node_of place)) ≤ 65535 }
+    requires { length (children (node_of place)) ≤ max_children }
     ensures { IfOk result (λ f. finds_of f ≡ types_here (find_of of.now) name.now (node_of place.entry)) }
 {
     let mut finds = Finds::Nothing;
@@ -100,7 +101,7 @@ fn parameters_at<'a>(
     place: Place<'a>,
     name: &str,
 ) -> Result<Finds<'a>, NoMemory>
-    requires { length (children (node_of place)) ≤ 65535 }
+    requires { length (children (node_of place)) ≤ max_children }
     ensures { IfOk result (λ f. finds_of f ≡ params_here (find_of of.now) name.now (node_of place.entry)) }
 {
     let mut finds = Finds::Nothing;

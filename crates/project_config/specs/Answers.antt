@@ -1,4 +1,4 @@
--- What calls of this crate answer: a value or a fault by the definitions, or want of memory.
+-- What calls of this crate answer: a value or a fault by the definitions, or out of memory.
 use Rattle.std.specs.Prelude.{◌≡◌, Result, Ok, Err}
 use Rattle.project_config.specs.declared.fault.ConfigFault.{ConfigFault}
 use Rattle.project_config.specs.declared.fault.ConfigFault.TheVariants.{Json, Item, ServiceLine, KindLine, TooManyProcessors, UnknownProcessor, Memory}

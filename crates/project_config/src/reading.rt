@@ -84,7 +84,7 @@ pub fn has_order(alloc: Global, file: &Option<List<u8>>) -> Result<bool, NoMemor
 ///
 /// Its items are read in this order: `level`, `order`, `options`, and `processors` with its rows, which ascend by their names, of each first its `command` and then its `version`. Other items are passed over.
 ///
-/// `Json` comes exactly where the bytes are no UTF-8 text that `serde_json` reads as an object, and `Item` exactly where an item is off its form, with the place of the first such item. No other fault comes but want of memory.
+/// `Json` comes exactly where the bytes are no UTF-8 text that `serde_json` reads as an object, and `Item` exactly where an item is off its form, with the place of the first such item. No other fault comes but out of memory.
 pub fn parse_config(alloc: Global, file: &Option<List<u8>>) -> Result<Config, ConfigFault>
     ensures { OrMemory result (config_of file.now) }
 {

@@ -15,7 +15,7 @@ pub data Verdict : Type 0 where
   Refused : (refusal : Refusal) → Verdict
   -- the object failed
   Failed : (object : Object) → Verdict
-  -- want of memory
+  -- out of memory
   Memory : Verdict
 
 -- the place of a fault in a file of the configuration
@@ -53,7 +53,7 @@ stopped stop.Memory = Memory
 
 -- ---- its kinds
 
--- a fault outside or want of memory, which may come at any point
+-- a fault outside or out of memory, which may come at any point
 abbrev pub is_free : Verdict → Bool
 is_free Done = false
 is_free (Errors count) = false
@@ -65,7 +65,7 @@ is_free Memory = true
 abbrev pub OrFree : Verdict → Verdict → Type 0
 OrFree expected v = is_free v ≡ false → v ≡ expected
 
--- this verdict, or want of memory in its place
+-- this verdict, or out of memory in its place
 abbrev pub OrMemory : Verdict → Verdict → Type 0
 OrMemory expected v = (v ≡ expected) ⊎ (v ≡ Memory)
 

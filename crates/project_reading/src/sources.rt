@@ -1,5 +1,6 @@
 // The sources and the stubs of a project: what they read as, and the type tables that their units make.
 ghost use Rattle.std.specs.Prelude.{◌≡◌, ◌≤◌, length, map, IfOk, IfErr, None, false};
+ghost use Rattle.apt_base.specs.Limits.{max_file_bytes};
 ghost use Rattle.tree_store.specs.Sources.{AreShort, AreAllShort};
 ghost use Rattle.project_reading.specs.Verdicts.{verdict, named_in, Refused, OrMemory};
 ghost use Rattle.project_reading.specs.Endings.{EndsEarly};
@@ -83,7 +84,7 @@ fn unread(part: Part, path: Name, fault: ParseFault) -> Status
 }
 
 fn read_source(alloc: Global, part: Part, source: &RawSource) -> Result<ReadSource, Status>
-    requires { length source.now.bytes ≤ 8_388_608 }
+    requires { length source.now.bytes ≤ max_file_bytes }
     ensures read { ComesTo (read_source part source.now) result }
     ensures early { IfErr result (λ status. EndsEarly (λ _. false) (verdict status)) }
     ensures unnamed { IfErr result (λ status. named_in (verdict status) ≡ None) }
@@ -274,7 +275,7 @@ fn named_file(source: RawSource) -> (Name, List<u8>)
     (path, bytes)
 }
 
-/// Files as their paths and their bytes. It fails only for want of memory.
+/// Files as their paths and their bytes. It fails only when memory runs out.
 pub fn named_files(
     alloc: Global,
     sources: List<RawSource>,

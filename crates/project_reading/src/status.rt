@@ -137,7 +137,7 @@ pub enum Status {
         /// The processor's name.
         processor: Name,
     },
-    /// Want of memory.
+    /// Out of memory.
     Memory,
 }
 

@@ -19,6 +19,7 @@ use Rattle.project_units.specs.declared.unit_fault.UnitFault.{UnitFault}
 use Rattle.project_units.specs.declared.unit_fault.UnitFault.TheVariants as code
 use Rattle.project_units.specs.declared.refusal.Refusal as declared
 use Rattle.apt_base.specs.Names.{NameSet, with_name, with_names}
+use Rattle.apt_base.specs.Limits.{max_file_bytes}
 use Rattle.project_units.specs.Refusals.{Refusal, Stop, Refused, Failed, Memory, OrMemory}
 use Rattle.project_units.specs.Units.{Obstacle, Duplicate, Entered, enter_by, enter_unit, and_then, enter_each, enter_units, Gathered, gather, enter_read, created_reading, enter_created, gather_all, ascending}
 use Rattle.project_units.specs.Entering.{Reports, Obstructs, EntersEach, EntersUnits, RefusesAs, of_unread, of_units, Gathers}
@@ -67,13 +68,13 @@ enters_unnamed part table next units fault stands = obstructs_then (enter_each p
 
 module _ (path bytes : List ℕ) where
   -- one that is longer than a file may be
-  pub reading-long : 8388608 < length bytes → created_reading path bytes ≡ Err (TooLarge FileBytes)
-  reading-long long = ap (λ b. cond b (Err (TooLarge FileBytes)) (reading_of path bytes)) (lt-ltb 8388608 (length bytes) long)
+  pub reading-long : max_file_bytes < length bytes → created_reading path bytes ≡ Err (TooLarge FileBytes)
+  reading-long long = ap (λ b. cond b (Err (TooLarge FileBytes)) (reading_of path bytes)) (lt-ltb max_file_bytes (length bytes) long)
 
-  reading-short : length bytes ≤ 8388608 → created_reading path bytes ≡ reading_of path bytes
-  reading-short short = ap (λ b. cond b (Err (TooLarge FileBytes)) (reading_of path bytes)) (le-ltb 8388608 (length bytes) short)
+  reading-short : length bytes ≤ max_file_bytes → created_reading path bytes ≡ reading_of path bytes
+  reading-short short = ap (λ b. cond b (Err (TooLarge FileBytes)) (reading_of path bytes)) (le-ltb max_file_bytes (length bytes) short)
 
-  pub gives-parsed : (parsed : Parsed) → length bytes ≤ 8388608 → Parses (reading_of path bytes) (Ok parsed) → GivesUnits (created_reading path bytes) (Ok parsed.units)
+  pub gives-parsed : (parsed : Parsed) → length bytes ≤ max_file_bytes → Parses (reading_of path bytes) (Ok parsed) → GivesUnits (created_reading path bytes) (Ok parsed.units)
   gives-parsed parsed short is = reading-short short ∙ is
 
   gives_as : (fault : FileFault) → Parses (reading_of path bytes) (Err fault) → GivesUnits (reading_of path bytes) (Err fault)
@@ -81,7 +82,7 @@ module _ (path bytes : List ℕ) where
   gives_as (file.TooLarge limit) is = is
   gives_as file.Memory is = tt
 
-  pub gives-unparsed : (fault : FileFault) → length bytes ≤ 8388608 → Parses (reading_of path bytes) (Err fault) → GivesUnits (created_reading path bytes) (Err fault)
+  pub gives-unparsed : (fault : FileFault) → length bytes ≤ max_file_bytes → Parses (reading_of path bytes) (Err fault) → GivesUnits (created_reading path bytes) (Err fault)
   gives-unparsed fault short is = subst (λ (r : Reading). GivesUnits r (Err fault)) (sym (reading-short short)) (gives_as fault is)
 
 -- ---- and entered, or refused

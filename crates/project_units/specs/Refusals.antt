@@ -66,7 +66,7 @@ pub data Stop : Type 0 where
   Failed : (object : Object) → Stop
   Memory : Stop
 
--- A refusal comes exactly where it is due. A fault outside and want of memory may come at any point.
+-- A refusal comes exactly where it is due. A fault outside and out of memory may come at any point.
 abbrev pub is_refusal : Stop → Bool
 is_refusal (Refused refusal) = true
 is_refusal (Failed object) = false
@@ -98,6 +98,6 @@ Names processor stop = IfSome (named_by stop) (λ name. name ≡ processor)
 abbrev pub NamesAmong : List (List ℕ) → Stop → Type 0
 NamesAmong processors stop = IfSome (named_by stop) (Contains processors)
 
--- this stop, or want of memory in its place
+-- this stop, or out of memory in its place
 abbrev pub OrMemory : Stop → Stop → Type 0
 OrMemory expected stop = (stop ≡ expected) ⊎ (stop ≡ Memory)

@@ -55,7 +55,7 @@ pub enum Refusal {
         /// How much there may be.
         limit: u32,
     },
-    /// Want of memory.
+    /// Out of memory.
     Memory,
 }
 

@@ -14,7 +14,7 @@ pub enum UnitFault {
     },
     /// With the types of one the table would have more than 50,000.
     TooMany,
-    /// Want of memory.
+    /// Out of memory.
     Memory,
 }
 

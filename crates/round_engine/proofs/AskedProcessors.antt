@@ -45,7 +45,7 @@ all_at P [] at lt all = absurd (omega (arith, lt))
 all_at P (k ∷ group) zero lt all = all.0
 all_at P (k ∷ group) (suc at) lt all = all_at P group at (omega (arith, lt)) all.1
 
--- ---- a part of a run that stops for want of memory
+-- ---- a part of a run that stops when memory runs out
 
 pub still_theirs : (d : code_discovered.Discovered) (processors : List Try) (now : State) → Stands d processors now → EachOf IsOf processors d.group now.known
 still_theirs d processors now stands = each-weaker (Serves now.says) IsOf (λ p c serves. serves.is) processors d.group now.known stands.each

@@ -56,7 +56,7 @@ first-next first rest next ready has = elim (here_or_later first rest next has) 
       omega arith
 ]
 
--- the first of those that are left is `next` where `next` is among them
+-- the first of the rest is `next` where `next` is among them
 pub Contains-next : (left : List ℕ) (next : ℕ) → 0 < length left → AreAhead left next → (get_or left 0 0 ≡ next) ↔ Contains left next
 Contains-next [] next some ready = absurd (omega arith)
 Contains-next (first ∷ rest) next some ready = (

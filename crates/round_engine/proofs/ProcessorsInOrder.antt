@@ -96,7 +96,7 @@ module _ (plan : Plan) (i : ℕ) (p : Try) (lt : i < length plan.processors) (is
       begun_refuses plan (take i plan.processors) group supported p (drop (suc i) plan.processors) k0 k at_it (stop_of refusal) new begins,
     )
 
-    -- it said Hello, and was stopped for want of memory
+    -- it said Hello, and was stopped because memory ran out
     pub begun_full : (child : ℕ) (one : Supported) (k1 k2 : State) → SaysHello plan p child one k k1 → Attends child k1 k2 → (refusal : declared.Refusal) → stop_of refusal ≡ stop.Memory
         → BeginsEach plan group k0 k2 (Err refusal)
     begun_full child one k1 k2 hello attends refusal memory = (

@@ -87,7 +87,7 @@ pub record Cleans (plan : Plan) (table : TypeTable) (old new : State) (result : 
   pub comes : ComesOf (run_of old.says plan table) (length plan.processors) result
   pub more : TellsMore (length plan.processors) old new
   pub shown : is_due result ≡ true → ShowsWhole plan.processors (run_of old.says plan table) old new
-  -- also after a fault of the children or want of memory
+  -- also after a fault of the children or out of memory
   pub fronts : ShowsNoMore plan.processors (frames_of (run_of old.says plan table)) old new
 
 -- a fact on which what children say bears, where they tell it; without a processor none is asked

@@ -34,7 +34,7 @@ pub(crate) struct Asked<'a> {
     offered: &'a List<Name>,
 }
 
-// How often a child may ask in a round with these roots. More than fits is answered as want of memory.
+// How often a child may ask in a round with these roots. More than fits is answered as out of memory.
 fn limit_of(roots: &[Name]) -> Result<u32, NoMemory>
     ensures { IfOk result (λ most. most ≡ limit roots.now) }
 {

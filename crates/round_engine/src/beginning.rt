@@ -1,5 +1,6 @@
 // The children of the processors of a run, from their starts to their stops.
 ghost use Rattle.std.specs.Prelude.{◌≡◌, ◌∷◌, ◌++◌, ◌≤◌, true, [], length, map, string_bytes, Contains, IfOk, IfErr, OnOk, OnErr};
+ghost use Rattle.apt_base.specs.Limits.{max_processors};
 ghost use Rattle.apt_outside.specs.Count.{Told};
 ghost use Rattle.apt_outside.specs.Child.{Attends, without};
 ghost use Rattle.project_units.specs.Refusals.{Names, NamesAmong, is_of_hello};
@@ -165,7 +166,7 @@ pub(crate) fn begin_all<C: Children>(
     children: &mut C,
     key: &Key,
 ) -> Result<Discovered, Refusal>
-    requires few { length key.now.processors ≤ 64 }
+    requires few { length key.now.processors ≤ max_processors }
     ensures reason { HasReason (C.faults children.old) (C.faults children.new) result }
     ensures named { IfErr result (λ refusal. NamesAmong (names_in key.now) (stop_of refusal)) }
     ensures hello { IfErr result (λ refusal. is_of_hello (stop_of refusal) ≡ true) }

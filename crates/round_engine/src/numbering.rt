@@ -114,7 +114,7 @@ fn made_file(alloc: Global, path: String, store: u32, bytes: Vec<u8>) -> Result<
 /// The files that were made, ascending by path, each under the least number that is neither taken nor given to an
 /// earlier one.
 ///
-/// It fails only for want of memory. No memory holds 2^32 files, or a path or a file of 2^32 bytes, or as many files
+/// It fails only when memory runs out. No memory holds 2^32 files, or a path or a file of 2^32 bytes, or as many files
 /// as it takes until no number of 32 bits is left; so these too are answered with `NoMemory`.
 pub fn number_files(alloc: Global, taken: &[u32], made: Files) -> Result<List<Made>, NoMemory>
     requires { IsStrictlyIncreasing taken.now }

@@ -1,6 +1,7 @@
 // The clean run over a project.
 ghost use Rattle.std.specs.Prelude.{◌≡◌, ◌≤◌, [], length, IfOk, IfErr};
 ghost use Rattle.std.specs.List.Sorted.{IsStrictlyIncreasing};
+ghost use Rattle.apt_base.specs.Limits.{max_processors};
 ghost use Rattle.apt_outside.specs.Count.{Told};
 ghost use Rattle.project_units.specs.Faults.{HasReason, stop_of};
 ghost use Rattle.round_engine.specs.Clean.{AreNumbered, Closes, Has, NamesProcessor, Starts, Tries, CleansOver};
@@ -107,17 +108,17 @@ fn finish_run(
 /// order, and stopped after the last. A file gets the least number that is neither taken nor an earlier file's; the taken
 /// numbers ascend.
 ///
-/// A fault of the children comes only where their count rose. Want of memory may come at any point, and each other
+/// A fault of the children comes only where their count rose. Out of memory may come at any point, and each other
 /// refusal comes exactly where the run has it (JSR 269, `Processor`, `RoundEnvironment` and `Filer`).
 /// Whatever comes of it, each child that is new is that of its processor, in order, and was sent the first of the frames that the
-/// run sends it and nothing else; but for at most one, where a fault of the children or want of memory came.
+/// run sends it and nothing else; but for at most one, where a fault of the children or out of memory came.
 pub fn clean<C: Children>(
     alloc: Global,
     project: &Project,
     taken: &[u32],
     children: &mut C,
 ) -> Result<Finished, Refusal>
-    requires few { length project.now.key.processors ≤ 64 }
+    requires few { length project.now.key.processors ≤ max_processors }
     requires ascending { IsStrictlyIncreasing taken.now }
     ensures reason { HasReason (C.faults children.old) (C.faults children.new) result }
     ensures starts { Starts project.now.key result (C.state children.old) (C.state children.new) }

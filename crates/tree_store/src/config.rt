@@ -48,7 +48,7 @@ pub struct RawLists {
 }
 
 impl RawLists {
-    /// Equal lists. It fails only for want of memory.
+    /// Equal lists. It fails only when memory runs out.
     pub fn copy(&self, alloc: Global) -> Result<RawLists, NoMemory>
         ensures { IfOk result (λ lists. lists ≡ self.now) }
     {

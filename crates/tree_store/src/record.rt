@@ -24,7 +24,7 @@ pub struct StoredFile {
 }
 
 impl StoredFile {
-    /// An equal entry. It fails only for want of memory.
+    /// An equal entry. It fails only when memory runs out.
     pub fn copy(&self) -> Result<StoredFile, NoMemory>
         ensures { IfOk result (λ file. file ≡ self.now) }
     {

@@ -64,7 +64,7 @@ pub struct RawSource {
 }
 
 impl RawSource {
-    /// An equal file. It fails only for want of memory.
+    /// An equal file. It fails only when memory runs out.
     pub fn copy(&self, alloc: Global) -> Result<RawSource, NoMemory>
         ensures { IfOk result (λ source. source ≡ self.now) }
     {
@@ -95,7 +95,7 @@ pub struct RawSources {
 }
 
 impl RawSources {
-    /// Equal files. It fails only for want of memory.
+    /// Equal files. It fails only when memory runs out.
     pub fn copy(&self, alloc: Global) -> Result<RawSources, NoMemory>
         ensures { IfOk result (λ sources. sources ≡ self.now) }
     {

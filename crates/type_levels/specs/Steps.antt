@@ -32,11 +32,7 @@ without_step (Arguments questions) = Open
 without_step (Supertypes []) = No
 without_step (Supertypes (s ∷ types)) = Open
 
--- whether `a` is below `b` within so many steps
+-- whether `a` is below `b` within this many steps
 unfoldable pub sub_within : {M : Type 0} → (M → M → Next M) → ℕ → M → M → Answer
 sub_within next zero a b = without_step (next a b)
 sub_within next (suc n) a b = with_step (sub_within next n) b (next a b)
-
--- a question that is open with so many steps is too deep
-abbrev pub all_steps : ℕ
-all_steps = 64

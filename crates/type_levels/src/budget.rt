@@ -16,7 +16,7 @@ impl Budget {
         Budget { left: MOST_NAMED }
     }
 
-    /// Takes so much; want of memory where less is left.
+    /// Takes so much; out of memory where less is left.
     pub fn take(&mut self, named: usize) -> Result<(), NoMemory> {
         if named > self.left {
             return Err(NoMemory);

@@ -12,7 +12,7 @@ pub trait Relation<T> {
 
     ghost seen: { Self → T → Numbered Self.Type };
 
-    /// What a question asks next. Types that it names may be numbered on the way, also where it ends for want of memory.
+    /// What a question asks next. Types that it names may be numbered on the way, also where it ends when memory runs out.
     fn next(&self, types: &mut T, pair: Pair) -> Result<Next, NoMemory>
         requires known { AreKnown (seen self.now types.old) pair }
         ensures next { IfOk result (AsksNext (seen self.now) types.old types.new pair) }

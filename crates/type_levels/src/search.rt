@@ -1,7 +1,7 @@
 // The search by levels of questions: a level is the set of questions that the level before asks, and the answers come from the last level back.
 ghost use Rattle.std.specs.Prelude.{◌≡◌, IfOk};
 ghost use Rattle.std.specs.List.{AllByRecursion};
-ghost use Rattle.type_levels.specs.Steps.{all_steps};
+ghost use Rattle.apt_base.specs.Limits.{max_type_steps};
 ghost use Rattle.type_levels.specs.Numbered.{AreKnown, Keeps};
 ghost use Rattle.type_levels.specs.Levels.{AllAsk, AreAnswers, answer_at};
 
@@ -11,14 +11,11 @@ use crate::budget::Budget;
 use crate::level_answers::{look, with_step, without_step};
 use crate::question::Pair;
 use crate::relation::Relation;
-use apt_base::NoMemory;
+use apt_base::{MAX_TYPE_STEPS, NoMemory};
 use std::alloc::Global;
 
 /// The steps within which most questions are settled.
 const FEW_STEPS: u32 = 8;
-
-/// A question that is open with so many steps is too deep.
-const ALL_STEPS: u32 = 64;
 
 // What each question of a level asks next.
 fn all_next<T, R: Relation<T>>(
@@ -44,7 +41,7 @@ fn all_next<T, R: Relation<T>>(
     Ok(steps)
 }
 
-/// The answers to the questions of a level within so many steps, in their order.
+/// The answers to the questions of a level within this many steps, in their order.
 fn answers<T, R: Relation<T>>(
     alloc: Global,
     relation: &R,
@@ -68,7 +65,7 @@ fn answers<T, R: Relation<T>>(
     Ok(level)
 }
 
-// The answer to one question within so many steps.
+// The answer to one question within this many steps.
 fn answer_within<T, R: Relation<T>>(
     alloc: Global,
     relation: &R,
@@ -89,7 +86,7 @@ fn answer_within<T, R: Relation<T>>(
 
 /// Whether the first type is below the second one by the relation, within 64 steps. What eight steps settle is settled.
 ///
-/// Want of memory comes also where the questions of a search would name more than 65,536 arguments and supertypes.
+/// Out of memory comes also where the questions of a search would name more than 65,536 arguments and supertypes.
 pub fn related<T, R: Relation<T>>(
     alloc: Global,
     relation: &R,
@@ -97,12 +94,12 @@ pub fn related<T, R: Relation<T>>(
     pair: Pair,
 ) -> Result<Answer, NoMemory>
     requires known { AreKnown (R.seen relation.now types.old) pair }
-    ensures answer { IfOk result (λ r. r ≡ answer_at (R.seen relation.now types.old) all_steps pair) }
+    ensures answer { IfOk result (λ r. r ≡ answer_at (R.seen relation.now types.old) max_type_steps pair) }
     ensures grows { Keeps (R.seen relation.now) types.old types.new }
 {
     match answer_within(alloc, relation, types, FEW_STEPS, pair)? {
         Answer::Yes => Ok(Answer::Yes),
         Answer::No => Ok(Answer::No),
-        Answer::Open => answer_within(alloc, relation, types, ALL_STEPS, pair),
+        Answer::Open => answer_within(alloc, relation, types, MAX_TYPE_STEPS, pair),
     }
 }

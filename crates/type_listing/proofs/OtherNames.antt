@@ -3,10 +3,10 @@ use Rattle.std.proofs.Common.{◌≡◌, ℕ, Bool, true, false, not, ◌&&◌, 
 use Rattle.std.specs.Str.{bytes_eq}
 use Rattle.apt_base.specs.Elements.{same_element}
 use Rattle.apt_base.specs.declared.element.ElementRef.{ElementRef}
+use Rattle.apt_base.specs.Limits.{max_type_steps}
 use Rattle.element_table.specs.TypeTable.{TypeTable}
 use Rattle.type_levels.specs.Answers.{of_test, either, both}
 use Rattle.type_levels.specs.declared.answer.Answer.TheVariants.{No}
-use Rattle.type_levels.specs.Steps.{all_steps}
 use Rattle.type_elements.specs.MemberElements.{MemberName, FieldName, TypeName, MethodName, OfConstructor, NoName, member_name, same_method_name, are_namesakes, is_static, is_private, package_allows}
 use Rattle.type_listing.specs.Namesakes.{name_key, OthersAreNotDisplaced}
 use Rattle.type_overriding.specs.Overrides.{is_of_interface, is_below_both, has_subsignature, overrides}
@@ -51,7 +51,7 @@ module _ (table : TypeTable) (t m c : ElementRef) (other : bytes_eq (name_key (m
   hides_no_method : hides_method table t m c ≡ No
   hides_no_method =
       let e : (is_static table m && are_namesakes table m c) ≡ false = ap (λ b. is_static table m && b) no_namesakes ∙ and_false (is_static table m) in
-      λ i. both (of_test (e i)) (has_subsignature table all_steps t m c)
+      λ i. both (of_test (e i)) (has_subsignature table max_type_steps t m c)
 
   overrides_none : (n : ℕ) → overrides table n m c t ≡ No
   unfolding overrides
@@ -65,4 +65,4 @@ pub others_stay : OthersAreNotDisplaced
 unfolding displaces
 others_stay table t m c other =
     λ i. either (of_test (hides_no_other (member_name table m) (member_name table c) other i))
-    (either (hides_no_method table t m c other i) (overrides_none table t m c other all_steps i))
+    (either (hides_no_method table t m c other i) (overrides_none table t m c other max_type_steps i))

@@ -5,11 +5,11 @@ use Rattle.std.specs.Option.{option_and_then}
 use Rattle.std.specs.Str.{bytes_eq}
 use Rattle.apt_base.specs.Elements.{same_element}
 use Rattle.apt_base.specs.declared.element.ElementRef.{ElementRef}
+use Rattle.apt_base.specs.Limits.{max_type_steps}
 use Rattle.element_table.specs.TypeTable.{TypeTable}
 use Rattle.type_levels.specs.Answers.{of_test, either, both, any}
 use Rattle.type_levels.specs.declared.answer.Answer.{Answer}
 use Rattle.type_levels.specs.declared.answer.Answer.TheVariants.{Yes, Open, No}
-use Rattle.type_levels.specs.Steps.{all_steps}
 use Rattle.type_relations.specs.Named.{header_types}
 use Rattle.type_elements.specs.MemberElements.{MemberName, FieldName, TypeName, member_name, are_namesakes, is_constructor, is_private, is_static, package_allows, enclosed, class_elements}
 use Rattle.type_overriding.specs.Overrides.{has_subsignature, overrides}
@@ -29,13 +29,13 @@ hides_by_name _ _ = false
 -- a static method hides the methods of which it has a subsignature (JLS 8.4.8.2)
 abbrev pub hides_method : TypeTable → ElementRef → ElementRef → ElementRef → Answer
 hides_method table t m c =
-    both (of_test (is_static table m && are_namesakes table m c)) (has_subsignature table all_steps t m c)
+    both (of_test (is_static table m && are_namesakes table m c)) (has_subsignature table max_type_steps t m c)
 
 -- `m` hides or overrides `c` in the type `t`
 unfoldable pub displaces : TypeTable → ElementRef → ElementRef → ElementRef → Answer
 displaces table t m c =
     either (of_test (hides_by_name (member_name table m) (member_name table c)))
-    (either (hides_method table t m c) (overrides table all_steps m c t))
+    (either (hides_method table t m c) (overrides table max_type_steps m c t))
 
 -- ---- the list
 

@@ -19,7 +19,7 @@ closed_from levels list n = if nat_le levels n then Some list else None
 pub record AreMembers (table : TypeTable) (at : ElementRef) (known : KnownMembers) : Type 0 where
   pub within : (n : ℕ) → members table n at ≡ closed_from known.levels known.list n
 
--- what is known of the members of a type within so many levels; nothing where they are open
+-- what is known of the members of a type within this many levels; nothing where they are open
 abbrev pub AreKnownWithin : TypeTable → ElementRef → ℕ → Option KnownMembers → Type 0
 AreKnownWithin table at levels None = members table levels at ≡ None
 AreKnownWithin table at levels (Some known) = AreMembers table at known × (known.levels ≤ levels)

@@ -18,7 +18,7 @@ impl Compared {
         }
     }
 
-    /// Takes so many pairs; out of memory where fewer are left.
+    /// Takes this many pairs; out of memory where fewer are left.
     pub fn take(&mut self, pairs: usize) -> Result<(), NoMemory> {
         if pairs > self.left {
             return Err(NoMemory);

@@ -1,6 +1,6 @@
 // The members of a type.
 ghost use Rattle.std.specs.Prelude.{◌≡◌, IfOk, OnOk};
-ghost use Rattle.type_levels.specs.Steps.{all_steps};
+ghost use Rattle.apt_base.specs.Limits.{max_type_steps};
 ghost use Rattle.type_elements.specs.MemberElements as elements;
 ghost use Rattle.type_listing.specs.Members as members;
 ghost use Rattle.type_listing.specs.Listings.{listing_of, IsDue, AreDue};
@@ -11,15 +11,13 @@ use crate::displacing::{displaces, is_inherited};
 use crate::known::KnownMembers;
 use crate::listing::Listing;
 use crate::remembered::Remembered;
-use apt_base::{ElementRef, List, NoMemory};
+use apt_base::{ElementRef, List, MAX_TYPE_STEPS, NoMemory};
 use element_table::Table;
 use std::alloc::Global;
 use type_elements::{class_elements, enclosed};
 use type_levels::Answer;
 use type_numbers::Types;
 use type_relations::header_types;
-
-const ALL_STEPS: u32 = 64;
 
 // ---- one member
 
@@ -137,7 +135,7 @@ fn super_elements(
 
 // ---- a type, with the levels that are left
 
-// What is known of the members of a type within so many levels of supertypes: what is remembered, or what is then gathered and remembered.
+// What is known of the members of a type within this many levels of supertypes: what is remembered, or what is then gathered and remembered.
 #[cycle(listing)]
 fn known_members(
     alloc: Global,
@@ -220,7 +218,7 @@ pub fn all_members(
     table: &Table,
     at: &ElementRef,
 ) -> Result<Option<List<ElementRef>>, NoMemory>
-    ensures { IfOk result (λ list. list ≡ members.members table.now all_steps at.now) }
+    ensures { IfOk result (λ list. list ≡ members.members table.now max_type_steps at.now) }
 {
     let mut types = Types::new(alloc);
     let mut remembered = Remembered::new(alloc, table);
@@ -229,7 +227,7 @@ pub fn all_members(
         alloc,
         &mut types,
         &mut remembered,
-        ALL_STEPS,
+        MAX_TYPE_STEPS,
         at,
         &mut budget,
     )? {

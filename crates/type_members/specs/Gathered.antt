@@ -40,7 +40,7 @@ types_of table (Some element) = types_from table element
 abbrev pub AddsSteps : TypeTable → List Mirror → List Mirror → List ℕ → List ℕ → ℕ → Type 0
 AddsSteps table old new numbers longer number = Adds old new numbers longer (types_of table (class_element (at old number)))
 
--- so many numbers of a list were looked at
+-- this many numbers of a list were looked at
 pub record IsGathering (table : TypeTable) (from to : ElementRef) (types : List Mirror) (numbers : List ℕ) (done : ℕ) : Type 0 where
   pub known : AreKnown types numbers
   pub itself : has_at types numbers from ≡ true

@@ -6,15 +6,13 @@ ghost use Rattle.type_members.specs.MemberNumbers.{first_at, NearestStands, Seen
 ghost use Rattle.type_members.specs.MemberOf as members;
 
 use crate::levels::{Level, further};
-use apt_base::{ElementRef, NoMemory};
+use apt_base::{ElementRef, MAX_TYPE_STEPS, NoMemory};
 use element_table::Table;
 use std::alloc::Global;
 use type_elements::{is_in_parameterized, is_static, type_of_element};
 use type_numbers::{Node, Types};
 use type_relations::around_of;
 use type_steps::{erasure_of, is_raw, replaced_in};
-
-const ALL_STEPS: u32 = 64;
 
 /// The number of the type of an element, as its `asType` gives it. It is added where it is not there, and each number that there was stands for what it stood for.
 pub fn number_of(
@@ -54,7 +52,7 @@ fn first_of(types: &Types, at: &ElementRef, level: &[usize]) -> Option<usize>
     None
 }
 
-// The first one of this element: in a level, or else further on within so many steps.
+// The first one of this element: in a level, or else further on within this many steps.
 fn nearest(
     alloc: Global,
     table: &Table,
@@ -128,7 +126,14 @@ pub fn member_of(
     }
     let around = around_of(alloc, table, at)?;
     let level = Level::of(alloc, container)?;
-    match nearest(alloc, table, types, &around, ALL_STEPS, level.as_slice())? {
+    match nearest(
+        alloc,
+        table,
+        types,
+        &around,
+        MAX_TYPE_STEPS,
+        level.as_slice(),
+    )? {
         None => Ok(None),
         Some(declaring) => seen_in(alloc, table, types, at, declaring),
     }

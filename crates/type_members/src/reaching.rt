@@ -125,7 +125,7 @@ fn add_steps(
 
 /// Whether the second type is reached from the first one by any number of direct supertypes, as elements, none included. Each type on the way is looked at once.
 ///
-/// Want of memory comes also where it is not among the first 65,536 types that are reached, nearest first, and there are more.
+/// Out of memory comes also where it is not among the first 65,536 types that are reached, nearest first, and there are more.
 pub fn is_reached(
     alloc: Global,
     table: &Table,

@@ -3,8 +3,8 @@ use Rattle.std.proofs.Common.{◌≡◌, ℕ, ◌+◌, ◌*◌, ◌<◌, Bool, t
 use Rattle.std.specs.BTreeMap.{BTreeMap, get, IsEmpty, IsUnchanged}
 use Rattle.std.specs.Ordering.{nat_cmp, is_eq}
 use Rattle.apt_base.proofs.FieldsLemmas.{some_is}
+use Rattle.apt_base.specs.Limits.{max_type_steps}
 use Rattle.element_table.specs.TypeTable.{TypeTable}
-use Rattle.type_levels.specs.Steps.{all_steps}
 use Rattle.type_levels.specs.declared.answer.Answer.{Answer}
 use Rattle.type_levels.specs.declared.question.Pair.{Pair}
 use Rattle.type_memory.specs.Known.{Known, AreBothKnown, Grows, known_of, type_at}
@@ -54,8 +54,8 @@ pub found-answer : (old new : Known) (pair : Pair) (key : ℕ) (answer : Answer)
 found-answer old new pair key answer g e both is =
     keyed_answer new pair key answer e (grown-known old.types new.types pair.sub g.types both.0, grown-known old.types new.types pair.sup g.types both.1)
     (is
-    ∙ ap₂ (subtype old.table all_steps) (sym (grown-at old.types new.types pair.sub g.types both.0)) (sym (grown-at old.types new.types pair.sup g.types both.1))
-    ∙ ap (λ (t : TypeTable). subtype t all_steps (type_at new pair.sub) (type_at new pair.sup)) (sym g.table))
+    ∙ ap₂ (subtype old.table max_type_steps) (sym (grown-at old.types new.types pair.sub g.types both.0)) (sym (grown-at old.types new.types pair.sup g.types both.1))
+    ∙ ap (λ (t : TypeTable). subtype t max_type_steps (type_at new pair.sub) (type_at new pair.sup)) (sym g.table))
 
 -- ---- what stands at keys, with the types that are searched
 
@@ -80,7 +80,7 @@ grown_answer : (table : TypeTable) (t t' : List Mirror) → numbers.Grows t t' �
 grown_answer table t t' g key answer was = λ pair e.
     let old = was pair e in (
       (grown-known t t' pair.sub g old.0.0, grown-known t t' pair.sup g old.0.1),
-      old.1 ∙ ap₂ (subtype table all_steps) (sym (grown-at t t' pair.sub g old.0.0)) (sym (grown-at t t' pair.sup g old.0.1)),
+      old.1 ∙ ap₂ (subtype table max_type_steps) (sym (grown-at t t' pair.sub g old.0.0)) (sym (grown-at t t' pair.sup g old.0.1)),
     )
 
 pub right-grown : (table : TypeTable) (old new : Known) (held : BTreeMap ℕ Answer) → next_of new.table ≡ next_of old.table → numbers.Grows old.types new.types

@@ -1,8 +1,8 @@
 -- What is remembered of the types of one table: the direct supertypes of some, and which are subtypes of others.
 use Rattle.std.specs.Prelude.{◌≡◌, ℕ, ◌+◌, ◌*◌, ◌&&◌, List, Option, Some, None, nat_lt, if◌then◌else◌}
 use Rattle.std.specs.BTreeMap.{BTreeMap}
+use Rattle.apt_base.specs.Limits.{max_type_steps}
 use Rattle.element_table.specs.TypeTable.{TypeTable}
-use Rattle.type_levels.specs.Steps.{all_steps}
 use Rattle.type_levels.specs.declared.answer.Answer.{Answer}
 use Rattle.type_levels.specs.declared.question.Pair.{Pair}
 use Rattle.type_memory.specs.Known.{Known, IsKnown, AreBothKnown, known_of, type_at}
@@ -25,11 +25,11 @@ AreSupertypes known held = EachHas (λ number supertypes. IsKnown known number �
 
 -- whether the type with the first number is a subtype of the one with the second number
 abbrev pub subtype_by_numbers : Known → ℕ → ℕ → Answer
-subtype_by_numbers known one other = subtype known.table all_steps (type_at known one) (type_at known other)
+subtype_by_numbers known one other = subtype known.table max_type_steps (type_at known one) (type_at known other)
 
 -- whether the argument with the first number contains the one with the second number
 abbrev pub contained_by_numbers : Known → ℕ → ℕ → Answer
-contained_by_numbers known one other = contained known.table all_steps (type_at known one) (type_at known other)
+contained_by_numbers known one other = contained known.table max_type_steps (type_at known one) (type_at known other)
 
 -- the answer to a question
 abbrev pub subtype_at : Known → Pair → Answer

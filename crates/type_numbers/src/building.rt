@@ -11,7 +11,7 @@ use apt_base::{Boxed, ElementRef, List, NoMemory};
 use type_mirror::{Around, BaseMirror, DeclaredMirror, ExecutableMirror, Mirror};
 
 impl Types {
-    /// The type with this number. It is want of memory too where it has more than 16,777,216 layers, each counted where it stands, as a type may that doubles at each step.
+    /// The type with this number. It is out of memory too where it has more than 16,777,216 layers, each counted where it stands, as a type may that doubles at each step.
     pub fn mirror(&self, number: usize) -> Result<Mirror, NoMemory>
         requires { IsKnown self.now number }
         ensures { IfOk result (λ m. m ≡ at self.now number) }

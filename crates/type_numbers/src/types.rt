@@ -168,7 +168,7 @@ impl Types {
 
     /// The number of the type with this layer, whose parts have numbers. The type is added where it is not there, and each number that there was stands for what it stood for.
     ///
-    /// It is want of memory too where there would be more than 1,048,576 types, or layers nested more than 4,096 deep.
+    /// It is out of memory too where there would be more than 1,048,576 types, or layers nested more than 4,096 deep.
     pub fn intern(&mut self, node: Node) -> Result<usize, NoMemory>
         requires { AreKnown self.old (parts_of (layer_of node)) }
         ensures stands { IfOk result (λ number. Stands self.new number (type_of self.old node)) }

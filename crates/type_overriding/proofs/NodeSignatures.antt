@@ -2,11 +2,11 @@
 use Rattle.std.proofs.Common.{◌≡◌, ◌<◌, ℕ, Bool, true, false, List, None, refl, sym, ap, ap₂, subst, ◌∙◌}
 use Rattle.std.specs.List.{AllByRecursion}
 use Rattle.apt_base.specs.declared.element.ElementRef.{ElementRef}
+use Rattle.apt_base.specs.Limits.{max_type_steps}
 use Rattle.element_table.specs.TypeTable.{TypeTable}
 use Rattle.type_mirror.specs.declared.mirror.Mirror.{Mirror}
 use Rattle.type_layers.specs.Layers.{Layer, layer, parts_of}
 use Rattle.type_levels.specs.Answers.{of_test, either}
-use Rattle.type_levels.specs.Steps.{all_steps}
 use Rattle.type_levels.specs.declared.answer.Answer.{Answer}
 use Rattle.type_levels.specs.declared.answer.Answer.TheVariants.{Yes, No}
 use Rattle.type_numbers.specs.declared.node.Node.{Node}
@@ -58,16 +58,16 @@ module _ (table : TypeTable) (t : List Mirror) where
       → s ≡ false → Grows t t' → AreKnown t ps → AreKnown t qs → r ≡ erased_at table t' ps qs → r ≡ sign_at table t vs ps ws qs
   parameters-erased t' vs ps ws qs s r is e g known known' erased =
       erased
-      ∙ ap₂ (λ (ms ns : List Mirror). same_erased table all_steps ms ns) (grown-types t t' ps g known) (grown-types t t' qs g known')
+      ∙ ap₂ (λ (ms ns : List Mirror). same_erased table max_type_steps ms ns) (grown-types t t' ps g known) (grown-types t t' qs g known')
       ∙ sym (ap (λ (b : Bool). by_test ps qs b) (sym is ∙ e))
 
   -- ---- by the nodes
 
   pub first-other : (one other : Node) → NoExecutable one → No ≡ nodes_signature table t one other
-  first-other one other denied = no-one table all_steps (with_types t (layer_of one)) (with_types t (layer_of other)) (no_executable t one denied)
+  first-other one other denied = no-one table max_type_steps (with_types t (layer_of one)) (with_types t (layer_of other)) (no_executable t one denied)
 
   pub second-other : (one other : Node) → NoExecutable other → No ≡ nodes_signature table t one other
-  second-other one other denied = no-other table all_steps (with_types t (layer_of one)) (with_types t (layer_of other)) (no_executable t other denied)
+  second-other one other denied = no-other table max_type_steps (with_types t (layer_of one)) (with_types t (layer_of other)) (no_executable t other denied)
 
   pub both-executables : (one other : Node) (vs vs' : List ElementRef) (ps ps' : List ℕ) (o : ℕ) (th : List ℕ) (ws ws' : List ElementRef) (qs qs' : List ℕ) (o' : ℕ) (th' : List ℕ)
       (r : Answer) → one ≡ node.Executable vs ps o th → other ≡ node.Executable ws qs o' th' → vs' ≡ vs → ps' ≡ ps → ws' ≡ ws → qs' ≡ qs
@@ -92,4 +92,4 @@ pub copies-signature : (table : TypeTable) (t : List Mirror) (one other : ℕ) (
     → with_types t (layer_of k) ≡ layer (at t other) → k' ≡ k → r ≡ nodes_signature table t n' k' → r ≡ signature_at table t one other
 unfolding subsignature
 copies-signature table t one other n n' k k' r exact same exact' same' is =
-    is ∙ ap₂ (λ (x y : Layer Mirror). of_executables table all_steps x y) (copy-shows t one n n' same exact) (copy-shows t other k k' same' exact')
+    is ∙ ap₂ (λ (x y : Layer Mirror). of_executables table max_type_steps x y) (copy-shows t one n n' same exact) (copy-shows t other k k' same' exact')

@@ -2,11 +2,11 @@
 use Rattle.std.proofs.Common.{◌≡◌, ℕ, Bool, true, false, List, Option, None, Some, sym, ap, ap₂, subst, ◌∙◌}
 use Rattle.std.specs.Option.{option_to_list}
 use Rattle.apt_base.specs.declared.element.ElementRef.{ElementRef}
+use Rattle.apt_base.specs.Limits.{max_type_steps}
 use Rattle.element_table.specs.TypeTable.{TypeTable}
 use Rattle.type_mirror.specs.declared.mirror.Mirror.{Mirror}
 use Rattle.type_elements.specs.TypeOf.{type_of}
 use Rattle.type_levels.specs.Answers.{of_test, both}
-use Rattle.type_levels.specs.Steps.{all_steps}
 use Rattle.type_levels.specs.declared.answer.Answer.{Answer}
 use Rattle.type_levels.specs.declared.answer.Answer.TheVariants.{Open, No}
 use Rattle.type_members.specs.MemberNumbers.{MemberStands}
@@ -40,11 +40,11 @@ module _ (table : TypeTable) (within one other : ElementRef) where
   -- ---- signatures
 
   abbrev as_member : ElementRef → Option Mirror
-  as_member m = member_of table all_steps (type_of table within) m
+  as_member m = member_of table max_type_steps (type_of table within) m
 
   -- the type of a member, by the number of the container
   member_is : (t t' : List Mirror) (k : ℕ) (m : ElementRef) (o : Option ℕ) → Stands t k (type_of table within) → MemberStands table t t' k m o → OptionStands t' o (as_member m)
-  member_is t t' k m o container stands = subst (λ (x : Mirror). OptionStands t' o (member_of table all_steps x m)) container.type stands
+  member_is t t' k m o container stands = subst (λ (x : Mirror). OptionStands t' o (member_of table max_type_steps x m)) container.type stands
 
   module _ (t t' t'' : List Mirror) (k : ℕ) (o o' : Option ℕ) (container : Stands t k (type_of table within)) (first : MemberStands table t t' k one o) (g : Grows t t')
       (second : MemberStands table t' t'' k other o') (g' : Grows t' t'') where
@@ -58,15 +58,15 @@ module _ (table : TypeTable) (within one other : ElementRef) where
     members-known = (first_stands.known, second_stands.known)
 
     pub members-signed : (r : Answer) → r ≡ signature_of table t'' o o' → r ≡ signature_answer table within one other
-    members-signed r is = is ∙ ap₂ (λ (x y : Option Mirror). signatures table all_steps (both_closed x y)) first_stands.type second_stands.type
+    members-signed r is = is ∙ ap₂ (λ (x y : Option Mirror). signatures table max_type_steps (both_closed x y)) first_stands.type second_stands.type
 
   -- ---- overriding
 
-  pub below-joined : (a b : ElementRef) (x y r : Answer) → a ≡ around_of table one → x ≡ is_below table all_steps within a → b ≡ around_of table other
-      → y ≡ is_below table all_steps within b → r ≡ both x y → r ≡ below_answer table within one other
+  pub below-joined : (a b : ElementRef) (x y r : Answer) → a ≡ around_of table one → x ≡ is_below table max_type_steps within a → b ≡ around_of table other
+      → y ≡ is_below table max_type_steps within b → r ≡ both x y → r ≡ below_answer table within one other
   below-joined a b x y r e is e' is' joined =
       joined
-      ∙ ap₂ (λ (u v : Answer). both u v) (is ∙ ap (λ (m : ElementRef). is_below table all_steps within m) e) (is' ∙ ap (λ (m : ElementRef). is_below table all_steps within m) e')
+      ∙ ap₂ (λ (u v : Answer). both u v) (is ∙ ap (λ (m : ElementRef). is_below table max_type_steps within m) e) (is' ∙ ap (λ (m : ElementRef). is_below table max_type_steps within m) e')
 
   by_parts : Bool → Answer → Answer
   by_parts may below = both (of_test may) (both below (signature_answer table within one other))

@@ -14,7 +14,7 @@ use Rattle.type_numbers.proofs.ReplacedSteps.{grown-known_in, grown-replacements
 use Rattle.type_subtypes.specs.Subsignature.{as_types}
 use Rattle.type_subtypes.proofs.RenamedVariables.{as_type, entries_from}
 
--- those so far, and those that are left
+-- those so far, and the rest
 pub record AreRenamed (old types : List Mirror) (ones others : List ElementRef) (n : ℕ) (by : Numbered) : Type 0 where
   pub known : AreKnownIn types by
   pub goes_on : replacements_in types by ++ entries_from ones others n ≡ zip others (as_types ones)

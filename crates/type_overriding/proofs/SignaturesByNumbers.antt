@@ -3,12 +3,12 @@ use Rattle.std.proofs.Common.{◌≡◌, ℕ, ◌+◌, ◌<◌, ◌≤◌, lengt
 use Rattle.std.proofs.lemmas.List.{get_or-map, length-map}
 use Rattle.std.specs.List.{zip, AllByRecursion}
 use Rattle.apt_base.specs.declared.element.ElementRef.{ElementRef}
+use Rattle.apt_base.specs.Limits.{max_type_steps}
 use Rattle.element_table.specs.TypeTable.{TypeTable}
 use Rattle.type_mirror.specs.declared.mirror.Mirror.{Mirror}
 use Rattle.type_mirror.specs.Substitution.{Replacements, substituted}
 use Rattle.type_layers.specs.Same.{same}
 use Rattle.type_levels.specs.Answers.{of_test, both}
-use Rattle.type_levels.specs.Steps.{all_steps}
 use Rattle.type_levels.specs.declared.answer.Answer.{Answer}
 use Rattle.type_levels.specs.declared.answer.Answer.TheVariants.{Yes, Open, No}
 use Rattle.type_numbers.specs.Numbers.{at, IsKnown, AreKnown, Stands, OptionStands, Grows}
@@ -134,12 +134,12 @@ module _ (table : TypeTable) where
   -- the answer so far with what is left is the answer
   pub record AreErasedSoFar (old types : List Mirror) (ones others : List ℕ) (n : ℕ) (all : Answer) : Type 0 where
     pub as_many : length ones ≡ length others
-    pub left_decide : both all (same_erased table all_steps (drop n (map (at old) ones)) (drop n (map (at old) others))) ≡ erased_at table old ones others
+    pub left_decide : both all (same_erased table max_type_steps (drop n (map (at old) ones)) (drop n (map (at old) others))) ≡ erased_at table old ones others
     pub grows : Grows old types
 
   pub erased-differ : (t : List Mirror) (ones others : List ℕ) → (length ones ≡ length others → ⊥) → No ≡ erased_at table t ones others
   erased-differ t ones others apart =
-      erased-apart table all_steps (map (at t) ones) (map (at t) others) (λ (e : length (map (at t) ones) ≡ length (map (at t) others)). apart (sym (many t ones) ∙ e ∙ many t others))
+      erased-apart table max_type_steps (map (at t) ones) (map (at t) others) (λ (e : length (map (at t) ones) ≡ length (map (at t) others)). apart (sym (many t ones) ∙ e ∙ many t others))
 
   pub erased-begun : (t : List Mirror) (ones others : List ℕ) → length ones ≡ length others → AreErasedSoFar t t ones others 0 Yes
   erased-begun t ones others as_many = record { as_many = as_many; left_decide = refl; grows = grows-itself t }
@@ -156,10 +156,10 @@ module _ (table : TypeTable) where
       record {
         as_many = before.as_many;
         left_decide =
-            erased-next table all_steps (map (at old) ones) (map (at old) others) n (at old first) (at old second) one so_far all (omega (arith, within, m))
+            erased-next table max_type_steps (map (at old) ones) (map (at old) others) n (at old first) (at old second) one so_far all (omega (arith, within, m))
             (as_many_types old ones others before.as_many) (type_at_place old ones n within) (type_at_place old others n within')
             (is
-            ∙ ap₂ (λ (x y : Mirror). is_erased x (erasure table all_steps y)) (grown-at old t first before.grows (all-at (IsKnown old) ones n 0 known within))
+            ∙ ap₂ (λ (x y : Mirror). is_erased x (erasure table max_type_steps y)) (grown-at old t first before.grows (all-at (IsKnown old) ones n 0 known within))
             (grown-at old t second before.grows (all-at (IsKnown old) others n 0 known' within')))
             joined before.left_decide;
         grows = grows-on old t t' before.grows g;
@@ -168,6 +168,6 @@ module _ (table : TypeTable) where
   pub erased-done : (old t : List Mirror) (ones others : List ℕ) (n : ℕ) (all : Answer) → length ones ≤ n → AreErasedSoFar old t ones others n all → all ≡ erased_at table old ones others
   erased-done old t ones others n all p so_far =
       let m : length (map (at old) ones) ≡ length ones = many old ones in
-      erased-all table all_steps (map (at old) ones) (map (at old) others) n all (omega (arith, m, p)) (as_many_types old ones others so_far.as_many) so_far.left_decide
+      erased-all table max_type_steps (map (at old) ones) (map (at old) others) n all (omega (arith, m, p)) (as_many_types old ones others so_far.as_many) so_far.left_decide
 
 pub ruleset numbered = (same-apart, same-begun, same-all, erased-differ, erased-begun, erased-done)

@@ -2,11 +2,11 @@
 use Rattle.std.specs.Prelude.{◌≡◌, ℕ, Bool, List, map, Option}
 use Rattle.std.specs.Option.{option_map}
 use Rattle.apt_base.specs.declared.element.ElementRef.{ElementRef}
+use Rattle.apt_base.specs.Limits.{max_type_steps}
 use Rattle.element_table.specs.TypeTable.{TypeTable}
 use Rattle.type_mirror.specs.declared.mirror.Mirror.{Mirror}
 use Rattle.type_mirror.specs.Substitution.{substituted}
 use Rattle.type_levels.specs.Answers.{of_test, either}
-use Rattle.type_levels.specs.Steps.{all_steps}
 use Rattle.type_levels.specs.declared.answer.Answer.{Answer}
 use Rattle.type_numbers.specs.Nodes.{layer_of}
 use Rattle.type_numbers.specs.Numbers.{at, with_types}
@@ -19,7 +19,7 @@ use Rattle.type_overriding.specs.Overrides.{signatures}
 
 -- of two types with numbers
 abbrev pub signature_at : TypeTable → List Mirror → ℕ → ℕ → Answer
-signature_at table types one other = subsignature table all_steps (at types one) (at types other)
+signature_at table types one other = subsignature table max_type_steps (at types one) (at types other)
 
 -- ---- the same parameters
 
@@ -38,7 +38,7 @@ abbrev pub is_erased_at : TypeTable → List Mirror → ℕ → ℕ → Answer
 is_erased_at table types one other = is_erased (at types one) (erasure_at table types other)
 
 abbrev pub erased_at : TypeTable → List Mirror → List ℕ → List ℕ → Answer
-erased_at table types ones others = same_erased table all_steps (map (at types) ones) (map (at types) others)
+erased_at table types ones others = same_erased table max_type_steps (map (at types) ones) (map (at types) others)
 
 -- ---- two methods or constructors
 
@@ -53,9 +53,9 @@ SignAt table types as' ones bs others answer = answer ≡ sign_at table types as
 -- of two types whose outermost layers these nodes show
 abbrev pub nodes_signature : TypeTable → List Mirror → Node → Node → Answer
 nodes_signature table types one other =
-    of_executables table all_steps (with_types types (layer_of one)) (with_types types (layer_of other))
+    of_executables table max_type_steps (with_types types (layer_of one)) (with_types types (layer_of other))
 
 -- of two types with numbers that may be open
 abbrev pub signature_of : TypeTable → List Mirror → Option ℕ → Option ℕ → Answer
 signature_of table types one other =
-    signatures table all_steps (both_closed (option_map (at types) one) (option_map (at types) other))
+    signatures table max_type_steps (both_closed (option_map (at types) one) (option_map (at types) other))

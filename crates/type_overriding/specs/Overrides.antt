@@ -1,13 +1,13 @@
 -- Whether a method overrides another one in a type (JLS 8.4.8.1, 9.4.1.1), within a number of steps.
 use Rattle.std.specs.Prelude.{ℕ, Bool, false, not, ◌&&◌, ◌||◌, Option, None, Some}
 use Rattle.apt_base.specs.declared.element.ElementRef.{ElementRef}
+use Rattle.apt_base.specs.Limits.{max_type_steps}
 use Rattle.decl_elements.specs.Modifiers.{is_interface}
 use Rattle.decl_elements.specs.Nodes.{Node, Inside}
 use Rattle.element_table.specs.TypeTable.{TypeTable}
 use Rattle.element_table.specs.TableElements.{node_at}
 use Rattle.type_mirror.specs.declared.mirror.Mirror.{Mirror}
 use Rattle.type_levels.specs.Answers.{of_test, both}
-use Rattle.type_levels.specs.Steps.{all_steps}
 use Rattle.type_levels.specs.declared.answer.Answer.{Answer}
 use Rattle.type_levels.specs.declared.answer.Answer.TheVariants.{Open}
 use Rattle.type_relations.specs.Closed.{both_closed}
@@ -63,10 +63,10 @@ overrides table n m o t =
 -- ---- the answers within 64 steps
 
 abbrev pub signature_answer : TypeTable → ElementRef → ElementRef → ElementRef → Answer
-signature_answer table t m o = has_subsignature table all_steps t m o
+signature_answer table t m o = has_subsignature table max_type_steps t m o
 
 abbrev pub below_answer : TypeTable → ElementRef → ElementRef → ElementRef → Answer
-below_answer table t m o = is_below_both table all_steps t m o
+below_answer table t m o = is_below_both table max_type_steps t m o
 
 abbrev pub overrides_answer : TypeTable → ElementRef → ElementRef → ElementRef → Answer
-overrides_answer table m o t = overrides table all_steps m o t
+overrides_answer table m o t = overrides table max_type_steps m o t

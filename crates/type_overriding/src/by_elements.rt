@@ -1,7 +1,7 @@
 // Subtypes by their elements alone, by numbers: two class types of one element are decided, whatever their arguments and enclosing types.
 ghost use Rattle.std.specs.Prelude.{◌≡◌, IfOk};
+ghost use Rattle.apt_base.specs.Limits.{max_type_steps};
 ghost use Rattle.type_elements.specs.MemberElements.{element_in, same_class};
-ghost use Rattle.type_levels.specs.Steps.{all_steps};
 ghost use Rattle.type_numbers.specs.Nodes.{layer_of};
 ghost use Rattle.type_numbers.specs.Numbers.{Grows};
 ghost use Rattle.type_subtypes.specs.Numbers.{numbered};
@@ -76,7 +76,7 @@ pub(crate) fn is_below(
     one: &ElementRef,
     other: &ElementRef,
 ) -> Result<Answer, NoMemory>
-    ensures answer { IfOk result (λ r. r ≡ below.is_below table.now all_steps one.now other.now) }
+    ensures answer { IfOk result (λ r. r ≡ below.is_below table.now max_type_steps one.now other.now) }
     ensures grows { Grows types.old types.new }
 {
     let sub = number_of(alloc, table, types, one)?;

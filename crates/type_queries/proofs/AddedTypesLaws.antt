@@ -1,6 +1,6 @@
 -- A number that was given for a type serves all questions that come later, and these come to what they come to by their types.
 use Rattle.std.proofs.Common.{◌≡◌, ℕ, Bool, true, false, ◌&&◌, Result, ap₂, ◌∙◌}
-use Rattle.type_levels.specs.Steps.{all_steps}
+use Rattle.apt_base.specs.Limits.{max_type_steps}
 use Rattle.type_memory.specs.Known.{Known, Grows, type_at}
 use Rattle.type_memory.proofs.GrownTypes.{grows-same}
 use Rattle.type_mirror.specs.declared.mirror.Mirror.{Mirror}
@@ -47,19 +47,19 @@ module _ (held : Known) (one other : ℕ) (first : IsThere held one) (second : I
 
   pub subtype-other : are_types a b ≡ false → subtype_question held.table a b ≡ WrongKind
   unfolding subtype_question
-  subtype-other e = other_kind (truth (subtype held.table all_steps a b)) e
+  subtype-other e = other_kind (truth (subtype held.table max_type_steps a b)) e
 
-  pub subtype-given : (r : Result Bool QueryFault) → are_types a b ≡ true → Gives r (truth (subtype held.table all_steps a b)) → Gives r (subtype_question held.table a b)
+  pub subtype-given : (r : Result Bool QueryFault) → are_types a b ≡ true → Gives r (truth (subtype held.table max_type_steps a b)) → Gives r (subtype_question held.table a b)
   unfolding subtype_question
-  subtype-given r e given = judged-answered (are_both_there held.table a b) (are_types a b) (truth (subtype held.table all_steps a b)) r (both_there, e) given
+  subtype-given r e given = judged-answered (are_both_there held.table a b) (are_types a b) (truth (subtype held.table max_type_steps a b)) r (both_there, e) given
 
   pub contains-other : are_types a b ≡ false → contains_question held.table a b ≡ WrongKind
   unfolding contains_question
-  contains-other e = other_kind (truth (contained held.table all_steps a b)) e
+  contains-other e = other_kind (truth (contained held.table max_type_steps a b)) e
 
-  pub contains-given : (r : Result Bool QueryFault) → are_types a b ≡ true → Gives r (truth (contained held.table all_steps a b)) → Gives r (contains_question held.table a b)
+  pub contains-given : (r : Result Bool QueryFault) → are_types a b ≡ true → Gives r (truth (contained held.table max_type_steps a b)) → Gives r (contains_question held.table a b)
   unfolding contains_question
-  contains-given r e given = judged-answered (are_both_there held.table a b) (are_types a b) (truth (contained held.table all_steps a b)) r (both_there, e) given
+  contains-given r e given = judged-answered (are_both_there held.table a b) (are_types a b) (truth (contained held.table max_type_steps a b)) r (both_there, e) given
 
 pub ruleset asking = (
   grows-same,

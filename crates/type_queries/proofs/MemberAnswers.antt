@@ -3,9 +3,9 @@ use Rattle.std.proofs.Common.{◌≡◌, ◌↔◌, Bool, true, false, None, Som
 use Rattle.std.proofs.lemmas.Bool.{false≢true}
 use Rattle.std.specs.Prelude.{IsTrue}
 use Rattle.apt_base.specs.declared.element.ElementRef.{ElementRef}
+use Rattle.apt_base.specs.Limits.{max_type_steps}
 use Rattle.element_table.specs.TypeTable.{TypeTable}
 use Rattle.type_mirror.specs.declared.mirror.Mirror.{Mirror}
-use Rattle.type_relations.specs.Direct.{all_steps}
 use Rattle.type_members.specs.MemberOf.{member_of}
 use Rattle.type_queries.specs.MemberQuestion.{AreOfKind, GivesMember, IsMember, both_there}
 use Rattle.type_queries.specs.declared.fault.QueryFault.TheVariants as fault
@@ -18,10 +18,10 @@ module _ (table : TypeTable) (container : Mirror) (at : ElementRef) (there : bot
   is_member : r ≡ true → IsMember table container at
   is_member passes = record { there = there; kinds = kinds.0 passes }
 
-  pub member-deep : r ≡ true → member_of table all_steps container at ≡ None → GivesMember (Err fault.TooDeep) table container at
+  pub member-deep : r ≡ true → member_of table max_type_steps container at ≡ None → GivesMember (Err fault.TooDeep) table container at
   member-deep passes none = (is_member passes, none)
 
-  pub member-given : (m : Mirror) → r ≡ true → member_of table all_steps container at ≡ Some m → GivesMember (Ok m) table container at
+  pub member-given : (m : Mirror) → r ≡ true → member_of table max_type_steps container at ≡ Some m → GivesMember (Ok m) table container at
   member-given m passes some = (is_member passes, some)
 
 pub ruleset answering = (member-other, member-deep, member-given)

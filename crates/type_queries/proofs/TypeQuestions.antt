@@ -1,9 +1,10 @@
 -- What the questions on erasures and supertypes come to, by what the type is.
 use Rattle.std.proofs.Common.{◌≡◌, Bool, true, false, not, ◌&&◌, List, Option, None, Some, ap, ap₂, ◌∙◌}
+use Rattle.apt_base.specs.Limits.{max_type_steps}
 use Rattle.element_table.specs.TypeTable.{TypeTable}
 use Rattle.type_mirror.specs.declared.mirror.Mirror.{Mirror}
 use Rattle.type_layers.specs.Layers.{layer}
-use Rattle.type_relations.specs.Direct.{all_steps, direct}
+use Rattle.type_relations.specs.Direct.{direct}
 use Rattle.type_relations.specs.Erasure.{erasure}
 use Rattle.type_queries.specs.Questions.{is_executable, is_package, direct_question, erasure_question}
 use Rattle.type_queries.specs.Verdicts.{Verdict, NoSuch, WrongKind, TooDeep, Given, value, judged, are_there}
@@ -17,19 +18,19 @@ module _ (table : TypeTable) (m : Mirror) where
 
   pub erasure-lost : are_there table m ≡ false → erasure_question table m ≡ NoSuch
   unfolding erasure_question by_erasure
-  erasure-lost e = ap (λ (b : Bool). by_erasure b (is_package (layer m)) (erasure table all_steps m)) e
+  erasure-lost e = ap (λ (b : Bool). by_erasure b (is_package (layer m)) (erasure table max_type_steps m)) e
 
   pub erasure-other : are_there table m ≡ true → is_package (layer m) ≡ true → erasure_question table m ≡ WrongKind
   unfolding erasure_question by_erasure
-  erasure-other e h = ap₂ (λ (b c : Bool). by_erasure b c (erasure table all_steps m)) e h
+  erasure-other e h = ap₂ (λ (b c : Bool). by_erasure b c (erasure table max_type_steps m)) e h
 
-  pub erasure-deep : are_there table m ≡ true → is_package (layer m) ≡ false → erasure table all_steps m ≡ None → erasure_question table m ≡ TooDeep
+  pub erasure-deep : are_there table m ≡ true → is_package (layer m) ≡ false → erasure table max_type_steps m ≡ None → erasure_question table m ≡ TooDeep
   unfolding erasure_question by_erasure
-  erasure-deep e h a = ap₂ (λ (b c : Bool). by_erasure b c (erasure table all_steps m)) e h ∙ ap value a
+  erasure-deep e h a = ap₂ (λ (b c : Bool). by_erasure b c (erasure table max_type_steps m)) e h ∙ ap value a
 
-  pub erasure-given : (answer : Mirror) → are_there table m ≡ true → is_package (layer m) ≡ false → erasure table all_steps m ≡ Some answer → erasure_question table m ≡ Given answer
+  pub erasure-given : (answer : Mirror) → are_there table m ≡ true → is_package (layer m) ≡ false → erasure table max_type_steps m ≡ Some answer → erasure_question table m ≡ Given answer
   unfolding erasure_question by_erasure
-  erasure-given answer e h a = ap₂ (λ (b c : Bool). by_erasure b c (erasure table all_steps m)) e h ∙ ap value a
+  erasure-given answer e h a = ap₂ (λ (b c : Bool). by_erasure b c (erasure table max_type_steps m)) e h ∙ ap value a
 
   pub supertypes-lost : are_there table m ≡ false → direct_question table m ≡ NoSuch
   unfolding direct_question by_supertypes

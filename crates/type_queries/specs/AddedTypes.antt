@@ -13,7 +13,7 @@ pub record IsThere (held : Known) (number : ℕ) : Type 0 where
   pub known : IsKnown held number
   pub there : are_there held.table (type_at held number) ≡ true
 
--- what adding a type gives: its number, or that an element is not there; want of memory may come in place of both
+-- what adding a type gives: its number, or that an element is not there; out of memory may come in place of both
 abbrev pub IsAdded : Result ℕ QueryFault → Known → Known → Mirror → Type 0
 IsAdded (Ok number) old new m = Stands new.types number m × (are_there old.table m ≡ true)
 IsAdded (Err fault.NoSuch) old new m = are_there old.table m ≡ false

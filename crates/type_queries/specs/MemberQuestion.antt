@@ -1,12 +1,12 @@
 -- The question on the type of a member as a member of a type: which elements have to be there, what the type and the member have to be, and the answer.
 use Rattle.std.specs.Prelude.{◌≡◌, Bool, true, false, not, ◌&&◌, Option, None, Some, Result, Ok, Err}
 use Rattle.apt_base.specs.declared.element.ElementRef.{ElementRef}
+use Rattle.apt_base.specs.Limits.{max_type_steps}
 use Rattle.decl_elements.specs.Nodes.{Node, OfTypeParam}
 use Rattle.element_table.specs.TypeTable.{TypeTable}
 use Rattle.element_table.specs.TableElements.{node_at}
 use Rattle.type_mirror.specs.declared.mirror.Mirror.{Mirror}
 use Rattle.type_resolve.specs.Scopes.{is_type}
-use Rattle.type_relations.specs.Direct.{all_steps}
 use Rattle.type_relations.specs.Elements.{is_there, around_of}
 use Rattle.type_elements.specs.MemberElements.{class_element}
 use Rattle.type_members.specs.MemberOf.{member_of}
@@ -40,13 +40,13 @@ pub record IsMember (table : TypeTable) (container : Mirror) (at : ElementRef) :
   pub there : both_there table container at ≡ true
   pub kinds : AreOfKind table container at
 
--- ---- what a call gives; want of memory may come in place of it
+-- ---- what a call gives; out of memory may come in place of it
 
 abbrev pub GivesMember : Result Mirror QueryFault → TypeTable → Mirror → ElementRef → Type 0
-GivesMember (Ok m) table container at = IsMember table container at × (member_of table all_steps container at ≡ Some m)
+GivesMember (Ok m) table container at = IsMember table container at × (member_of table max_type_steps container at ≡ Some m)
 GivesMember (Err fault.NoSuch) table container at = both_there table container at ≡ false
 GivesMember (Err fault.WrongKind) table container at =
     (both_there table container at ≡ true) × (IsMember table container at → ⊥)
 GivesMember (Err fault.TooDeep) table container at =
-    IsMember table container at × (member_of table all_steps container at ≡ None)
+    IsMember table container at × (member_of table max_type_steps container at ≡ None)
 GivesMember (Err fault.Memory) table container at = Unit {0}

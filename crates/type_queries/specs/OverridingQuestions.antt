@@ -1,9 +1,9 @@
 -- The question whether a method overrides another one in a type: which elements have to be there, which kinds are wanted, and the answer.
 use Rattle.std.specs.Prelude.{Bool, ◌&&◌}
 use Rattle.apt_base.specs.declared.element.ElementRef.{ElementRef}
+use Rattle.apt_base.specs.Limits.{max_type_steps}
 use Rattle.element_table.specs.TypeTable.{TypeTable}
 use Rattle.type_resolve.specs.Scopes.{is_type}
-use Rattle.type_relations.specs.Direct.{all_steps}
 use Rattle.type_relations.specs.Elements.{is_there}
 use Rattle.type_elements.specs.MemberElements.{is_method}
 use Rattle.type_overriding.specs.Overrides.{overrides}
@@ -20,4 +20,4 @@ are_methods_and_type table one other within = is_method table one && is_method t
 unfoldable pub overrides_question : TypeTable → ElementRef → ElementRef → ElementRef → Verdict Bool
 overrides_question table one other within =
     judged (are_elements_there table one other within) (are_methods_and_type table one other within)
-    (truth (overrides table all_steps one other within))
+    (truth (overrides table max_type_steps one other within))

@@ -1,12 +1,13 @@
 -- The questions on types, one for each call: which elements have to be there, which kinds are wanted, and the answer.
 use Rattle.std.specs.Prelude.{ℕ, Bool, true, false, not, ◌&&◌, List, is_some}
 use Rattle.apt_base.specs.declared.element.ElementRef.{ElementRef}
+use Rattle.apt_base.specs.Limits.{max_type_steps}
 use Rattle.element_table.specs.TypeTable.{TypeTable}
 use Rattle.type_mirror.specs.declared.mirror.Mirror.{Mirror}
 use Rattle.type_layers.specs.Layers.{Layer, Executable, Package, layer}
 use Rattle.type_layers.specs.Same.{same}
 use Rattle.type_relations.specs.Boxed.{boxed, unboxed}
-use Rattle.type_relations.specs.Direct.{all_steps, direct}
+use Rattle.type_relations.specs.Direct.{direct}
 use Rattle.type_relations.specs.Elements.{is_there}
 use Rattle.type_relations.specs.Erasure.{erasure}
 use Rattle.type_elements.specs.TypeOf.{type_of}
@@ -60,7 +61,7 @@ direct_question table m = judged (are_there table m) (is_type m) (value (direct 
 
 -- no package
 unfoldable pub erasure_question : TypeTable → Mirror → Verdict Mirror
-erasure_question table m = judged (are_there table m) (not (is_package (layer m))) (value (erasure table all_steps m))
+erasure_question table m = judged (are_there table m) (not (is_package (layer m))) (value (erasure table max_type_steps m))
 
 -- ---- two types, within 64 steps
 
@@ -74,14 +75,14 @@ abbrev pub are_executables : Mirror → Mirror → Bool
 are_executables a b = is_executable (layer a) && is_executable (layer b)
 
 unfoldable pub subtype_question : TypeTable → Mirror → Mirror → Verdict Bool
-subtype_question table a b = judged (are_both_there table a b) (are_types a b) (truth (subtype table all_steps a b))
+subtype_question table a b = judged (are_both_there table a b) (are_types a b) (truth (subtype table max_type_steps a b))
 
 unfoldable pub contains_question : TypeTable → Mirror → Mirror → Verdict Bool
-contains_question table a b = judged (are_both_there table a b) (are_types a b) (truth (contained table all_steps a b))
+contains_question table a b = judged (are_both_there table a b) (are_types a b) (truth (contained table max_type_steps a b))
 
 unfoldable pub assignable_question : TypeTable → Mirror → Mirror → Verdict Bool
-assignable_question table a b = judged (are_both_there table a b) (are_types a b) (truth (assignable table all_steps a b))
+assignable_question table a b = judged (are_both_there table a b) (are_types a b) (truth (assignable table max_type_steps a b))
 
 -- two executables
 unfoldable pub subsignature_question : TypeTable → Mirror → Mirror → Verdict Bool
-subsignature_question table a b = judged (are_both_there table a b) (are_executables a b) (truth (subsignature table all_steps a b))
+subsignature_question table a b = judged (are_both_there table a b) (are_executables a b) (truth (subsignature table max_type_steps a b))

@@ -76,7 +76,7 @@ declared_there table d = are_there table (plain (base.Declared d))
 abbrev pub executable_there : TypeTable → ExecutableMirror → Bool
 executable_there table e = are_there table (plain (base.Executable e))
 
--- ---- what a call gives; want of memory may come in place of it
+-- ---- what a call gives; out of memory may come in place of it
 
 abbrev pub Gives : {A : Type 0} → Result A QueryFault → Verdict A → Type 0
 Gives (Ok answer) verdict = verdict ≡ Given answer

@@ -8,14 +8,12 @@ use crate::fault::QueryFault;
 use crate::kinds::{is_executable, is_package};
 use crate::printing::printed;
 use crate::there::are_there;
-use apt_base::{ElementRef, List, Name};
+use apt_base::{ElementRef, List, MAX_TYPE_STEPS, Name};
 use element_table::Table;
 use std::alloc::Global;
 use type_elements::type_of_element;
 use type_mirror::{BaseMirror, Mirror};
 use type_relations::{box_of, boxed_kind, direct, erasure_within, is_there, primitive_of};
-
-const ALL_STEPS: u32 = 64;
 
 /// Whether both are the same type, as `isSameType` of `javax.lang.model.util.Types` tells: equal mirrors, of which a wildcard is the same as nothing. `NoSuch` where one names an element that is not there, which is the only fault that comes: it takes no memory.
 #[tactic(auto, unfolding(crate::specs::Questions::same_question))]
@@ -99,7 +97,7 @@ pub fn erasure(alloc: Global, table: &Table, of: &Mirror) -> Result<Mirror, Quer
     if is_package(of) {
         return Err(QueryFault::WrongKind);
     }
-    match erasure_within(alloc, table, ALL_STEPS, of)? {
+    match erasure_within(alloc, table, MAX_TYPE_STEPS, of)? {
         None => Err(QueryFault::TooDeep),
         Some(erased) => Ok(erased),
     }

@@ -1,7 +1,7 @@
 // The question on the type of a member as a member of a type.
 ghost use Rattle.std.specs.Prelude.{◌≡◌, ◌↔◌, Some, IsTrue, IfOk};
+ghost use Rattle.apt_base.specs.Limits.{max_type_steps};
 ghost use Rattle.element_table.specs.TableElements.{node_at};
-ghost use Rattle.type_relations.specs.Direct.{all_steps};
 ghost use Rattle.type_members.specs.MemberOf as members;
 ghost use Rattle.type_queries.specs.MemberQuestion as question;
 ghost use Rattle.type_queries.specs.MemberQuestion.{AreOfKind, GivesMember, IsIn};
@@ -74,7 +74,7 @@ fn type_of_member(
     container: &Mirror,
     at: &ElementRef,
 ) -> Result<Option<Mirror>, NoMemory>
-    ensures { IfOk result (λ m. m ≡ members.member_of table.now all_steps container.now at.now) }
+    ensures { IfOk result (λ m. m ≡ members.member_of table.now max_type_steps container.now at.now) }
 {
     let mut types = Types::new(alloc);
     let number = types.add(container)?;

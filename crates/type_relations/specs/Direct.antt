@@ -6,6 +6,7 @@ use Rattle.type_mirror.specs.declared.mirror.PrimitiveKind.{PrimitiveKind}
 use Rattle.type_mirror.specs.declared.mirror.PrimitiveKind.TheVariants as kind
 use Rattle.apt_base.specs.declared.around.Around.{Around}
 use Rattle.apt_base.specs.declared.around.Around.TheVariants as around
+use Rattle.apt_base.specs.Limits.{max_type_steps}
 use Rattle.type_mirror.specs.declared.mirror.Mirror.{Mirror, out-Mirror}
 use Rattle.type_mirror.specs.declared.mirror.BaseMirror.{BaseMirror}
 use Rattle.type_mirror.specs.declared.mirror.BaseMirror.TheVariants as base
@@ -16,10 +17,6 @@ use Rattle.type_layers.specs.Layers.{Layer, Primitive, Declared, Variable, layer
 use Rattle.type_relations.specs.Named.{type_named, object, bounds, declared_supertypes}
 use Rattle.type_relations.specs.Erasure.{erasures}
 use Rattle.type_relations.specs.RawTypes.{is_raw_with, replacements}
-
--- a question has this many steps
-abbrev pub all_steps : ℕ
-all_steps = 64
 
 -- ---- each kind of type
 
@@ -40,7 +37,7 @@ wider_types kind = map (λ wide. mirror_of (Primitive wide)) (wider kind)
 -- by substitution, and erased for a raw type
 abbrev pub of_declared : TypeTable → ElementRef → List Mirror → Mirror → Option (List Mirror)
 of_declared table at arguments m =
-    if is_raw_with table at arguments then erasures table all_steps (declared_supertypes table at)
+    if is_raw_with table at arguments then erasures table max_type_steps (declared_supertypes table at)
     else Some (map (substituted (replacements table m)) (declared_supertypes table at))
 
 abbrev pub declared_direct : TypeTable → DeclaredMirror → Option (List Mirror)

@@ -72,7 +72,7 @@ parameters_of (Some node) = declared_parameters node
 abbrev pub child : ElementRef → ℕ → ElementRef
 child at number = record { unit = at.unit; path = at.path ++ number ∷ [] }
 
--- so many children, the first ones
+-- this many children, the first ones
 abbrev pub first_children : ElementRef → ℕ → List ElementRef
 first_children at count = map (child at) (range_with_len 0 count)
 

@@ -1,5 +1,6 @@
 // What stands at an element of a table, and what a question reads of it.
 ghost use Rattle.std.specs.Prelude.{◌≡◌, ◌≤◌, [], length, option_map, unwrap_or, IfOk, IfSome};
+ghost use Rattle.apt_base.specs.Limits.{max_children};
 ghost use Rattle.decl_tree.specs.declared.declaration.Member.{out-Member};
 ghost use Rattle.decl_elements.specs.Nodes.{children};
 ghost use Rattle.decl_elements.specs.Shown.{node_of};
@@ -16,7 +17,7 @@ use std::alloc::Global;
 /// What stands there.
 pub fn place_of<'a>(table: &'a Table, at: &ElementRef) -> Option<Place<'a>>
     ensures value { option_map node_of result ≡ node_at table.now at.now }
-    ensures few { IfSome result (λ place. length (children (node_of place)) ≤ 65535) }
+    ensures few { IfSome result (λ place. length (children (node_of place)) ≤ max_children) }
 {
     match table.find(&at.unit) {
         Some(unit) => place_at(unit, at.path.as_slice()),

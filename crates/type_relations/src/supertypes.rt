@@ -15,12 +15,10 @@ use crate::named::{named_type, object};
 use crate::parts::array_of;
 use crate::places::has_type_parameters;
 use crate::replacing::replaced_by;
-use apt_base::{ElementRef, List, NoMemory};
+use apt_base::{ElementRef, List, MAX_TYPE_STEPS, NoMemory};
 use element_table::{Part, Table};
 use std::alloc::Global;
 use type_mirror::{Around, BaseMirror, DeclaredMirror, Mirror, PrimitiveKind};
-
-const ALL_STEPS: u32 = 64;
 
 // ---- primitive types
 
@@ -75,7 +73,7 @@ fn of_declared(
 {
     let types = declared_supertypes(alloc, table, &of.element)?;
     if is_raw(table, &of.element, of.arguments.as_slice()) {
-        return erasures(alloc, table, ALL_STEPS, types.as_slice());
+        return erasures(alloc, table, MAX_TYPE_STEPS, types.as_slice());
     }
     let replaced = replaced_by(alloc, table, types.as_slice(), of)?;
     Ok(Some(replaced))

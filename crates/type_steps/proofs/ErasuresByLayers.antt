@@ -4,6 +4,7 @@ use Rattle.std.proofs.Math.Seq.{drop-cons}
 use Rattle.std.proofs.lemmas.List.{map-append}
 use Rattle.std.specs.Option.{option_map}
 use Rattle.apt_base.specs.declared.element.ElementRef.{ElementRef}
+use Rattle.apt_base.specs.Limits.{max_type_steps}
 use Rattle.element_table.specs.TypeTable.{TypeTable}
 use Rattle.type_mirror.specs.declared.mirror.Mirror.{Mirror}
 use Rattle.type_mirror.specs.declared.mirror.BaseMirror.TheVariants as base
@@ -19,7 +20,6 @@ use Rattle.type_numbers.proofs.AddedTypes.{node-is, executable-with}
 use Rattle.type_numbers.proofs.LayerMaps.{all_joined}
 use Rattle.type_numbers.proofs.NumberLaws.{grown-at, grown-known, grown-all_known, grown-types, grows-on}
 use Rattle.type_relations.specs.Closed.{closed, behind}
-use Rattle.type_relations.specs.Direct.{all_steps}
 use Rattle.type_relations.specs.Erasure.{erased_layer, erasing_step, variable_erasure, executable_of, erasure, erasures}
 use Rattle.type_relations.proofs.ClosedLists.{behind-some, behind-none}
 use Rattle.type_steps.specs.Arrays.{has_item}
@@ -44,23 +44,23 @@ module _ (table : TypeTable) (k : ℕ) where
 -- ---- node by node
 
 module _ (table : TypeTable) (t : List Mirror) (number : ℕ) (n : Node) (exact : with_types t (layer_of n) ≡ layer (at t number)) where
-  by_node : (n' : Node) → n ≡ n' → erasure_at table t number ≡ step table all_steps (map_layer (erasure table all_steps) (with_types t (layer_of n')))
-  by_node n' is = erasure-layer table all_steps (at t number) (with_types t (layer_of n')) (node-layer t number n n' exact is)
+  by_node : (n' : Node) → n ≡ n' → erasure_at table t number ≡ step table max_type_steps (map_layer (erasure table max_type_steps) (with_types t (layer_of n')))
+  by_node n' is = erasure-layer table max_type_steps (at t number) (with_types t (layer_of n')) (node-layer t number n n' exact is)
 
   pub erased-Declared : (element : ElementRef) (enclosing : Option ℕ) (arguments : List ℕ) → n ≡ node.Declared element enclosing arguments
       → Some (declared_mirror element None []) ≡ erasure_at table t number
   erased-Declared element enclosing arguments is = sym (by_node (node.Declared element enclosing arguments) is)
 
-  pub erased-Variable : (element : ElementRef) → n ≡ node.Variable element → erasure table all_steps (plain (base.Variable element)) ≡ erasure_at table t number
+  pub erased-Variable : (element : ElementRef) → n ≡ node.Variable element → erasure table max_type_steps (plain (base.Variable element)) ≡ erasure_at table t number
   unfolding mirror_of
-  erased-Variable element is = ap (erasure table all_steps) (node-is t number n (node.Variable element) exact is)
+  erased-Variable element is = ap (erasure table max_type_steps) (node-is t number n (node.Variable element) exact is)
 
-  pub erased-Unbounded : n ≡ node.Unbounded → erasure table all_steps (plain base.Wildcard) ≡ erasure_at table t number
+  pub erased-Unbounded : n ≡ node.Unbounded → erasure table max_type_steps (plain base.Wildcard) ≡ erasure_at table t number
   unfolding mirror_of
-  erased-Unbounded is = ap (erasure table all_steps) (node-is t number n node.Unbounded exact is)
+  erased-Unbounded is = ap (erasure table max_type_steps) (node-is t number n node.Unbounded exact is)
 
-  pub erased-Super : (bound : ℕ) → n ≡ node.Super bound → erasure table all_steps (plain base.Wildcard) ≡ erasure_at table t number
-  erased-Super bound is = erasure-layer table all_steps (plain base.Wildcard) Unbounded layer-Wildcard ∙ sym (by_node (node.Super bound) is)
+  pub erased-Super : (bound : ℕ) → n ≡ node.Super bound → erasure table max_type_steps (plain base.Wildcard) ≡ erasure_at table t number
+  erased-Super bound is = erasure-layer table max_type_steps (plain base.Wildcard) Unbounded layer-Wildcard ∙ sym (by_node (node.Super bound) is)
 
   pub erased-Executable : (variables : List ElementRef) (parameters : List ℕ) (outcome : ℕ) (thrown : List ℕ) → n ≡ node.Executable variables parameters outcome thrown
       → executable_of (erasures_at table t parameters) (erasure_at table t outcome) (erasures_at table t thrown) ≡ erasure_at table t number
@@ -80,7 +80,7 @@ abbrev NoExecutable : Node → Type 0
 NoExecutable n = (variables : List ElementRef) (parameters : List ℕ) (outcome : ℕ) (thrown : List ℕ) → n ≡ node.Executable variables parameters outcome thrown → ⊥
 
 own_with : (table : TypeTable) (t : List Mirror) (n : Node) → NoClass n → NoVariable n → NoUnbounded n → NoSuper n → NoExecutable n → has_item (with_types t (layer_of n)) ≡ false
-    → step table all_steps (map_layer (erasure table all_steps) (with_types t (layer_of n))) ≡ Some (mirror_of (with_types t (layer_of n)))
+    → step table max_type_steps (map_layer (erasure table max_type_steps) (with_types t (layer_of n))) ≡ Some (mirror_of (with_types t (layer_of n)))
 own_with table t (node.Declared element enclosing arguments) a b c d e h = absurd (a element enclosing arguments refl)
 own_with table t (node.Variable element) a b c d e h = absurd (b element refl)
 own_with table t node.Unbounded a b c d e h = absurd (c refl)
@@ -101,7 +101,7 @@ erased-itself table t number n exact known h a b c d e =
     let own = own_with table t n a b c d e (ap (λ (l : Layer Mirror). has_item l) exact ∙ h) in
     record {
       known = (known, tt);
-      type = ap (λ (m : Mirror). Some m) (sym (node-is t number n n exact refl)) ∙ sym own ∙ sym (erasure-layer table all_steps (at t number) (with_types t (layer_of n)) (sym exact));
+      type = ap (λ (m : Mirror). Some m) (sym (node-is t number n n exact refl)) ∙ sym own ∙ sym (erasure-layer table max_type_steps (at t number) (with_types t (layer_of n)) (sym exact));
     }
 
 -- ---- values that may be open
@@ -119,19 +119,19 @@ pub record AreErased (table : TypeTable) (t t' : List Mirror) (parts list : List
   pub rest : behind (map (at t') list) (erasures_at table t (drop i parts)) ≡ erasures_at table t parts
 
 first_part : (table : TypeTable) (t : List Mirror) (parts : List ℕ) (i : ℕ) → i < length parts
-    → erasures_at table t (drop i parts) ≡ closed (erasure_at table t (get_or parts i 0) ∷ map (erasure table all_steps) (map (at t) (drop (i + 1) parts)))
+    → erasures_at table t (drop i parts) ≡ closed (erasure_at table t (get_or parts i 0) ∷ map (erasure table max_type_steps) (map (at t) (drop (i + 1) parts)))
 first_part table t parts i less =
     let next : suc i ≡ i + 1 = omega arith in
     ap (λ (ns : List ℕ). erasures_at table t ns) (drop-cons parts i 0 less)
-    ∙ ap (λ (j : ℕ). closed (erasure_at table t (get_or parts i 0) ∷ map (erasure table all_steps) (map (at t) (drop j parts)))) next
+    ∙ ap (λ (j : ℕ). closed (erasure_at table t (get_or parts i 0) ∷ map (erasure table max_type_steps) (map (at t) (drop j parts)))) next
 
 -- one of them more
 pub erased-next : (table : TypeTable) (t t' t'' : List Mirror) (parts list : List ℕ) (i one : ℕ) → i < length parts → AreErased table t t' parts list i → Grows t t' → Grows t' t''
     → IsKnown t (get_or parts i 0) → OptionStands t'' (Some one) (erasure_at table t' (get_or parts i 0)) → AreErased table t t'' parts (list ++ one ∷ []) (i + 1)
 erased-next table t t' t'' parts list i one less so_far g g' known stands =
     let part = get_or parts i 0 in
-    let others = map (erasure table all_steps) (map (at t) (drop (i + 1) parts)) in
-    let here : erasure_at table t part ≡ Some (at t'' one) = sym (stands.type ∙ ap (erasure table all_steps) (grown-at t t' part g known)) in
+    let others = map (erasure table max_type_steps) (map (at t) (drop (i + 1) parts)) in
+    let here : erasure_at table t part ≡ Some (at t'' one) = sym (stands.type ∙ ap (erasure table max_type_steps) (grown-at t t' part g known)) in
     let front = map (at t') list in
     let more : map (at t'') (list ++ one ∷ []) ≡ front ++ at t'' one ∷ [] =
     map-append (at t'') list (one ∷ []) ∙ ap (λ (ms : List Mirror). ms ++ at t'' one ∷ []) (grown-types t' t'' list g' so_far.known) in
@@ -149,8 +149,8 @@ pub erased-open : (table : TypeTable) (t t' t'' : List Mirror) (parts list : Lis
     → IsKnown t (get_or parts i 0) → OptionStands t'' None (erasure_at table t' (get_or parts i 0)) → None ≡ erasures_at table t parts
 erased-open table t t' t'' parts list i less so_far g known stands =
     let part = get_or parts i 0 in
-    let others = map (erasure table all_steps) (map (at t) (drop (i + 1) parts)) in
-    let here : erasure_at table t part ≡ None = sym (stands.type ∙ ap (erasure table all_steps) (grown-at t t' part g known)) in
+    let others = map (erasure table max_type_steps) (map (at t) (drop (i + 1) parts)) in
+    let here : erasure_at table t part ≡ None = sym (stands.type ∙ ap (erasure table max_type_steps) (grown-at t t' part g known)) in
     sym (sym so_far.rest
     ∙ ap (behind (map (at t') list)) (first_part table t parts i less)
     ∙ ap (λ (o : Option Mirror). behind (map (at t') list) (closed (o ∷ others))) here
@@ -167,9 +167,9 @@ executable-whole table t t' t'' t''' parameters ps outcome o thrown ts single al
     let p : Some (map (at t''') ps) ≡ erasures_at table t parameters =
     ap (λ (ms : List Mirror). Some ms) (grown-types t' t''' ps (grows-on t' t'' t''' g' g'') first.known) ∙ first.types in
     let q : Some (at t''' o) ≡ erasure_at table t outcome =
-    ap (λ (m : Mirror). Some m) (grown-at t'' t''' o g'' second.known.0) ∙ second.type ∙ ap (erasure table all_steps) (grown-at t t' outcome g single) in
+    ap (λ (m : Mirror). Some m) (grown-at t'' t''' o g'' second.known.0) ∙ second.type ∙ ap (erasure table max_type_steps) (grown-at t t' outcome g single) in
     let r : Some (map (at t''') ts) ≡ erasures_at table t thrown =
-    third.types ∙ ap (erasures table all_steps) (grown-types t t'' thrown (grows-on t t' t'' g g') all) in
+    third.types ∙ ap (erasures table max_type_steps) (grown-types t t'' thrown (grows-on t t' t'' g g') all) in
     ap (λ (m : Mirror). Some m) (executable-with t''' [] ps (map (at t''') ps) o (at t''' o) ts (map (at t''') ts) refl refl refl)
     ∙ ap (λ (x : Option (List Mirror)). executable_of x (Some (at t''' o)) (Some (map (at t''') ts))) p
     ∙ ap (λ (x : Option Mirror). executable_of (erasures_at table t parameters) x (Some (map (at t''') ts))) q
@@ -199,7 +199,7 @@ module _ (table : TypeTable) (t : List Mirror) (parameters : List ℕ) (outcome 
 
   pub second-open : (t' t'' : List Mirror) → Grows t t' → IsKnown t outcome → OptionStands t'' None (erasure_at table t' outcome) → OptionStands t'' None m
   second-open t' t'' g known second =
-      let here : None ≡ erasure_at table t outcome = second.type ∙ ap (erasure table all_steps) (grown-at t t' outcome g known) in
+      let here : None ≡ erasure_at table t outcome = second.type ∙ ap (erasure table max_type_steps) (grown-at t t' outcome g known) in
       optional-none t'' m
       (second_open (erasures_at table t parameters) (erasures_at table t thrown)
       ∙ ap (λ (x : Option Mirror). executable_of (erasures_at table t parameters) x (erasures_at table t thrown)) here
@@ -207,7 +207,7 @@ module _ (table : TypeTable) (t : List Mirror) (parameters : List ℕ) (outcome 
 
   pub third-open : (t'' t''' : List Mirror) → Grows t t'' → AreKnown t thrown → AllMayStand t''' None (erasures_at table t'' thrown) → OptionStands t''' None m
   third-open t'' t''' g known third =
-      let here : None ≡ erasures_at table t thrown = third.types ∙ ap (erasures table all_steps) (grown-types t t'' thrown g known) in
+      let here : None ≡ erasures_at table t thrown = third.types ∙ ap (erasures table max_type_steps) (grown-types t t'' thrown g known) in
       optional-none t''' m
       (third_open (erasures_at table t parameters) (erasure_at table t outcome)
       ∙ ap (λ (x : Option (List Mirror)). executable_of (erasures_at table t parameters) (erasure_at table t outcome) x) here

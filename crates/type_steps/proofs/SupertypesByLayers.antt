@@ -6,6 +6,7 @@ use Rattle.element_table.specs.TypeTable.{TypeTable}
 use Rattle.type_mirror.specs.declared.mirror.PrimitiveKind.{PrimitiveKind}
 use Rattle.apt_base.specs.declared.around.Around.{Around}
 use Rattle.apt_base.specs.declared.around.Around.TheVariants as around
+use Rattle.apt_base.specs.Limits.{max_type_steps}
 use Rattle.type_mirror.specs.declared.mirror.Mirror.{Mirror, out-Mirror, out-roll-Mirror, roll-out-Mirror}
 use Rattle.type_mirror.specs.declared.mirror.BaseMirror.{BaseMirror}
 use Rattle.type_mirror.specs.declared.mirror.BaseMirror.TheVariants as base
@@ -18,7 +19,7 @@ use Rattle.type_numbers.specs.declared.node.Node.{Node}
 use Rattle.type_numbers.specs.declared.node.Node.TheVariants as node
 use Rattle.type_numbers.specs.Nodes.{layer_of}
 use Rattle.type_numbers.specs.Numbers.{at, with_types}
-use Rattle.type_relations.specs.Direct.{all_steps, all_arrays_have, direct, direct_in, is_primitive, of_array, of_layer}
+use Rattle.type_relations.specs.Direct.{all_arrays_have, direct, direct_in, is_primitive, of_array, of_layer}
 use Rattle.type_relations.specs.Erasure.{erasures}
 use Rattle.type_relations.specs.Named.{declared_supertypes}
 use Rattle.type_relations.specs.RawTypes.{replacements}
@@ -89,7 +90,7 @@ raw_with : (table : TypeTable) (t : List Mirror) (number : ℕ) (element : Eleme
     ≡ of_layer table (at t number) (Declared element (option_map (at t) enclosing) (map (at t) arguments))
 raw_with table t number element enclosing [] e =
     let header = declared_supertypes table element in
-    let raw = erasures table all_steps header in
+    let raw = erasures table max_type_steps header in
     ap (λ (b : Bool). cond b raw (Some (map (substituted (replacements table (declared_mirror element None []))) header))) e
     ∙ sym (ap (λ (b : Bool). cond b raw (Some (map (substituted (replacements table (at t number))) header))) e)
 raw_with table t number element enclosing (argument ∷ arguments) e = absurd cc

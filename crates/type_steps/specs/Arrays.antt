@@ -7,12 +7,12 @@ use Rattle.type_layers.specs.Layers.{Layer, Array, Extends, array_of}
 use Rattle.type_numbers.specs.Numbers.{at}
 use Rattle.type_relations.specs.Erasure.{erasure}
 
--- the type in so many arrays
+-- the type in this many arrays
 abbrev pub arrays : ℕ → Mirror → Mirror
 arrays zero item = item
 arrays (suc n) item = array_of (arrays n item)
 
--- the type with a number that may be open, in so many arrays
+-- the type with a number that may be open, in this many arrays
 abbrev pub arrays_at : List Mirror → ℕ → Option ℕ → Option Mirror
 arrays_at types n item = option_map (arrays n) (option_map (at types) item)
 
@@ -30,6 +30,6 @@ has_item (Array item) = true
 has_item (Extends bound) = true
 has_item _ = false
 
--- the erasure of a type is that of another one, in so many arrays
+-- the erasure of a type is that of another one, in this many arrays
 abbrev pub ErasesIn : Mirror → ℕ → Mirror → Type 0
 ErasesIn m n item = (table : TypeTable) (steps : ℕ) → erasure table steps m ≡ option_map (arrays n) (erasure table steps item)

@@ -2,12 +2,13 @@
 use Rattle.std.specs.Prelude.{◌≡◌, ℕ, Bool, false, List, [], ◌∷◌, map, Option, unwrap_or}
 use Rattle.std.specs.Option.{option_map}
 use Rattle.apt_base.specs.declared.element.ElementRef.{ElementRef}
+use Rattle.apt_base.specs.Limits.{max_type_steps}
 use Rattle.element_table.specs.TypeTable.{TypeTable}
 use Rattle.type_mirror.specs.declared.mirror.Mirror.{Mirror}
 use Rattle.type_mirror.specs.Substitution.{substituted}
 use Rattle.type_layers.specs.Layers.{layer}
 use Rattle.type_numbers.specs.Numbers.{at, AreKnown}
-use Rattle.type_relations.specs.Direct.{all_steps, direct, of_layer, of_array}
+use Rattle.type_relations.specs.Direct.{direct, of_layer, of_array}
 use Rattle.type_relations.specs.Elements.{has_type_parameters}
 use Rattle.type_relations.specs.Erasure.{erasure, erasures}
 use Rattle.type_relations.specs.Named.{declared_supertypes}
@@ -22,11 +23,11 @@ pub record AllMayStand (t : List Mirror) (numbers : Option (List ℕ)) (ms : Opt
 
 -- that of the type with a number
 abbrev pub erasure_at : TypeTable → List Mirror → ℕ → Option Mirror
-erasure_at table types number = erasure table all_steps (at types number)
+erasure_at table types number = erasure table max_type_steps (at types number)
 
 -- those of several types, in order
 abbrev pub erasures_at : TypeTable → List Mirror → List ℕ → Option (List Mirror)
-erasures_at table types numbers = erasures table all_steps (map (at types) numbers)
+erasures_at table types numbers = erasures table max_type_steps (map (at types) numbers)
 
 -- ---- direct supertypes
 

@@ -66,7 +66,7 @@ fn in_arrays(types: &mut Types, around: usize, item: usize) -> Result<usize, NoM
     Ok(number)
 }
 
-/// The type in so many arrays; open where it is.
+/// The type in this many arrays; open where it is.
 pub(crate) fn all_in_arrays(
     types: &mut Types,
     around: usize,

@@ -1,23 +1,21 @@
 // Erasures by numbers.
 ghost use Rattle.std.specs.Prelude.{◌≡◌, ◌<◌, [], None, Some, false, IfOk};
 ghost use Rattle.std.specs.List.{AllByRecursion};
+ghost use Rattle.apt_base.specs.Limits.{max_type_steps};
 ghost use Rattle.type_layers.specs.Layers.{layer, declared_mirror};
 ghost use Rattle.type_numbers.specs.Numbers.{at, IsKnown, OptionStands, Grows};
-ghost use Rattle.type_relations.specs.Direct.{all_steps};
 ghost use Rattle.type_relations.specs.Erasure.{erasure};
 ghost use Rattle.type_steps.specs.Arrays.{has_item};
 ghost use Rattle.type_steps.specs.Supertypes.{AllMayStand, erasure_at, erasures_at};
 
 use crate::adding::add_optional;
 use crate::arrays::{all_in_arrays, erased_item};
-use apt_base::{ElementRef, List, NoMemory};
+use apt_base::{ElementRef, List, MAX_TYPE_STEPS, NoMemory};
 use element_table::Table;
 use std::alloc::Global;
 use type_mirror::{BaseMirror, Mirror};
 use type_numbers::{Node, Types};
 use type_relations::erasure_within;
-
-const ALL_STEPS: u32 = 64;
 
 // Of a type that is small as a tree.
 fn of_mirror(
@@ -26,10 +24,10 @@ fn of_mirror(
     types: &mut Types,
     of: &Mirror,
 ) -> Result<Option<usize>, NoMemory>
-    ensures stands { IfOk result (λ n. OptionStands types.new n (erasure table.now all_steps of.now)) }
+    ensures stands { IfOk result (λ n. OptionStands types.new n (erasure table.now max_type_steps of.now)) }
     ensures grows { Grows types.old types.new }
 {
-    let mirror = erasure_within(alloc, table, ALL_STEPS, of)?;
+    let mirror = erasure_within(alloc, table, MAX_TYPE_STEPS, of)?;
     add_optional(types, &mirror)
 }
 

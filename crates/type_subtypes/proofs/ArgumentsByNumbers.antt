@@ -120,7 +120,7 @@ module _ (asks : Mirror → Mirror → Next Mirror) (types : List Mirror) where
   abbrev from : List ℕ → List ℕ → ℕ → List (steps.Question Mirror)
   from as' bs n = each_contained type_arguments (map (at types) (drop n as')) (map (at types) (drop n bs))
 
-  -- the questions so far, and those that are left
+  -- the questions so far, and the rest
   pub record AreAsked (as' bs : List ℕ) (n : ℕ) (questions : List Question) : Type 0 where
     pub known : AllByRecursion (IsKnownQuestion (numbered asks types)) questions
     pub asked : map (question_at (numbered asks types)) questions ++ from as' bs n ≡ each_contained type_arguments (map (at types) as') (map (at types) bs)

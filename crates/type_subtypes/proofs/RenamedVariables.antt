@@ -17,7 +17,7 @@ as_type one = mirror_of (Variable one)
 abbrev pub entries_from : List ElementRef → List ElementRef → ℕ → Replacements
 entries_from ones others n = zip (drop n others) (as_types (drop n ones))
 
--- those so far, and those that are left
+-- those so far, and the rest
 pub record AreRenamed (ones others : List ElementRef) (n : ℕ) (by : Replacements) : Type 0 where
   pub distinct : AreDistinct by
   pub goes_on : once_behind by (entries_from ones others n) ≡ once_behind [] (zip others (as_types ones))

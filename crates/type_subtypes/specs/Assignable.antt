@@ -17,7 +17,7 @@ use Rattle.type_subtypes.specs.Subtypes.{yes_if, or_supertypes, subtype}
 unfoldable pub next_raw : TypeTable → Mirror → Mirror → Next Mirror
 next_raw table a b = or_supertypes (yes_if (same a b && is_raw table a)) (direct table a)
 
--- within so many steps
+-- within this many steps
 abbrev pub reaches_raw : TypeTable → ℕ → Mirror → Mirror → Answer
 reaches_raw table n = sub_within (next_raw table) n
 

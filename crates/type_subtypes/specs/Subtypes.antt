@@ -62,10 +62,10 @@ or_supertypes None (Some types) = Supertypes types
 unfoldable pub next_of : TypeTable → Mirror → Mirror → Next Mirror
 next_of table a b = or_supertypes (decided a b) (direct table a)
 
--- within so many steps
+-- within this many steps
 abbrev pub subtype : TypeTable → ℕ → Mirror → Mirror → Answer
 subtype table n = sub_within (next_of table) n
 
--- whether the argument `a` contains `b`, within so many steps
+-- whether the argument `a` contains `b`, within this many steps
 abbrev pub contained : TypeTable → ℕ → Mirror → Mirror → Answer
 contained table n a b = answer_of (subtype table n) (contains type_arguments a b)

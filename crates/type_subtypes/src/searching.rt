@@ -1,6 +1,6 @@
 // Subtypes and contained type arguments within 64 steps.
 ghost use Rattle.std.specs.Prelude.{◌≡◌, IfOk};
-ghost use Rattle.type_levels.specs.Steps.{all_steps};
+ghost use Rattle.apt_base.specs.Limits.{max_type_steps};
 ghost use Rattle.type_subtypes.specs.Assignable as assigning;
 ghost use Rattle.type_subtypes.specs.Subtypes as subtypes;
 
@@ -15,9 +15,9 @@ use type_numbers::Types;
 
 /// Whether the first type is a subtype of the second one (JLS 4.10) within 64 steps, each of which goes to a direct supertype or into a type argument; open where these do not suffice.
 ///
-/// It is want of memory too where the questions of the search would name more than 65,536 arguments and supertypes.
+/// It is out of memory too where the questions of the search would name more than 65,536 arguments and supertypes.
 pub fn subtype(alloc: Global, table: &Table, a: &Mirror, b: &Mirror) -> Result<Answer, NoMemory>
-    ensures { IfOk result (λ r. r ≡ subtypes.subtype table.now all_steps a.now b.now) }
+    ensures { IfOk result (λ r. r ≡ subtypes.subtype table.now max_type_steps a.now b.now) }
 {
     let mut types = Types::new(alloc);
     let sub = types.add(a)?;
@@ -27,9 +27,9 @@ pub fn subtype(alloc: Global, table: &Table, a: &Mirror, b: &Mirror) -> Result<A
     Ok(answer)
 }
 
-/// Whether the first type argument contains the second one (JLS 4.5.1), where the one question on subtypes that this asks has 64 steps; open where these do not suffice. Want of memory comes as in `subtype`.
+/// Whether the first type argument contains the second one (JLS 4.5.1), where the one question on subtypes that this asks has 64 steps; open where these do not suffice. Out of memory comes as in `subtype`.
 pub fn contained(alloc: Global, table: &Table, a: &Mirror, b: &Mirror) -> Result<Answer, NoMemory>
-    ensures { IfOk result (λ r. r ≡ subtypes.contained table.now all_steps a.now b.now) }
+    ensures { IfOk result (λ r. r ≡ subtypes.contained table.now max_type_steps a.now b.now) }
 {
     let mut types = Types::new(alloc);
     let one = types.add(a)?;
@@ -51,7 +51,7 @@ pub(crate) fn reaches_raw(
     a: &Mirror,
     b: &Mirror,
 ) -> Result<Answer, NoMemory>
-    ensures { IfOk result (λ r. r ≡ assigning.reaches_raw table.now all_steps a.now b.now) }
+    ensures { IfOk result (λ r. r ≡ assigning.reaches_raw table.now max_type_steps a.now b.now) }
 {
     let mut types = Types::new(alloc);
     let sub = types.add(a)?;

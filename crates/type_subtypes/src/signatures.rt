@@ -1,25 +1,23 @@
 // Subsignatures: the parameters of two methods or constructors.
 ghost use Rattle.std.specs.Prelude.{◌≡◌, [], IfOk, OnOk, length, map};
 ghost use Rattle.std.specs.Option.{option_copied, option_map};
+ghost use Rattle.apt_base.specs.Limits.{max_type_steps};
 ghost use Rattle.type_mirror.specs.Substitution.{substituted, AreDistinct};
 ghost use Rattle.type_layers.specs.Layers as layers;
 ghost use Rattle.type_layers.specs.Layers.{executable_layer, layer, layer_in, mirror_of};
-ghost use Rattle.type_levels.specs.Steps.{all_steps};
 ghost use Rattle.type_relations.specs.Erasure.{erasure};
 ghost use Rattle.type_relations.specs.RawTypes as raw;
 ghost use Rattle.type_relations.specs.RawTypes.{added};
 ghost use Rattle.type_subtypes.specs.Subsignature as signatures;
 ghost use Rattle.type_subtypes.specs.Subsignature.{all_same, executable_in, is_erased, of_signatures, signature_beside};
 
-use apt_base::{ElementRef, List, NoMemory};
+use apt_base::{ElementRef, List, MAX_TYPE_STEPS, NoMemory};
 use element_table::Table;
 use std::alloc::Global;
 use type_layers::is_same;
 use type_levels::Answer;
 use type_mirror::{Around, BaseMirror, ExecutableMirror, Mirror, substitute};
 use type_relations::erasure_within;
-
-const ALL_STEPS: u32 = 64;
 
 // ---- variables renamed
 
@@ -125,9 +123,9 @@ fn same_renamed(
 
 #[tactic(auto, using(crate::proofs::SignatureLaws::paired))]
 fn is_erased(alloc: Global, table: &Table, one: &Mirror, other: &Mirror) -> Result<Answer, NoMemory>
-    ensures { IfOk result (λ r. r ≡ is_erased one.now (erasure table.now all_steps other.now)) }
+    ensures { IfOk result (λ r. r ≡ is_erased one.now (erasure table.now max_type_steps other.now)) }
 {
-    match erasure_within(alloc, table, ALL_STEPS, other)? {
+    match erasure_within(alloc, table, MAX_TYPE_STEPS, other)? {
         None => Ok(Answer::Open),
         Some(erased) => Ok(Answer::of_test(is_same(one, &erased))),
     }
@@ -140,7 +138,7 @@ fn same_erased(
     ones: &[Mirror],
     others: &[Mirror],
 ) -> Result<Answer, NoMemory>
-    ensures { IfOk result (λ r. r ≡ signatures.same_erased table.now all_steps ones.now others.now) }
+    ensures { IfOk result (λ r. r ≡ signatures.same_erased table.now max_type_steps ones.now others.now) }
 {
     if ones.len() != others.len() {
         return Ok(Answer::No);
@@ -191,7 +189,7 @@ fn of_executables(
     one: &ExecutableMirror,
     other: &ExecutableMirror,
 ) -> Result<Answer, NoMemory>
-    ensures { IfOk result (λ r. r ≡ of_signatures table.now all_steps one.now other.now) }
+    ensures { IfOk result (λ r. r ≡ of_signatures table.now max_type_steps one.now other.now) }
 {
     let ones = one.parameters.as_slice();
     let others = other.parameters.as_slice();
@@ -212,7 +210,7 @@ fn beside(
     one: &ExecutableMirror,
     b: &Mirror,
 ) -> Result<Answer, NoMemory>
-    ensures { IfOk result (λ r. r ≡ signature_beside table.now all_steps one.now b.now) }
+    ensures { IfOk result (λ r. r ≡ signature_beside table.now max_type_steps one.now b.now) }
 {
     match executable_of(b) {
         None => Ok(Answer::No),
@@ -230,7 +228,7 @@ pub fn subsignature(
     a: &Mirror,
     b: &Mirror,
 ) -> Result<Answer, NoMemory>
-    ensures { IfOk result (λ r. r ≡ signatures.subsignature table.now all_steps a.now b.now) }
+    ensures { IfOk result (λ r. r ≡ signatures.subsignature table.now max_type_steps a.now b.now) }
 {
     match executable_of(a) {
         None => Ok(Answer::No),

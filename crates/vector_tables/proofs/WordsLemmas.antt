@@ -46,7 +46,7 @@ first_value-rows f id = first_in f.entries.items id
 
 -- ---- errors
 
--- an error that is no want of memory comes of a fault
+-- an error other than out of memory comes of a fault
 pub faulty : (kinds : Kinds) (e : Error) → HasKind kinds e → kind_of e ≢ kind.OutOfMemory → kinds ≢ []
 faulty kinds e (inl memory) other none = other memory
 faulty [] e (inr among) other none = among

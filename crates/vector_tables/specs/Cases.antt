@@ -1,6 +1,7 @@
 -- When a case passes: what its file gives is what is expected.
 use Rattle.std.specs.Prelude.{◌≡◌, ◌⊎◌, ℕ, ◌≤◌, List, length, map, Bool, MatchBool}
 use Rattle.std.specs.Str.{encode_utf8_all}
+use Rattle.apt_base.specs.Limits.{max_file_bytes}
 use Rattle.java_tokens.specs.declared.chars.Chars.{Chars}
 use Rattle.java_tokens.specs.Characters.{Placed, AreChars, IsCharFault}
 use Rattle.java_tokens.specs.Tokens.{Lexeme, AreTokens, IsTokenFault}
@@ -64,7 +65,7 @@ Gives file wanted =
 
 -- a row holds: its file is no longer than can be read, and gives what is wanted
 abbrev pub Holds : Row → Type 0
-Holds row = (length row.file ≤ 8_388_608) × Gives row.file row.wanted
+Holds row = (length row.file ≤ max_file_bytes) × Gives row.file row.wanted
 
 -- a case passes
 abbrev pub IsPassed : Case → Type 0

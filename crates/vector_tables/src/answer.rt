@@ -17,7 +17,7 @@ pub struct Answer {
 }
 
 impl Answer {
-    /// An equal answer. It fails only for want of memory.
+    /// An equal answer. It fails only when memory runs out.
     pub fn copy(&self, alloc: Global) -> Result<Answer, AllocError>
         ensures text { IfOk result (λ answer. string_bytes answer.text ≡ string_bytes self.now.text) }
         ensures status { IfOk result (λ answer. answer.status ≡ self.now.status) }
@@ -42,7 +42,7 @@ fn run(alloc: Global, tables: &[Table]) -> Result<Answer, AllocError>
 }
 
 /// The answer to a task: a line for each table that is run, with status 0 where all passed and else 1, or the line
-/// `refused` with status 2. The one error is want of memory.
+/// `refused` with status 2. The one error is out of memory.
 pub fn answer_to(alloc: Global, task: Task) -> Result<Answer, AllocError>
     ensures { IfOk result (λ answer. Answers task answer) }
 {

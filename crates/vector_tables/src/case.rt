@@ -3,11 +3,9 @@ ghost use Rattle.std.specs.Prelude.{◌≡◌, IfOk};
 ghost use Rattle.java_tokens.specs.TokensShown.{AreTokensIn, IsTokenFaultIn, shown_doc, shown_token, shown_tokens};
 ghost use Rattle.vector_tables.specs.Cases.{no_characters, shown_expected, Tells, IsAlike, IsGiven, IsPassed};
 
+use apt_base::MAX_FILE_BYTES;
 use java_tokens::{Chars, TextFault, Token, read_chars, tokens};
 use std::alloc::{AllocError, Global};
-
-// The most bytes of a file.
-const MOST: usize = 8_388_608;
 
 /// What a file is to give.
 #[derive(Clone, Copy)]
@@ -31,11 +29,11 @@ pub struct Case<'a> {
     pub expected: Expected<'a>,
 }
 
-/// A case passes exactly where its file gives what is expected. The one error is want of memory.
+/// A case passes exactly where its file gives what is expected. The one error is out of memory.
 pub fn passes(alloc: Global, case: &Case<'_>) -> Result<bool, AllocError>
     ensures { IfOk result (λ passed. Tells passed (IsPassed case.now)) }
 {
-    if case.file.len() > MOST {
+    if case.file.len() > MAX_FILE_BYTES {
         return Ok(false);
     }
     match read_chars(alloc, case.file) {

@@ -25,7 +25,7 @@ fn is_same(verdict: Verdict, expected: Verdict) -> bool
     verdict == expected
 }
 
-/// A case passes exactly where its bytes are what is expected. The one error is want of memory.
+/// A case passes exactly where its bytes are what is expected. The one error is out of memory.
 pub fn frame_passes(alloc: Global, case: &FrameCase<'_>) -> Result<bool, AllocError>
     ensures { IfOk result (λ passed. Tells passed (IsFramePassed case.now)) }
 {
@@ -36,7 +36,7 @@ pub fn frame_passes(alloc: Global, case: &FrameCase<'_>) -> Result<bool, AllocEr
     }
 }
 
-/// These cases pass exactly where each of them does. The one error is want of memory.
+/// These cases pass exactly where each of them does. The one error is out of memory.
 pub fn all_frames_pass(alloc: Global, cases: &[FrameCase<'_>]) -> Result<bool, AllocError>
     ensures { IfOk result (λ passed. Tells passed (All IsFramePassed cases.now)) }
 {

@@ -26,7 +26,7 @@ fn outcome_of(alloc: Global, table: Table) -> Result<Outcome<'static>, AllocErro
     })
 }
 
-/// What comes of these tables, in order. The one error is want of memory.
+/// What comes of these tables, in order. The one error is out of memory.
 pub fn outcomes(alloc: Global, tables: &[Table]) -> Result<Vec<Outcome<'static>>, AllocError>
     ensures { IfOk result (λ outcomes. AreOutcomes tables.now outcomes.items) }
 {
@@ -48,7 +48,7 @@ fn add_line(alloc: Global, text: &mut String, outcome: &Outcome<'_>) -> Result<(
     Ok(())
 }
 
-/// A line for each table, in order: its name, and `passed` or `failed`. The one error is want of memory.
+/// A line for each table, in order: its name, and `passed` or `failed`. The one error is out of memory.
 pub fn report(alloc: Global, outcomes: &[Outcome<'_>]) -> Result<String, AllocError>
     ensures { IfOk result (λ text. string_bytes text ≡ flat_map outcome_line outcomes.now) }
 {

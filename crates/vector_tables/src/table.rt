@@ -46,7 +46,7 @@ impl Table {
         None
     }
 
-    /// It passes exactly where each of its rows holds. The one error is want of memory.
+    /// It passes exactly where each of its rows holds. The one error is out of memory.
     pub fn passes(self, alloc: Global) -> Result<bool, AllocError>
         ensures { IfOk result (λ passed. Tells passed (AllHold self)) }
     {
@@ -57,7 +57,7 @@ impl Table {
     }
 }
 
-/// These cases pass exactly where each of them does. The one error is want of memory.
+/// These cases pass exactly where each of them does. The one error is out of memory.
 pub fn all_pass(alloc: Global, cases: &[Case<'_>]) -> Result<bool, AllocError>
     ensures { IfOk result (λ passed. Tells passed (All IsPassed cases.now)) }
 {

@@ -27,7 +27,7 @@ pub enum Verdict {
 
 /// What a new reader says of these bytes when it is fed them one at a time.
 ///
-/// `None` comes exactly where bytes are behind a frame. The one error is want of memory.
+/// `None` comes exactly where bytes are behind a frame. The one error is out of memory.
 pub fn verdict_on(alloc: Global, bytes: &[u8]) -> Result<Option<Verdict>, AllocError>
     ensures { IfOk result (λ verdict. AreJust bytes.now verdict) }
 {

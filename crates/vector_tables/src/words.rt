@@ -20,7 +20,7 @@ pub enum Task {
 }
 
 /// The task of these words, the program's own name first: each table where nothing follows it, and one table for
-/// `--table NAME`. Other words are refused. The one error is want of memory.
+/// `--table NAME`. Other words are refused. The one error is out of memory.
 pub fn task_of(alloc: Global, words: &[String]) -> Result<Task, AllocError>
     ensures { IfOk result (AsksFor (map string_bytes words.now)) }
 {

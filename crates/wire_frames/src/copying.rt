@@ -7,7 +7,7 @@ use type_mirror::{Annotation, Mirror, Value};
 
 /// What frames hold and copy.
 pub(crate) trait Part: Drop {
-    /// An equal part. It fails only for want of memory.
+    /// An equal part. It fails only when memory runs out.
     fn copied(&self, alloc: Global) -> Result<Self, NoMemory>
         ensures { IfOk result (λ copy. copy ≡ self.now) };
 }

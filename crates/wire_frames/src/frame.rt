@@ -121,7 +121,7 @@ pub fn copy_options(alloc: Global, options: &[(Name, Name)]) -> Result<List<(Nam
 }
 
 impl Init {
-    /// An equal frame of the host. It fails only for want of memory.
+    /// An equal frame of the host. It fails only when memory runs out.
     pub fn copy(&self, alloc: Global) -> Result<Init, NoMemory>
         ensures { IfOk result (λ init. init ≡ self.now) }
     {
@@ -135,7 +135,7 @@ impl Init {
 }
 
 impl Hello {
-    /// An equal frame of a child. It fails only for want of memory.
+    /// An equal frame of a child. It fails only when memory runs out.
     pub fn copy(&self, alloc: Global) -> Result<Hello, NoMemory>
         ensures { IfOk result (λ hello. hello ≡ self.now) }
     {
@@ -149,7 +149,7 @@ impl Hello {
 }
 
 impl Creation {
-    /// An equal creation. It fails only for want of memory.
+    /// An equal creation. It fails only when memory runs out.
     pub fn copy(&self, alloc: Global) -> Result<Creation, NoMemory>
         ensures { IfOk result (λ creation. creation ≡ self.now) }
     {
@@ -201,7 +201,7 @@ impl Creation {
 }
 
 impl Message {
-    /// An equal message. It fails only for want of memory.
+    /// An equal message. It fails only when memory runs out.
     pub fn copy(&self, alloc: Global) -> Result<Message, NoMemory>
         ensures { IfOk result (λ message. message ≡ self.now) }
     {
@@ -215,7 +215,7 @@ impl Message {
 }
 
 impl Frame {
-    /// An equal frame. It fails only for want of memory.
+    /// An equal frame. It fails only when memory runs out.
     pub fn copy(&self, alloc: Global) -> Result<Frame, NoMemory>
         ensures { IfOk result (λ frame. frame ≡ self.now) }
     {

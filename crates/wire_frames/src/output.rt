@@ -10,7 +10,7 @@ use std::alloc::Global;
 
 /// Where fields go.
 ///
-/// Each method adds the spelling of a value. It fails only for want of memory, and never where it counts.
+/// Each method adds the spelling of a value. It fails only when memory runs out, and never where it counts.
 #[derive(Drop)]
 pub(crate) enum Output {
     /// They are counted, up to the largest `usize`.
@@ -146,7 +146,7 @@ impl Output {
     }
 }
 
-// Bytes. More than can be counted in four bytes are taken for want of memory.
+// Bytes. More than can be counted in four bytes are taken for a lack of memory.
 fn write_bytes(writer: &mut FieldWriter, bytes: &[u8]) -> Result<(), NoMemory>
     ensures { OnOk result (writer.new ≡ writer.old ++ bytes_form bytes.now) }
 {

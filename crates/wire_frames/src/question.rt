@@ -106,7 +106,7 @@ pub enum Question {
 }
 
 impl Question {
-    /// An equal question. It fails only for want of memory.
+    /// An equal question. It fails only when memory runs out.
     pub fn copy(&self, alloc: Global) -> Result<Question, NoMemory>
         ensures { IfOk result (λ question. question ≡ self.now) }
     {

@@ -122,7 +122,7 @@ fn path(alloc: Global, reader: &mut FieldReader<'_>) -> Result<List<u16>, FormFa
     Ok(items)
 }
 
-/// The reference of an element that stands next. It is Bad where none stands there, and Memory for want of memory.
+/// The reference of an element that stands next. It is Bad where none stands there, and Memory when memory runs out.
 #[tactic(auto, unfolding(crate::specs::Readings::element_next))]
 pub fn read_element(alloc: Global, reader: &mut FieldReader<'_>) -> Result<ElementRef, FormFault>
     ensures { Gives result (element_next reader.old) reader.new }
@@ -133,7 +133,7 @@ pub fn read_element(alloc: Global, reader: &mut FieldReader<'_>) -> Result<Eleme
 }
 
 /// The references of elements that stand next, behind their number. It is Bad where there is no such list, and
-/// Memory for want of memory.
+/// Memory when memory runs out.
 #[tactic(auto, unfolding(apt_base::specs::Forms::list_next))]
 pub fn read_elements(
     alloc: Global,
@@ -250,7 +250,7 @@ fn message(alloc: Global, reader: &mut FieldReader<'_>) -> Result<Frame, FormFau
 }
 
 /// The frame of a child that has this tag and the fields that stand next: `Hello`, `Done`, `Create` or `Message`.
-/// It is Bad where they are not the tag's fields, and for any other tag, and Memory for want of memory.
+/// It is Bad where they are not the tag's fields, and for any other tag, and Memory when memory runs out.
 pub fn read_child_fields(
     alloc: Global,
     tag: u8,

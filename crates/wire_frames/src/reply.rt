@@ -75,7 +75,7 @@ pub enum Reply {
 }
 
 impl Info {
-    /// Equal facts of an element. It fails only for want of memory.
+    /// Equal facts of an element. It fails only when memory runs out.
     pub fn copy(&self) -> Result<Info, NoMemory>
         ensures { IfOk result (λ info. info ≡ self.now) }
     {
@@ -90,7 +90,7 @@ impl Info {
 }
 
 impl Reply {
-    /// An equal reply. It fails only for want of memory.
+    /// An equal reply. It fails only when memory runs out.
     pub fn copy(&self, alloc: Global) -> Result<Reply, NoMemory>
         ensures { IfOk result (λ reply. reply ≡ self.now) }
     {

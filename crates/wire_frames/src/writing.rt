@@ -31,7 +31,7 @@ pub const MAX_FRAME: usize = 134_217_728;
 pub enum FrameFault {
     /// The frame would be longer than `MAX_FRAME`.
     TooLarge,
-    /// Want of memory.
+    /// Out of memory.
     Memory,
 }
 

@@ -9,19 +9,19 @@ pub row-init : goal.row-init
 row-init c = row-begins 14 type_param c.args.symbols.now _ c.requires.opened c.behind-rest.ensures
 
 -- as many as there may be
-pub returns-then-count-ge-MOST : goal.returns-then-count-ge-MOST
-returns-then-count-ge-MOST c = row-full 14 type_param c.args.symbols.now c.row.count c.row.rest.now c.if-count-ge-MOST.true (ap (λ (ks : List ℕ). starts ks c.row.rest.now) type_param_first ∙ sym c.starts_type_param.ensures ∙ c.row-test.true) c.row.invariant
+pub returns-then-count-ge-MAX_CHILDREN : goal.returns-then-count-ge-MAX_CHILDREN
+returns-then-count-ge-MAX_CHILDREN c = row-full 14 type_param c.args.symbols.now c.row.count c.row.rest.now c.if-count-ge-MAX_CHILDREN.true (ap (λ (ks : List ℕ). starts ks c.row.rest.now) type_param_first ∙ sym c.starts_type_param.ensures ∙ c.row-test.true) c.row.invariant
 
 -- no item is read
 pub returns-in_default : goal.returns-in_default
 returns-in_default c =
-    row-unread 14 type_param type-param-item c.args.symbols.now c.args.room c.row.count c.row.rest.now c.requires.room (omega (arith, c.if-count-ge-MOST.false))
+    row-unread 14 type_param type-param-item c.args.symbols.now c.args.room c.row.count c.row.rest.now c.requires.room (omega (arith, c.if-count-ge-MAX_CHILDREN.false))
     (unread (λ x. (x.0, x.1.now)) c.type_param_of.result _ c.type_param_of.ensures (rw c.in_default.is at c.in_ok-after.ensures)) c.row.invariant
 
 -- no comma stands behind it
 pub returns-then-not-is_next : goal.returns-then-not-is_next
 returns-then-not-is_next c =
-    row-stops 14 type_param type-param-item c.args.symbols.now c.args.room c.row.count c.row.rest.now _ c.in-Some.after.now c.requires.room (omega (arith, c.if-count-ge-MOST.false)) (was-read (λ x. (x.0, x.1.now)) c.type_param_of.result _ _ c.type_param_of.ensures (rw c.in-Some.is at c.in_ok-after.ensures)) (sym c.is_next.ensures ∙ c.if-not-is_next.true)
+    row-stops 14 type_param type-param-item c.args.symbols.now c.args.room c.row.count c.row.rest.now _ c.in-Some.after.now c.requires.room (omega (arith, c.if-count-ge-MAX_CHILDREN.false)) (was-read (λ x. (x.0, x.1.now)) c.type_param_of.result _ _ c.type_param_of.ensures (rw c.in-Some.is at c.in_ok-after.ensures)) (sym c.is_next.ensures ∙ c.if-not-is_next.true)
     c.row.invariant
 
 pub row-smaller : goal.row-smaller
@@ -31,7 +31,7 @@ pub row-preserved : goal.row-preserved
 row-preserved c =
     let one : suc c.row.count ≡ c.row.count + 1 = omega arith in
     subst (λ (n : ℕ). RowSame 14 type_param c.args.symbols.now n c.behind-rest-in-row.result.now) one
-    (row-goes 14 type_param type-param-item c.args.symbols.now c.args.room c.row.count c.row.rest.now _ c.in-Some.after.now _ c.requires.room (omega (arith, c.if-count-ge-MOST.false)) (was-read (λ x. (x.0, x.1.now)) c.type_param_of.result _ _ c.type_param_of.ensures (rw c.in-Some.is at c.in_ok-after.ensures)) (sym c.is_next.ensures ∙ c.if-not-is_next.false)
+    (row-goes 14 type_param type-param-item c.args.symbols.now c.args.room c.row.count c.row.rest.now _ c.in-Some.after.now _ c.requires.room (omega (arith, c.if-count-ge-MAX_CHILDREN.false)) (was-read (λ x. (x.0, x.1.now)) c.type_param_of.result _ _ c.type_param_of.ensures (rw c.in-Some.is at c.in_ok-after.ensures)) (sym c.is_next.ensures ∙ c.if-not-is_next.false)
     c.behind-rest-in-row.ensures c.row.invariant)
 
 -- none may begin

@@ -97,16 +97,16 @@ walk_headed-returns-in_default t c =
     headed-none c.args.kind c.args.room c.args.symbols.now c.requires.kind c.requires.begins c.requires.room (rw c.if-branch.false at c.in_ok-named_params_full.ensures)
     (unread (λ x. (x.0, x.1.now)) c.heading_at.result _ c.heading_at.ensures (rw c.in_default.is at c.in_ok-found.ensures))
 
-pub walk_headed-returns-then-before-gt-MOST : goal.walk_headed-returns-then-before-gt-MOST
-walk_headed-returns-then-before-gt-MOST t c =
+pub walk_headed-returns-then-before-gt-MAX_CHILDREN : goal.walk_headed-returns-then-before-gt-MAX_CHILDREN
+walk_headed-returns-then-before-gt-MAX_CHILDREN t c =
     let there = was-read (λ x. (x.0, x.1.now)) c.heading_at.result _ _ c.heading_at.ensures (rw c.in-Some.is at c.in_ok-found.ensures) in
-    headed-most c.args.kind c.args.room c.args.symbols.now c.in-Some.found.1.now c.in-Some.found.0 c.requires.kind there c.if-before-gt-MOST.true
+    headed-most c.args.kind c.args.room c.args.symbols.now c.in-Some.found.1.now c.in-Some.found.0 c.requires.kind there c.if-before-gt-MAX_CHILDREN.true
 
 pub walk_headed-walk_members-requires : goal.walk_headed-walk_members-requires
 walk_headed-walk_members-requires t c =
     let there = was-read (λ x. (x.0, x.1.now)) c.heading_at.result _ _ c.heading_at.ensures (rw c.in-Some.is at c.in_ok-found.ensures) in
     let less = falls c.args.room (heading_of c.args.kind) c.args.symbols.now c.in-Some.found.0 c.in-Some.found.1.now (heading-never c.args.kind) there in
-    (omega (arith, c.decreases, less), (omega (arith, c.requires.room, less), omega (arith, c.if-before-gt-MOST.false)))
+    (omega (arith, c.decreases, less), (omega (arith, c.requires.room, less), omega (arith, c.if-before-gt-MAX_CHILDREN.false)))
 
 pub walk_headed-returns : goal.walk_headed-returns
 walk_headed-returns t c =
@@ -115,8 +115,8 @@ walk_headed-returns t c =
 
 -- ---- an enum
 
-pub walk_behind_constants-returns-then-before-gt-MOST : goal.walk_behind_constants-returns-then-before-gt-MOST
-walk_behind_constants-returns-then-before-gt-MOST t c = constants-most c.args.before c.args.symbols.now (sym c.is_next.ensures ∙ c.if-is_next.true) c.if-before-gt-MOST.true
+pub walk_behind_constants-returns-then-before-gt-MAX_CHILDREN : goal.walk_behind_constants-returns-then-before-gt-MAX_CHILDREN
+walk_behind_constants-returns-then-before-gt-MAX_CHILDREN t c = constants-most c.args.before c.args.symbols.now (sym c.is_next.ensures ∙ c.if-is_next.true) c.if-before-gt-MAX_CHILDREN.true
 
 pub walk_behind_constants-returns-then-is_next : goal.walk_behind_constants-returns-then-is_next
 walk_behind_constants-returns-then-is_next t c =

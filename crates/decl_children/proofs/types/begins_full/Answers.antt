@@ -10,4 +10,4 @@ returns-then-is_next-2 c = begins-none c.args.kind c.args.before c.args.symbols.
 
 pub returns : goal.returns
 returns c =
-    begins-tell c.args.kind c.args.before c.args.symbols.now c.starts_member.result (omega (arith, c.if-before-lt-MOST.false)) (sym c.is_next.ensures ∙ c.if-is_next.false) (sym c.is_next-2.ensures ∙ c.if-is_next-2.false) c.starts_member.ensures
+    begins-tell c.args.kind c.args.before c.args.symbols.now c.starts_member.result (omega (arith, c.if-before-lt-MAX_CHILDREN.false)) (sym c.is_next.ensures ∙ c.if-is_next.false) (sym c.is_next-2.ensures ∙ c.if-is_next-2.false) c.starts_member.ensures

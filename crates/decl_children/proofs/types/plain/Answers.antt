@@ -1,6 +1,7 @@
 use Rattle.std.proofs.Common.{List, Err, refl, sym, ◌∙◌}
 use Rattle.std.specs.Borrow.{Bor}
 use Rattle.std.proofs.lemmas.Bool.{ltb-true, ltb-false}
+use Rattle.apt_base.specs.Limits.{max_children}
 use Rattle.decl_grammar.specs.declared.fault.ReadFault.TheVariants as faults
 use Rattle.decl_grammar.specs.declared.symbol.Symbol.{Symbol}
 use Rattle.decl_grammar.specs.declared.written.Unmodified.{Unmodified}
@@ -13,11 +14,11 @@ use Rattle.decl_children.proofs.WalkTells.{own-many, own-few, plain-none}
 use Rattle.decl_children.proofs.types.plain.Goals as goal
 
 pub returns-then-has_many : goal.returns-then-has_many
-returns-then-has_many c = own-many c.args.kind c.args.room c.args.symbols.now c.in-Ok.read.1.now c.in-Ok.read.0 c.in-Ok.ensures (ltb-true 65535 (own_of c.in-Ok.read.0) (sym c.has_many.ensures ∙ c.if-has_many.true))
+returns-then-has_many c = own-many c.args.kind c.args.room c.args.symbols.now c.in-Ok.read.1.now c.in-Ok.read.0 c.in-Ok.ensures (ltb-true max_children (own_of c.in-Ok.read.0) (sym c.has_many.ensures ∙ c.if-has_many.true))
 
 pub returns-else-has_many : goal.returns-else-has_many
 returns-else-has_many c = (
-  own-few c.args.kind c.args.room c.args.symbols.now c.in-Ok.read.1.now c.in-Ok.read.0 c.in-Ok.ensures (ltb-false 65535 (own_of c.in-Ok.read.0) (sym c.has_many.ensures ∙ c.if-has_many.false)),
+  own-few c.args.kind c.args.room c.args.symbols.now c.in-Ok.read.1.now c.in-Ok.read.0 c.in-Ok.ensures (ltb-false max_children (own_of c.in-Ok.read.0) (sym c.has_many.ensures ∙ c.if-has_many.false)),
   (c.in-Ok.read.0, read-phrase (unmodified_form c.args.kind) c.args.room c.args.symbols.now c.in-Ok.read.0 c.in-Ok.read.1.now c.in-Ok.ensures, c.count_in-count.ensures, c.is_constructor-constructor.ensures),
 )
 

@@ -4,7 +4,7 @@ use Rattle.apt_outside.specs.Child.{State}
 use Rattle.round_engine.specs.Shown.{LiveInTurn, without_each, StopsAll}
 use Rattle.round_engine.proofs.beginning.end_all.Given as goal
 
--- those that are left decide
+-- the rest decide
 abbrev pub invariant-loop-child : goal.invariant-loop-child
 invariant-loop-child g l =
     let C = g.C.Children in

@@ -4,7 +4,7 @@ use Rattle.tree_store.specs.Sources.{AreShort}
 use Rattle.tree_store.proofs.SourceLimits.{AreOnTheWay}
 use Rattle.tree_store.proofs.sources.read_each.Given as goal
 
--- the count did not fall, the files are as they were, the paths so far gave the sources so far, and those that are left decide
+-- the count did not fall, the files are as they were, the paths so far gave the sources so far, and the rest decide
 abbrev pub invariant-loop-path : goal.invariant-loop-path
 invariant-loop-path g l =
     let T = g.T.Tree in

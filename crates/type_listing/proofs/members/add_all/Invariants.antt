@@ -2,7 +2,7 @@ use Rattle.std.proofs.Common.{◌≡◌, drop}
 use Rattle.type_listing.specs.Members.{with_members}
 use Rattle.type_listing.proofs.members.add_all.Given as goal
 
--- the list so far with those that are left is the list with all of them
+-- the list so far with the rest is the list with all of them
 abbrev pub invariant-loop-each : goal.invariant-loop-each
 invariant-loop-each l =
     (l.list.table ≡ l.fn.list.table)

@@ -1,4 +1,4 @@
-use Rattle.type_levels.specs.Steps.{all_steps}
+use Rattle.apt_base.specs.Limits.{max_type_steps}
 use Rattle.type_elements.specs.TypeOf.{type_of}
 use Rattle.type_subtypes.proofs.NumberedTypes.{both-known, searched}
 use Rattle.type_overriding.specs.ByElements.{next_by_elements}
@@ -14,7 +14,7 @@ related-requires c = record {
 
 pub returns-clause-answer : goal.returns-clause-answer
 returns-clause-answer c =
-    searched (next_by_elements c.args.table.now) c.number_of.new.types c.number_of-2.new.types c.in_ok-sub.sub c.in_ok-sup.sup all_steps (type_of c.args.table.now c.args.one.now)
+    searched (next_by_elements c.args.table.now) c.number_of.new.types c.number_of-2.new.types c.in_ok-sub.sub c.in_ok-sup.sup max_type_steps (type_of c.args.table.now c.args.one.now)
     (type_of c.args.table.now c.args.other.now) c.in_ok-answer.answer c.in_ok-sub.ensures.stands c.in_ok-sup.ensures.grows c.in_ok-sup.ensures.stands c.in_ok-answer.ensures.answer
 
 pub returns-clause-grows : goal.returns-clause-grows

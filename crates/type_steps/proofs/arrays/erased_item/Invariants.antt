@@ -3,7 +3,7 @@ use Rattle.type_numbers.specs.Numbers.{at, IsKnown}
 use Rattle.type_steps.specs.Arrays.{ErasesIn}
 use Rattle.type_steps.proofs.arrays.erased_item.Given as goal
 
--- the erasure is in so many arrays so far
+-- the erasure is in this many arrays so far
 abbrev pub invariant-loop-inner : goal.invariant-loop-inner
 invariant-loop-inner l = record {
   known : IsKnown l.types l.item;

@@ -1,12 +1,12 @@
 use Rattle.std.proofs.Common.{◌<◌, ◌+◌, ℕ, List, Option, Some, None, get_or, sym, ap, subst, ◌∙◌, arith}
 use Rattle.std.specs.List.{AllByRecursion}
 use Rattle.apt_base.specs.declared.element.ElementRef.{ElementRef}
+use Rattle.apt_base.specs.Limits.{max_type_steps}
 use Rattle.type_layers.specs.Layers.{Executable}
 use Rattle.type_numbers.specs.Numbers.{IsKnown, Stands, OptionStands, mirror_with}
 use Rattle.type_numbers.proofs.AddedTypes.{executable-split}
 use Rattle.type_numbers.proofs.LayerMaps.{all-at}
 use Rattle.type_numbers.proofs.NumberLaws.{grown-known, grows-itself, grows-on}
-use Rattle.type_relations.specs.Direct.{all_steps}
 use Rattle.type_relations.specs.Erasure.{erasure}
 use Rattle.type_numbers.proofs.ReplacedSteps.{known-below, all_known-below}
 use Rattle.type_steps.specs.Supertypes.{AllMayStand, erasure_at, erasures_at}
@@ -40,7 +40,7 @@ pub of_item-returns-in-Variable-clause-stands : goal.of_item-returns-in-Variable
 of_item-returns-in-Variable-clause-stands t c =
     let exact = copy-shows c.args.types.now c.args.number c.node.result.now c.in_ok-node.node c.in_ok-node.ensures c.node.ensures.exact in
     optional-same c.of_mirror.result c.of_mirror.new.types _ _
-    (ap (erasure c.args.table.now all_steps) c.plain-mirror.ensures
+    (ap (erasure c.args.table.now max_type_steps) c.plain-mirror.ensures
     ∙ erased-Variable c.args.table.now c.args.types.now c.args.number c.in_ok-node.node exact c.in-Variable.element c.in-Variable.is)
     c.of_mirror.ensures.stands
 
@@ -48,7 +48,7 @@ pub of_item-returns-in-Unbounded-clause-stands : goal.of_item-returns-in-Unbound
 of_item-returns-in-Unbounded-clause-stands t c =
     let exact = copy-shows c.args.types.now c.args.number c.node.result.now c.in_ok-node.node c.in_ok-node.ensures c.node.ensures.exact in
     optional-same c.of_mirror-in-Unbounded.result c.of_mirror-in-Unbounded.new.types _ _
-    (ap (erasure c.args.table.now all_steps) c.plain.ensures
+    (ap (erasure c.args.table.now max_type_steps) c.plain.ensures
     ∙ erased-Unbounded c.args.table.now c.args.types.now c.args.number c.in_ok-node.node exact c.in-Unbounded.is)
     c.of_mirror-in-Unbounded.ensures.stands
 
@@ -56,7 +56,7 @@ pub of_item-returns-in-Super-clause-stands : goal.of_item-returns-in-Super-claus
 of_item-returns-in-Super-clause-stands t c =
     let exact = copy-shows c.args.types.now c.args.number c.node.result.now c.in_ok-node.node c.in_ok-node.ensures c.node.ensures.exact in
     optional-same c.of_mirror-in-Super.result c.of_mirror-in-Super.new.types _ _
-    (ap (erasure c.args.table.now all_steps) c.plain-in-Super.ensures
+    (ap (erasure c.args.table.now max_type_steps) c.plain-in-Super.ensures
     ∙ erased-Super c.args.table.now c.args.types.now c.args.number c.in_ok-node.node exact _ c.in-Super.is)
     c.of_mirror-in-Super.ensures.stands
 

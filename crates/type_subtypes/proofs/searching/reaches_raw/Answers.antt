@@ -1,4 +1,4 @@
-use Rattle.type_levels.specs.Steps.{all_steps}
+use Rattle.apt_base.specs.Limits.{max_type_steps}
 use Rattle.type_subtypes.specs.Assignable.{next_raw}
 use Rattle.type_subtypes.proofs.NumberedTypes.{both-known, searched}
 use Rattle.type_subtypes.proofs.searching.reaches_raw.Goals as goal
@@ -12,5 +12,5 @@ related-requires c = record {
 
 pub returns : goal.returns
 returns c =
-    searched (next_raw c.args.table.now) c.add.new.self c.add-2.new.self c.in_ok-sub.sub c.in_ok-sup.sup all_steps c.args.a.now c.args.b.now c.in_ok-answer.answer c.in_ok-sub.ensures.stands
+    searched (next_raw c.args.table.now) c.add.new.self c.add-2.new.self c.in_ok-sub.sub c.in_ok-sup.sup max_type_steps c.args.a.now c.args.b.now c.in_ok-answer.answer c.in_ok-sub.ensures.stands
     c.in_ok-sup.ensures.grows c.in_ok-sup.ensures.stands c.in_ok-answer.ensures.answer

@@ -3,7 +3,7 @@ use Rattle.type_mirror.specs.Substitution.{substituted}
 use Rattle.type_subtypes.specs.Subsignature.{all_same}
 use Rattle.type_subtypes.proofs.signatures.all_same.Given as goal
 
--- as many, and those that are left decide
+-- as many, and the rest decide
 abbrev pub invariant-loop-at : goal.invariant-loop-at
 invariant-loop-at l = record {
   as_many : length l.ones ≡ length l.others;

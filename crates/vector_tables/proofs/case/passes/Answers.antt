@@ -13,7 +13,7 @@ returns-in-Ok c =
     let chars = c.in-Ok.chars in
     let wanted = shown_expected c.args.case.now.expected in
     same_result (GivenBy (codes_in chars) (offsets_in chars) wanted) (IsPassed c.args.case.now) c.gives.result
-    (λ given. (c.if-case-gt-MOST.false, gives_by file (string_bytes chars.text) chars.shifts.items wanted c.in-Ok.ensures.chars given))
+    (λ given. (c.if-case-gt-MAX_FILE_BYTES.false, gives_by file (string_bytes chars.text) chars.shifts.items wanted c.in-Ok.ensures.chars given))
     (λ passed. given_by file (string_bytes chars.text) chars.shifts.items wanted c.in-Ok.ensures.list c.in-Ok.ensures.place passed.1)
     c.gives.ensures
 
@@ -23,6 +23,6 @@ returns-in-Err-Bad c =
     let wanted = shown_expected c.args.case.now.expected in
     let place = c.in-Err-Bad.place in
     same_answer (wanted ≡ no_characters place) (IsPassed c.args.case.now) c.is_fault.result
-    (λ is. (c.if-case-gt-MOST.false, inr (place, subst (FaultAt (IsCharFault file)) c.in-Err-Bad.field-0-is c.in-Err-Bad.ensures.chars, is)))
+    (λ is. (c.if-case-gt-MAX_FILE_BYTES.false, inr (place, subst (FaultAt (IsCharFault file)) c.in-Err-Bad.field-0-is c.in-Err-Bad.ensures.chars, is)))
     (λ passed. fault_given file wanted place (λ all are. bad_memory _ (sym c.in-Err-Bad.field-0-is ∙ c.in-Err-Bad.ensures.list all are)) (λ other fault. subst (FaultAt (λ at. at ≡ other)) c.in-Err-Bad.field-0-is (c.in-Err-Bad.ensures.place other fault)) passed.1)
     (subst (λ at. MatchBool c.is_fault.result (wanted ≡ no_characters at) (¬ (wanted ≡ no_characters at))) c.in-Err-Bad.place-is c.is_fault.ensures)

@@ -1,5 +1,6 @@
 use Rattle.std.proofs.Common.{◌≡◌, ◌∙◌, length, string_bytes, slice_get, Some, ap, subst, arith}
 use Rattle.std.specs.Str.{chars}
+use Rattle.apt_base.specs.Limits.{max_file_bytes}
 use Rattle.java_tokens.specs.CharsShown.{places_from, shift_at}
 use Rattle.java_tokens.proofs.Shifts.{shift_within}
 use Rattle.java_tokens.proofs.Offsets.{offset_found}
@@ -10,7 +11,7 @@ overflow_add-result c =
     let shifts = c.args.self.now.shifts.items in
     let place = c.in_ok-place.place in
     let by = ap (λ ss. shift_at ss place) c.as_slice.ensures.value in
-    omega (arith, c.in_ok-place.ensures.within, ap length c.as_str.ensures.value, c.args.self.now.small, c.shift_at.ensures, by, shift_within 8388608 shifts place c.args.self.now.within)
+    omega (arith, c.in_ok-place.ensures.within, ap length c.as_str.ensures.value, c.args.self.now.small, c.shift_at.ensures, by, shift_within max_file_bytes shifts place c.args.self.now.within)
 
 pub returns : goal.returns
 returns c =
