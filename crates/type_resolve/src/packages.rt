@@ -5,7 +5,7 @@ ghost use Rattle.type_resolve.specs.Scopes.{package_part, IsBareUnit};
 
 use crate::pairs::beside;
 use apt_base::{List, NoMemory};
-use decl_tree::{Body, Unit, UnitText};
+use decl_tree::{Body, Shared, Unit, UnitText};
 use element_table::{Part, Table, unit_name};
 use std::alloc::Global;
 
@@ -23,11 +23,11 @@ fn bare_unit(alloc: Global, of: &Unit) -> Result<Unit, NoMemory>
     let package = of.text().package.copy()?;
     let text = UnitText {
         package,
-        imports: List::new(alloc),
-        siblings: List::new(alloc),
+        imports: Shared::new(alloc, List::new(alloc))?,
+        siblings: Shared::new(alloc, List::new(alloc))?,
         body: Body::Info(List::new(alloc), None),
     };
-    Ok(Unit::new(text))
+    Unit::new(alloc, text)
 }
 
 // The package of a unit, which has none itself: that the name of its unit is free is looked up once more.
