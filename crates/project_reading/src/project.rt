@@ -10,9 +10,10 @@ ghost use Rattle.project_reading.specs.Entering.{of_sources, IsDueRead, ComesAs}
 use crate::Status;
 use crate::configuration::{key_of, read_files};
 use crate::sources::{Tables, named_files, tables_of};
+use crate::status::past_limit;
 use apt_base::{List, Name, NoMemory};
 use apt_outside::Tree;
-use project_units::{Key, Project, limit_of};
+use project_units::{Key, Project};
 use std::alloc::Global;
 use tree_store::{RawSource, RawSources, SourceReadFault, read_sources};
 
@@ -22,10 +23,7 @@ impl From<SourceReadFault> for Status {
     fn from(fault: SourceReadFault) -> Status {
         match fault {
             SourceReadFault::Failed => Status::TreeFault,
-            SourceReadFault::TooLarge { what } => Status::TooLarge {
-                what,
-                limit: limit_of(what),
-            },
+            SourceReadFault::TooLarge { what } => past_limit(what),
             SourceReadFault::Memory => Status::Memory,
         }
     }

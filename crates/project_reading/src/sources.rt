@@ -8,12 +8,13 @@ ghost use Rattle.project_reading.specs.Project.{bad_at, read_source, read_all, r
 ghost use Rattle.project_reading.specs.Entering.{of_unread, given_again, of_units, filled, IsDueRead, ComesTo, Fills, StopsLeast};
 
 use crate::Status;
+use crate::status::past_limit;
 use apt_base::{List, Name, NoMemory, What};
 use decl_parser::ParseFault;
 use decl_tree::Unit;
 use element_table::{Part, Table};
 use file_readings::read_declarations;
-use project_units::{UnitFault, enter_units, limit_of};
+use project_units::{UnitFault, enter_units};
 use std::alloc::Global;
 use tree_store::RawSource;
 
@@ -75,10 +76,7 @@ fn unread(part: Part, path: Name, fault: ParseFault) -> Status
 {
     match fault {
         ParseFault::Bad { place } => bad(part, path, place),
-        ParseFault::TooLarge { what } => Status::TooLarge {
-            what,
-            limit: limit_of(what),
-        },
+        ParseFault::TooLarge { what } => past_limit(what),
         ParseFault::Memory => Status::Memory,
     }
 }
@@ -235,10 +233,7 @@ fn unentered(before: &[EnteredSource], path: Name, fault: UnitFault) -> Status
 {
     match fault {
         UnitFault::Duplicate { name } => given_again(before, name, path),
-        UnitFault::TooMany => Status::TooLarge {
-            what: What::Types,
-            limit: limit_of(What::Types),
-        },
+        UnitFault::TooMany => past_limit(What::Types),
         UnitFault::Memory => Status::Memory,
     }
 }
