@@ -1,5 +1,5 @@
 -- How a round goes on, and what comes of it.
-use Rattle.std.proofs.Common.{◌≡◌, ◌<◌, ◌≤◌, ◌+◌, ℕ, zero, suc, Bool, true, false, cond, List, [], ◌∷◌, ◌++◌, Option, None, Some, Result, Ok, Err, IfSome, IsSome, IsSomeAnd, inl, inr, refl, sym, ap, ◌∙◌, subst, arith}
+use Rattle.std.proofs.Common.{◌≡◌, ◌<◌, ◌≤◌, ◌+◌, ◌-◌, ◌⊎◌, ℕ, zero, suc, Bool, true, false, cond, List, [], ◌∷◌, ◌++◌, Option, None, Some, Result, Ok, Err, IfSome, IsSome, IsSomeAnd, inl, inr, refl, sym, ap, ◌∙◌, subst, arith}
 use Rattle.apt_base.specs.declared.kinds.Claim.{Claim}
 use Rattle.apt_base.specs.declared.element.ElementRef.{ElementRef}
 use Rattle.apt_outside.specs.Child.{Says, Child, State, Known, Changes}
@@ -18,10 +18,11 @@ use Rattle.child_session.specs.declared.round.Turn.TheVariants.{Ends, Differs, A
 use Rattle.child_session.specs.declared.round.Showing.{Showing}
 use Rattle.child_session.specs.declared.round.Answer.{Answer}
 use Rattle.child_session.specs.Faults.{fault_of, IsFreeFault, HasReason}
-use Rattle.child_session.specs.Talk.{Stream, answer_to, HasAnswered, Exchanged, Exchanges}
-use Rattle.child_session.specs.Round.{keeps, done_with, has_no_origins, turn_by_origins, turn_by_element, turn_at, after_turn, reply_frame, filed_after, printed_after, end_of, Act, Overasked, round_from, act_within, act_of, filings_of, IsFiled, Comes, IsDue, OnAnswered, Shown, Shows, Underway, GoesOn}
+use Rattle.child_session.specs.Talk.{Stream, answer_to, HasAnswered, Exchanged, Exchanges, SentOrNot, SendsOnce}
+use Rattle.child_session.specs.Round.{keeps, done_with, has_no_origins, turn_by_origins, turn_by_element, turn_at, after_turn, reply_frame, filed_after, printed_after, end_of, Act, Overasked, round_from, act_within, act_of, filings_of, IsFiled, Comes, IsDue, OnAnswered, Shown, Shows, Underway, GoesOn, sent_of, IsFront}
 use Rattle.child_session.specs.Served.{Served}
 use Rattle.child_session.proofs.Taking.{some_of}
+use Rattle.child_session.proofs.FrontsOfActs.{front_once, talk_front, act_begins}
 
 abbrev Frames : Type 0
 Frames = List (List ℕ)
@@ -59,13 +60,13 @@ filed_next stream declared sent made printed request turn =
 
 module _ (says : Says) where
   -- a fact of a child at two moments, and the child later
-  carried : (child : ℕ) (mid new : Known) → Changes child mid new → (x : Option Child) (E F : Child → Child → Type 0) → ((a b c : Child) → E a b → c.name ≡ b.name → c.command ≡ b.command → F a c)
+  carried : (child : ℕ) (mid new : Known) → Changes child mid new → (x : Option Child) (E F : Child → Child → Type 0) → ((a b c : Child) → mid child ≡ Some b → new child ≡ Some c → E a b → c.name ≡ b.name → c.command ≡ b.command → F a c)
       → IfSome x (λ a. HasAnswered says a → IsSomeAnd (mid child) (E a)) → IfSome x (λ a. HasAnswered says a → IsSomeAnd (new child) (F a))
   carried child mid new change None E F h p = tt
   carried child mid new change (Some a) E F h p = λ before.
       let b = some_of (mid child) (E a) (p before) in
       let c = change.same_child b.0 b.1 in
-      subst (λ o. IsSomeAnd o (F a)) (sym c.1) (h a b.0 c.0 b.2 c.2 c.3)
+      subst (λ o. IsSomeAnd o (F a)) (sym c.1) (h a b.0 c.0 b.1 c.1 b.2 c.2 c.3)
 
   pub later : (x y : Option Child) (E F : Child → Child → Type 0) → ((a b : Child) → E a b → F a b) → IfSome x (λ a. HasAnswered says a → IsSomeAnd y (E a)) → IfSome x (λ a. HasAnswered says a → IsSomeAnd y (F a))
   later None y E F h p = tt
@@ -158,6 +159,24 @@ pub fault_is_free : (fault : Fault) → IsFreeFault (fault_of fault)
 fault_is_free outside.Failed = tt
 fault_is_free outside.Memory = tt
 
+-- ---- what a child was sent
+
+pub sends_nothing : (child : ℕ) (frame : List ℕ) (k : State) → SentOrNot child frame k k
+sends_nothing child frame k = same (k.known child)
+  where
+    same : (o : Option Child) → IfSome o (λ a. IsSomeAnd o (λ b. (b.sent ≡ a.sent) ⊎ (b.sent ≡ a.sent ++ frame ∷ [])))
+    same None = tt
+    same (Some a) = inl refl
+
+pub sends_once : (child : ℕ) (frame : List ℕ) (k0 k1 : State) (fault : Fault) → SendsOnce child frame k0 k1 (Err fault) → fault_of fault ≡ Memory → SentOrNot child frame k0 k1
+sends_once child frame k0 k1 outside.Failed sends memory = absurd (let e : Failed ≡ Memory = memory in cc)
+sends_once child frame k0 k1 outside.Memory sends memory = sends
+
+sent_at : (child : ℕ) (frame : List ℕ) (k0 k1 : State) → SentOrNot child frame k0 k1 → (a b : Child) → k0.known child ≡ Some a → k1.known child ≡ Some b → (b.sent ≡ a.sent) ⊎ (b.sent ≡ a.sent ++ frame ∷ [])
+sent_at child frame k0 k1 sends a b is is' =
+    let P : Child → Child → Type 0 = λ a b. (b.sent ≡ a.sent) ⊎ (b.sent ≡ a.sent ++ frame ∷ []) in
+    subst (λ o. IsSomeAnd o (P a)) is' (subst (λ o. IfSome o (λ a. IsSomeAnd (k1.known child) (P a))) is sends)
+
 module _ (child : ℕ) (showing : Showing) (made : Filings) where
   pub way_begins : (k0 k1 : State) (answer : Option Frame) → Exchanges child showing.round k0 k1 answer → GoesOn child showing k0 k1 made made [] 0 answer
   way_begins k0 k1 answer e = record {
@@ -230,6 +249,24 @@ module _ (child : ℕ) (showing : Showing) (made : Filings) where
           is = one ∙ sym (filed_next stream showing.claim b.sent made1 printed request asks) ∙ ap filings_of (x.rest 1);
         }
 
+    -- what the child was sent, where the reply to this request was sent or not
+    front_with : (request : Request) (left : ℕ) → turns + suc left ≡ showing.limit → turn_at showing.claim answer ≡ Asks request → (sent : Frames) → (sent ≡ b.sent) ⊎ (sent ≡ b.sent ++ reply_frame made1 request ∷ [])
+        → IsFront sent (sent_of (act_of (says a.name a.command) showing a.sent made))
+    front_with request left all turn sent sends =
+        let stream : Stream = says a.name a.command in
+        let asks : turn_at showing.claim (answer_to stream b.sent) ≡ Asks request = ap (turn_at showing.claim) (sym x.answer_is) ∙ turn in
+        let next : Frames = b.sent ++ reply_frame made1 request ∷ [] in
+        let rest : Act = round_from stream showing.claim left next (filed_after made1 request) (printed_after printed request) in
+        let step : round_from stream showing.claim (suc left) b.sent made1 printed ≡ rest =
+        turn_suc stream showing.claim left b.sent made1 printed ∙ ap (λ t. after_turn t b.sent made1 printed (round_from stream showing.claim left)) asks in
+        let act_is : rest ≡ act_of stream showing a.sent made = sym step ∙ x.rest (suc left) ∙ ap (λ n. act_within stream showing n a.sent made) all in
+        subst (λ act. IsFront sent (sent_of act)) act_is
+        (front_once b.sent (sent_of rest) (reply_frame made1 request) sent (talk_front stream showing.claim left next (filed_after made1 request) (printed_after printed request)) sends)
+
+    front_then : (request : Request) → turns < showing.limit → turn_at showing.claim answer ≡ Asks request → (sent : Frames) → (sent ≡ b.sent) ⊎ (sent ≡ b.sent ++ reply_frame made1 request ∷ [])
+        → IsFront sent (sent_of (act_of (says a.name a.command) showing a.sent made))
+    front_then request few turn sent sends = front_with request (showing.limit - (turns + 1)) (omega (arith, few)) turn sent sends
+
   -- what a last turn comes to
   module _ (k0 k1 : State) (made1 : Filings) (printed : List Message) (turns left : ℕ) (answer : Option Frame) (all : turns + left ≡ showing.limit) (w : GoesOn child showing k0 k1 made made1 printed turns answer) where
     last : (result : Result Answer SessionFault) → ((a b : Child) → Underway k0.says showing made made1 printed turns answer a b → Comes (act_of (k0.says a.name a.command) showing a.sent made) showing result b.sent made1 × OnAnswered result (HasAnswered k0.says b)) → Shows child showing k0 k1 made made1 result
@@ -275,16 +312,16 @@ module _ (child : ℕ) (showing : Showing) (made : Filings) where
     way_closes Leaves is full = way_leaves is
 
   -- a fault of the children or out of memory may come at any point
-  free_comes : (fault : SessionFault) → IsFreeFault fault → (act : Act) (sent : Frames) (filings : Filings) → Comes act showing (Err fault) sent filings
-  free_comes Failed is_free act sent filings = tt
-  free_comes Memory is_free act sent filings = tt
-  free_comes Unbuilt is_free act sent filings = absurd is_free
-  free_comes (TooManyQuestions limit) is_free act sent filings = absurd is_free
-  free_comes (ClaimBroken declared said) is_free act sent filings = absurd is_free
+  free_comes : (fault : SessionFault) → IsFreeFault fault → (act : Act) (sent : Frames) (filings : Filings) → (fault ≡ Memory → IsFront sent (sent_of act)) → Comes act showing (Err fault) sent filings
+  free_comes Failed is_free act sent filings front = tt
+  free_comes Memory is_free act sent filings front = front refl
+  free_comes Unbuilt is_free act sent filings front = absurd is_free
+  free_comes (TooManyQuestions limit) is_free act sent filings front = absurd is_free
+  free_comes (ClaimBroken declared said) is_free act sent filings front = absurd is_free
 
   -- before the child answered
-  pub way_begins_not : (k0 k1 : State) (fault : SessionFault) → IsFreeFault fault → Changes child k0.known k1.known → Shows child showing k0 k1 made made (Err fault)
-  way_begins_not k0 k1 fault is_free change = record { shown = shown (k0.known child) refl }
+  pub way_begins_not : (k0 k1 : State) (fault : SessionFault) → IsFreeFault fault → Changes child k0.known k1.known → (fault ≡ Memory → SentOrNot child showing.round k0 k1) → Shows child showing k0 k1 made made (Err fault)
+  way_begins_not k0 k1 fault is_free change sends = record { shown = shown (k0.known child) refl }
     where
       shown : (o : Option Child) → k0.known child ≡ o → IfSome o (λ a. HasAnswered k0.says a → IsSomeAnd (k1.known child) (Shown k0.says showing made made (Err fault) a))
       shown None is = tt
@@ -294,7 +331,9 @@ module _ (child : ℕ) (showing : Showing) (made : Filings) where
           subst (λ o. IsSomeAnd o (Shown k0.says showing made made (Err fault) a)) (sym b.1) (record {
             name = b.2;
             command = b.3;
-            comes = free_comes fault is_free (act_of stream showing a.sent made) b.0.sent made;
+            comes = free_comes fault is_free (act_of stream showing a.sent made) b.0.sent made
+                (λ memory. front_once a.sent (sent_of (act_of stream showing a.sent made)) showing.round b.0.sent (act_begins stream showing a.sent made)
+                (sent_at child showing.round k0 k1 (sends memory) a b.0 is b.1));
             filed = record { turns = 0; few = omega arith; is = sym (filed_here stream showing.claim (a.sent ++ showing.round ∷ []) made []) };
             answered = tt;
           })
@@ -302,13 +341,14 @@ module _ (child : ℕ) (showing : Showing) (made : Filings) where
   -- in a turn
   pub way_stops : (k0 k1 k2 : State) (made1 made2 : Filings) (printed : List Message) (turns : ℕ) (answer : Option Frame) (request : Request) (fault : SessionFault)
       → IsFreeFault fault → turns < showing.limit → GoesOn child showing k0 k1 made made1 printed turns answer → turn_at showing.claim answer ≡ Asks request → Served request made1 made2
-      → Changes child k1.known k2.known → Shows child showing k0 k2 made made2 (Err fault)
-  way_stops k0 k1 k2 made1 made2 printed turns answer request fault is_free few w turn served change = record {
+      → Changes child k1.known k2.known → (fault ≡ Memory → SentOrNot child (reply_frame made1 request) k1 k2) → Shows child showing k0 k2 made made2 (Err fault)
+  way_stops k0 k1 k2 made1 made2 printed turns answer request fault is_free few w turn served change sends = record {
     shown = carried k0.says child k1.known k2.known change (k0.known child) (Underway k0.says showing made made1 printed turns answer) (Shown k0.says showing made made2 (Err fault))
-        (λ a b c x name command. record {
+        (λ a b c at1 at2 x name command. record {
           name = name ∙ x.name;
           command = command ∙ x.command;
-          comes = free_comes fault is_free (act_of (k0.says a.name a.command) showing a.sent made) c.sent made2;
+          comes = free_comes fault is_free (act_of (k0.says a.name a.command) showing a.sent made) c.sent made2
+              (λ memory. front_then k0.says made1 printed turns answer a b x request few turn c.sent (sent_at child (reply_frame made1 request) k1 k2 (sends memory) b c at1 at2));
           filed = filed_then k0.says made1 printed turns answer a b x made2 request few turn served;
           answered = tt;
         }) w.way;

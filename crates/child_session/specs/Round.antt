@@ -1,6 +1,6 @@
 -- What the answer to a round comes to: a child creates files and prints messages, one after another, each is answered, and
 -- then it is done and says whether its processor claims what it was offered. A round is a function of what the child says, and of what was created before it.
-use Rattle.std.specs.Prelude.{◌≡◌, ◌≤◌, ℕ, zero, suc, ◌+◌, not, ◌==◌, Bool, true, false, List, [], ◌∷◌, ◌++◌, length, Option, None, Some, IsSome, if◌then◌else◌, Result, Ok, Err}
+use Rattle.std.specs.Prelude.{◌≡◌, ◌≤◌, ℕ, zero, suc, ◌+◌, not, ◌==◌, Bool, true, false, List, [], ◌∷◌, ◌++◌, length, Option, None, Some, IsSome, if◌then◌else◌, Result, Ok, Err, IsErrOf}
 use Rattle.apt_base.specs.declared.kinds.Claim.{Claim}
 use Rattle.apt_base.specs.declared.kinds.Claim.TheVariants.{Always, Never, Varies}
 use Rattle.apt_outside.specs.Child.{Says, Child, State}
@@ -23,7 +23,7 @@ use Rattle.child_session.specs.declared.round.Turn.{Turn}
 use Rattle.child_session.specs.declared.round.Turn.TheVariants.{Ends, Differs, Asks, Leaves}
 use Rattle.child_session.specs.declared.round.Showing.{Showing}
 use Rattle.child_session.specs.declared.round.Answer.{Answer}
-use Rattle.child_session.specs.Talk.{Stream, answer_to, HasAnswered, WasAnswered, Exchanges}
+use Rattle.child_session.specs.Talk.{Stream, answer_to, HasAnswered, WasAnswered, Exchanges, SentOrNot}
 
 -- ---- what a frame means in a round
 
@@ -90,6 +90,10 @@ reply_frame filings request = spelling (frame.Reply (reply_to filings request))
 abbrev pub Replies : ℕ → Filings → Request → State → State → Option Frame → Type 0
 Replies child filings request old new answer = Exchanges child (reply_frame filings request) old new answer
 
+-- after out of memory it was sent, or nothing was
+abbrev pub MayReply : {T : Type 0} → ℕ → Filings → Request → State → State → Result T SessionFault → Type 0
+MayReply child filings request old new result = IsErrOf result Memory → SentOrNot child (reply_frame filings request) old new
+
 -- ---- what a round comes to
 
 -- the frames that the child was sent in the end, and what the filer has by then
@@ -122,6 +126,13 @@ act_within stream showing most sent filings = round_from stream showing.claim mo
 abbrev pub act_of : Stream → Showing → List (List ℕ) → Filings → Act
 act_of stream showing sent filings = act_within stream showing showing.limit sent filings
 
+-- the frames that the child was sent in the end
+abbrev pub sent_of : Act → List (List ℕ)
+sent_of (Answered sent filings printed claimed) = sent
+sent_of (Broken sent filings) = sent
+sent_of (Overasked sent filings) = sent
+sent_of (Differed sent filings said) = sent
+
 -- what the filer has in the end
 abbrev pub filings_of : Act → Filings
 filings_of (Answered sent filings printed claimed) = filings
@@ -137,14 +148,20 @@ pub record IsFiled (stream : Stream) (showing : Showing) (sent : List (List ℕ)
 
 -- ---- what a call says of it
 
--- a call's result, with the frames that were sent and what the filer has, is this act, unless it is a free one
+-- these are the first of all those frames
+pub record IsFront (some all : List (List ℕ)) : Type 0 where
+  pub rest : List (List ℕ)
+  pub is : some ++ rest ≡ all
+
+-- A call's result, with the frames that were sent and what the filer has, is this act. After out of memory the frames are the first of those that the act
+-- sends; after a fault of the children they are not told.
 abbrev pub Comes : Act → Showing → Result Answer SessionFault → List (List ℕ) → Filings → Type 0
 Comes act showing (Ok answer) sent filings = act ≡ Answered sent filings answer.messages answer.claimed
 Comes act showing (Err Unbuilt) sent filings = act ≡ Broken sent filings
 Comes act showing (Err (TooManyQuestions most)) sent filings = (act ≡ Overasked sent filings) × (most ≡ showing.limit)
 Comes act showing (Err (ClaimBroken declared said)) sent filings = (act ≡ Differed sent filings said) × (declared ≡ showing.claim)
 Comes act showing (Err Failed) sent filings = Unit {0}
-Comes act showing (Err Memory) sent filings = Unit {0}
+Comes act showing (Err Memory) sent filings = IsFront sent (sent_of act)
 
 -- what a turn comes to that ends the round; a question is one too many there
 abbrev pub end_of : Claim → ℕ → Turn → List Message → Result Answer SessionFault

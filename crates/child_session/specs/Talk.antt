@@ -48,11 +48,15 @@ pub record Exchanged (says : Says) (frame : List ℕ) (answer : Option Frame) (b
 pub record Exchanges (child : ℕ) (frame : List ℕ) (old new : State) (answer : Option Frame) : Type 0 where
   pub exchanged : WasAnswered child old new (Exchanged old.says frame answer)
 
+-- the child was sent this frame, or nothing
+abbrev pub SentOrNot : ℕ → List ℕ → State → State → Type 0
+SentOrNot child frame old new = OfChild child old new (λ before after. (after.sent ≡ before.sent) ⊎ (after.sent ≡ before.sent ++ frame ∷ []))
+
 -- What the child was sent by a call that sends this frame: the frame, and after out of memory the frame or nothing. After a fault
 -- of the children it is not told.
 abbrev pub SendsOnce : ℕ → List ℕ → State → State → Result (Option Frame) Fault → Type 0
 SendsOnce child frame old new (Ok answer) = OfChild child old new (λ before after. after.sent ≡ before.sent ++ frame ∷ [])
-SendsOnce child frame old new (Err Memory) = OfChild child old new (λ before after. (after.sent ≡ before.sent) ⊎ (after.sent ≡ before.sent ++ frame ∷ []))
+SendsOnce child frame old new (Err Memory) = SentOrNot child frame old new
 SendsOnce child frame old new (Err Failed) = Unit {0}
 
 -- a call that sends nothing, after out of memory

@@ -7,7 +7,6 @@ ghost use Rattle.child_session.specs.Faults.{fault_of};
 use apt_base::{Claim, NoMemory};
 use apt_outside::Fault;
 use std::alloc::{AllocError, AllocFailed};
-use wire_frames::FrameFault;
 
 /// Why a session was refused.
 #[derive(Clone, Copy, Debug, PartialEq, Eq)]
@@ -63,15 +62,6 @@ impl From<NoMemory> for SessionFault {
     ghost from_gives = { λ _ e. e ≡ Memory };
 
     fn from(_: NoMemory) -> SessionFault {
-        SessionFault::Memory
-    }
-}
-
-/// A frame that would pass the limit of a frame is answered as out of memory.
-impl From<FrameFault> for SessionFault {
-    ghost from_gives = { λ _ e. e ≡ Memory };
-
-    fn from(_: FrameFault) -> SessionFault {
         SessionFault::Memory
     }
 }

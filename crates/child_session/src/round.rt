@@ -5,9 +5,9 @@ ghost use Rattle.wire_frames.specs.Frames.{spelling};
 ghost use Rattle.wire_frames.specs.declared.frame.Frame.TheVariants as frames;
 ghost use Rattle.child_session.specs.Faults.{HasReason, IsFree};
 ghost use Rattle.apt_outside.specs.Child.{Attends};
-ghost use Rattle.child_session.specs.Round.{IsDue, keeps, done_with, has_no_origins, turn_by_origins, turn_by_element, turn_at, end_of, reply_to, filed_after, printed_after, Replies};
+ghost use Rattle.child_session.specs.Round.{IsDue, keeps, done_with, has_no_origins, turn_by_origins, turn_by_element, turn_at, end_of, reply_to, filed_after, printed_after, Replies, MayReply};
 ghost use Rattle.child_session.specs.Served.{Served, AllServed};
-ghost use Rattle.child_session.specs.Moments.{Gives, Shows};
+ghost use Rattle.child_session.specs.Moments.{Gives, Answers, Shows};
 
 use crate::SessionFault;
 use crate::receiving::exchange;
@@ -183,6 +183,7 @@ fn take_turn<C: Children>(
     ensures filed { OnOk result (filer.new ≡ filed_after filer.old request) }
     ensures printed { OnOk result (printed.new ≡ printed_after printed.old request) }
     ensures free { IsFree result }
+    ensures sent { Answers C.Children children.old children.new result (MayReply child filer.old request) }
     ensures answer { Gives C.Children children.old children.new result (Replies child filer.old request) }
 {
     let reply = serve(filer, printed, request)?;
@@ -213,7 +214,8 @@ fn end_of(
 /// Where the children tell what they say, `Unbuilt` comes exactly where the child's bytes are not the frames of a round,
 /// `TooManyQuestions` exactly where it asks once more than it may, and `ClaimBroken` exactly where it is done and says another
 /// thing than its processor declared with `Always` or `Never` (JSR 269, `Processor.process`). `Failed` is a fault of the
-/// children, and `Memory` out of memory. After each the filer has what was accepted up to then.
+/// children, and `Memory` out of memory. After each the filer has what was accepted up to then, and after each but `Failed` the
+/// child was sent the first of the frames that the round sends it and nothing else.
 pub fn show_round<C: Children>(
     alloc: Global,
     children: &mut C,

@@ -1,10 +1,11 @@
-use Rattle.std.proofs.Common.{◌≡◌, ◌-◌, ◌+◌, sym, subst, ◌∙◌, arith, rules}
+use Rattle.std.proofs.Common.{◌≡◌, ◌-◌, ◌+◌, sym, subst, ◌∙◌, arith, rules, Err, ap}
 use Rattle.std.proofs.lemmas.Result.{err_from_is_err_and}
-use Rattle.child_session.specs.Faults.{HasReason}
+use Rattle.child_session.specs.Faults.{HasReason, fault_of}
 use Rattle.child_session.specs.Round.{turn_at, IsDue, Shows}
 use Rattle.child_session.specs.declared.round.Turn.TheVariants.{Asks}
+use Rattle.child_session.specs.Talk.{SendsOnce}
 use Rattle.child_session.proofs.Taking.{attends_then}
-use Rattle.child_session.proofs.Rounds.{way_goes, way_begins_not, fault_is_free, way_stops, way_closes, end_is_due, end_has_reason}
+use Rattle.child_session.proofs.Rounds.{way_goes, way_begins_not, fault_is_free, way_stops, way_closes, end_is_due, end_has_reason, sends_once}
 use Rattle.child_session.proofs.Serving.{fewer_served, one_more_served, maybe_served}
 use Rattle.child_session.proofs.round.show_round.Goals as goal
 
@@ -28,7 +29,8 @@ returns-in_err-answer-in-Asks-clause-shown g c = λ told.
     let turn : turn_at c.args.showing.now.claim c.loop-count.answer ≡ Asks c.in-Asks.request = sym c.turn_of.ensures ∙ c.in-Asks.is in
     let p = err_from_is_err_and c.from_residual-in_err-answer-in-Asks.result c.from_residual-in_err-answer-in-Asks.ensures.1 in
     rw (p.1, p.2) (way_stops c.args.child c.args.showing.now c.args.filer.now (C.state c.args.children.now) (C.state c.loop-count.children) (C.state c.take_turn.new.children) c.loop-count.filer c.take_turn.new.filer c.loop-count.messages c.loop-count.count c.loop-count.answer c.in-Asks.request
-    c.in_err-answer-in-Asks.field-0.0 c.in_err-answer-in-Asks.ensures.free c.loop-count-test.true (c.loop-count.invariant.goes told) turn c.take_turn.ensures.served (c.take_turn.ensures.attends told).change)
+    c.in_err-answer-in-Asks.field-0.0 c.in_err-answer-in-Asks.ensures.free c.loop-count-test.true (c.loop-count.invariant.goes told) turn c.take_turn.ensures.served (c.take_turn.ensures.attends told).change
+    (λ memory. c.in_err-answer-in-Asks.ensures.sent told (ap Err memory)))
 
 pub returns-in_err-answer-in-Asks-clause-served :
     goal.returns-in_err-answer-in-Asks-clause-served
@@ -38,7 +40,12 @@ pub returns-in_err-answer-clause-shown : goal.returns-in_err-answer-clause-shown
 returns-in_err-answer-clause-shown g c = λ told.
     let C = g.C.Children in
     let p = err_from_is_err_and c.from_residual.result c.from_residual.ensures.1 in
-    rw (p.1, p.2) (way_begins_not c.args.child c.args.showing.now c.args.filer.now (C.state c.args.children.now) (C.state c.exchange.new.children) _ (fault_is_free c.in_err-answer.field-0.0) (c.exchange.ensures.attends told).change)
+    let k0 = C.state c.args.children.now in
+    let k1 = C.state c.exchange.new.children in
+    let fault = c.in_err-answer.field-0.0 in
+    let sends = subst (λ frame. SendsOnce c.args.child frame k0 k1 (Err fault)) c.as_slice.ensures (c.in_err-answer.ensures.sent told) in
+    rw (p.1, p.2) (way_begins_not c.args.child c.args.showing.now c.args.filer.now k0 k1 (fault_of fault) (fault_is_free fault) (c.exchange.ensures.attends told).change
+    (sends_once c.args.child c.args.showing.now.round k0 k1 fault sends))
 
 pub returns-in_default-clause-reason : goal.returns-in_default-clause-reason
 returns-in_default-clause-reason g c =
