@@ -1,5 +1,5 @@
 -- What comes of a round that one processor of a run is shown: from what its child is told to have done to how far the run is.
-use Rattle.std.proofs.Common.{◌≡◌, ℕ, ◌<◌, Bool, true, List, [], ◌++◌, length, set, get_or, Option, None, Some, Result, Ok, Err, IfSome, IsSomeAnd, inl, inr, refl, sym, ap, subst, ◌∙◌, arith}
+use Rattle.std.proofs.Common.{◌≡◌, ℕ, ◌<◌, Bool, true, List, [], ◌++◌, length, set, get_or, Option, None, Some, Result, Ok, Err, IfSome, IsSomeAnd, refl, sym, ap, subst, ◌∙◌, arith}
 use Rattle.std.proofs.lemmas.List.{get_or-map}
 use Rattle.apt_outside.specs.Child.{Try, Child, State, OthersKept}
 use Rattle.wire_frames.specs.declared.frame.Message.{Message}
@@ -10,14 +10,14 @@ use Rattle.child_session.specs.declared.round.Showing.{Showing}
 use Rattle.child_session.specs.declared.round.Answer.{Answer}
 use Rattle.child_session.specs.Talk.{HasAnswered}
 use Rattle.child_session.specs.Round as session
-use Rattle.child_session.specs.Round.{act_of}
+use Rattle.child_session.specs.Round.{IsFront, act_of}
 use Rattle.round_engine.specs.declared.progress.Progress as code_progress
 use Rattle.round_engine.specs.declared.beginning.Discovered as code_discovered
 use Rattle.round_engine.specs.declared.rounds.Round.{Round}
-use Rattle.project_units.specs.Refusals.{Stop, Refusal, UnbuiltTalk, TooManyQuestions, ClaimBroken, OrMemory}
+use Rattle.project_units.specs.Refusals.{Stop, Refusal, UnbuiltTalk, TooManyQuestions, ClaimBroken}
 use Rattle.round_engine.specs.Faults.{of_session}
 use Rattle.round_engine.specs.Run.{Frames, Course, Discovered, Progress, claim_at, sent_at, showing, act, place, with_act, after_act, show}
-use Rattle.round_engine.specs.Shown.{all_sent, EachOf, IsOf, Serves, Stands, shown_discovered, standing, StopsAs}
+use Rattle.round_engine.specs.Shown.{all_sent, EachOf, IsOf, Serves, Stands, shown_discovered, standing, StopsAs, sent_by, sent_in_step}
 use Rattle.round_engine.proofs.ChildrenOfARun.{frames_in, all_sent-at, all_sent-get, each-get, each-at, each-weaker}
 
 some_of : (o : Option Child) (P : Child → Type 0) → IsSomeAnd o P → (b : Child) × (o ≡ Some b) × P b
@@ -106,9 +106,16 @@ module _ (d : code_discovered.Discovered) (processors : List Try) (k0 k1 : State
         ap (after_act run r now number) (act_is ∙ c.0) ∙ stopped_so (ClaimBroken processor.0 (claim_at run number) said)
         ∙ ap (λ claim. refused (all_sent k1.known d.group) (ClaimBroken processor.0 claim said)) (sym c.1)
 
-    pub show_err : (f : SessionFault) (s : Stop) → result ≡ Err f → OrMemory (of_session processor.0 f) s → StopsAs (show run r now number offered) (all_sent k1.known d.group) s
-    show_err f s is (inl due) = subst (StopsAs (show run r now number offered) (all_sent k1.known d.group)) (sym due) (stops f is)
-    show_err f s is (inr due) = subst (StopsAs (show run r now number offered) (all_sent k1.known d.group)) (sym due) tt
+    pub show_err : (f : SessionFault) (s : Stop) → result ≡ Err f → s ≡ of_session processor.0 f → StopsAs (show run r now number offered) (all_sent k1.known d.group) s
+    show_err f s is due = subst (StopsAs (show run r now number offered) (all_sent k1.known d.group)) (sym due) (stops f is)
+
+    -- the child was sent the first of what the act sends, where memory ran out
+    pub some_sent : result ≡ Err fault.Memory → IsFront after.0.sent (session.sent_of (act run r now number offered))
+    some_sent is = subst (λ a. IsFront after.0.sent (session.sent_of a)) (sym act_is) (comes fault.Memory is)
+
+    -- the child was done: all that was sent is what the run sends
+    pub all_shown : (answer : Answer) → result ≡ Ok answer → sent_by sent_in_step (show run r now number offered) ≡ all_sent k1.known d.group
+    all_shown answer is = ap (sent_by sent_in_step) (show_ok answer is) ∙ sym sent_after
 
     -- the children are ready for the next
     pub ready_after : (answer : Answer) → result ≡ Ok answer → k1.says ≡ k0.says → Stands d processors k1

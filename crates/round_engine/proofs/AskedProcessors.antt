@@ -1,9 +1,10 @@
 -- A part of a run in which processors are asked: what it leaves as it was, and whom its refusals name.
-use Rattle.std.proofs.Common.{◌≡◌, ℕ, zero, suc, ◌<◌, Bool, true, List, [], ◌∷◌, ◌++◌, length, get_or, set, Result, Ok, Err, refl, sym, ap, ◌∙◌, subst, arith}
+use Rattle.std.proofs.Common.{◌≡◌, ℕ, zero, suc, ◌<◌, Bool, true, List, [], ◌∷◌, ◌++◌, length, get_or, set, Some, Result, Ok, Err, refl, sym, ap, ◌∙◌, subst, arith}
 use Rattle.std.specs.List.{AllByRecursion}
 use Rattle.apt_outside.specs.Child.{Try, State, Attends}
 use Rattle.apt_filer.specs.Filing.{Filings}
 use Rattle.child_session.specs.declared.fault.SessionFault.{SessionFault}
+use Rattle.child_session.specs.declared.fault.SessionFault.TheVariants as fault
 use Rattle.child_session.specs.declared.round.Answer.{Answer}
 use Rattle.child_session.specs.Round as session
 use Rattle.round_engine.specs.declared.beginning.Discovered as code_discovered
@@ -11,14 +12,15 @@ use Rattle.round_engine.specs.declared.progress.Progress as code_progress
 use Rattle.project_units.specs.declared.refusal.Refusal as declared
 use Rattle.round_engine.specs.declared.rounds.Round.{Round}
 use Rattle.project_units.specs.Refusals as stop
-use Rattle.project_units.specs.Refusals.{Stop, Names, NamesAmong, OrMemory, named_by}
+use Rattle.project_units.specs.Refusals.{exempt_by}
 use Rattle.project_units.specs.Faults.{stop_of}
 use Rattle.round_engine.specs.Faults.{of_session}
 use Rattle.round_engine.specs.Run.{Frames, Course, Discovered, Progress, Finished, claim_at, showing, place, show, round_of, rounds_from}
-use Rattle.round_engine.specs.Shown.{EachOf, IsOf, Serves, Stands, AttendsAll, Goes, StopsAs, FrontsButOne, sent_by, sent_in_step, sent_in_progress, sent_in_finished, all_sent, standing, shown_discovered}
+use Rattle.round_engine.specs.Fronts.{AreFronts, FrontsBut}
+use Rattle.round_engine.specs.Shown.{EachOf, IsOf, Serves, Stands, AttendsAll, Goes, StopsAs, sent_by, sent_in_step, sent_in_progress, sent_in_finished, all_sent, standing, shown_discovered}
 use Rattle.round_engine.proofs.ChildrenOfARun.{outside-get, each-weaker}
-use Rattle.round_engine.proofs.FrontsOfFrames.{but_none, show_fronts, show_but_one, round_fronts, rounds_fronts}
-use Rattle.round_engine.proofs.ActsInARun.{name_is, after, sent_after, show_ok, show_err, stands_so, ready_after, same_after}
+use Rattle.round_engine.proofs.FrontsOfFrames.{fronts_exact, named_at, show_fronts, show_some, show_but_one, round_fronts, rounds_fronts}
+use Rattle.round_engine.proofs.ActsInARun.{name_is, after, sent_after, show_ok, show_err, some_sent, all_shown, stands_so, ready_after, same_after}
 
 -- ---- what is left as it was
 
@@ -51,12 +53,12 @@ pub still_theirs : (d : code_discovered.Discovered) (processors : List Try) (now
 still_theirs d processors now stands = each-weaker (Serves now.says) IsOf (λ p c serves. serves.is) processors d.group now.known stands.each
 
 pub goes_memory : {A T : Type 0} (sent_in : A → List Frames) (d : code_discovered.Discovered) (processors : List Try) (course : Course A) (means : T → A) (refusal : declared.Refusal) (now : State)
-    → EachOf IsOf processors d.group now.known → stop_of refusal ≡ stop.Memory → FrontsButOne (all_sent now.known d.group) (sent_by sent_in course) → Goes sent_in d processors course means (Err refusal) now
+    → EachOf IsOf processors d.group now.known → stop_of refusal ≡ stop.Memory → AreFronts (all_sent now.known d.group) (sent_by sent_in course) → Goes sent_in d processors course means (Err refusal) now
 goes_memory sent_in d processors course means refusal now same memory fronts = record {
   comes = subst (StopsAs course (all_sent now.known d.group)) (sym memory) tt;
   same = same;
   ready = tt;
-  fronts = fronts;
+  fronts = subst (λ s. FrontsBut (exempt_by s) processors (all_sent now.known d.group) (sent_by sent_in course)) (sym memory) fronts;
 }
 
 -- before a part began
@@ -66,15 +68,15 @@ module _ (d : code_discovered.Discovered) (processors : List Try) (k : State) (s
 
   pub step_unbegun : {T : Type 0} (r : Round) (number : ℕ) (offered : List (List ℕ)) (means : T → Progress × Bool) → Goes sent_in_step d processors (show at_first r (standing d.group p k) number offered) means (Err refusal) k
   step_unbegun r number offered means = goes_memory sent_in_step d processors (show at_first r (standing d.group p k) number offered) means refusal k (still_theirs d processors k stands) memory
-      (but_none (all_sent k.known d.group) _ (show_fronts at_first r (standing d.group p k) number offered))
+      (show_fronts at_first r (standing d.group p k) number offered)
 
   pub round_unbegun : {T : Type 0} (r : Round) (means : T → Progress) → Goes sent_in_progress d processors (round_of at_first r (standing d.group p k)) means (Err refusal) k
   round_unbegun r means = goes_memory sent_in_progress d processors (round_of at_first r (standing d.group p k)) means refusal k (still_theirs d processors k stands) memory
-      (but_none (all_sent k.known d.group) _ (round_fronts at_first r (standing d.group p k)))
+      (round_fronts at_first r (standing d.group p k))
 
   pub rounds_unbegun : {T : Type 0} (left : ℕ) (r : Round) (means : T → Finished) → Goes sent_in_finished d processors (rounds_from at_first left r (standing d.group p k)) means (Err refusal) k
   rounds_unbegun left r means = goes_memory sent_in_finished d processors (rounds_from at_first left r (standing d.group p k)) means refusal k (still_theirs d processors k stands) memory
-      (but_none (all_sent k.known d.group) _ (rounds_fronts at_first left r (standing d.group p k)))
+      (rounds_fronts at_first left r (standing d.group p k))
 
 -- ---- one processor is asked
 
@@ -89,27 +91,58 @@ module _ (d : code_discovered.Discovered) (k0 k1 : State) (number : ℕ) (lt : n
   abbrev Asked_so : {T : Type 0} → (T → Progress × Bool) → Result T declared.Refusal → Type 0
   Asked_so means result = Goes sent_in_step d processors (show run r (standing d.group p k0) number offered) means result k1
 
-  -- whatever came of it, the others were sent what they are sent
-  others_so : (result : Result Answer SessionFault) → Showed result → FrontsButOne (all_sent k1.known d.group) (sent_by sent_in_step (show run r (standing d.group p k0) number offered))
-  others_so result shows = subst (λ sent. FrontsButOne sent (sent_by sent_in_step (show run r (standing d.group p k0) number offered)))
-      (sym (sent_after d processors k0 k1 number stands lt r offered p filings' result shows attends.change.others))
-      (show_but_one run r (standing d.group p k0) number offered (after d processors k0 k1 number stands lt r offered p filings' result shows attends.change.others).0.sent)
+  abbrev step : Course (Progress × Bool)
+  step = show run r (standing d.group p k0) number offered
+
+  module _ (result : Result Answer SessionFault) (shows : Showed result) where
+    abbrev sent_to : Frames
+    sent_to = (after d processors k0 k1 number stands lt r offered p filings' result shows attends.change.others).0.sent
+
+    -- what all were sent
+    sent_is : all_sent k1.known d.group ≡ set (all_sent k0.known d.group) number sent_to
+    sent_is = sent_after d processors k0 k1 number stands lt r offered p filings' result shows attends.change.others
+
+    -- a fault of the children came: the others were sent what they are sent
+    others_so : FrontsBut (Some (get_or processors number ([], [])).0) processors (all_sent k1.known d.group) (sent_by sent_in_step step)
+    others_so = subst (λ sent. FrontsBut (Some (get_or processors number ([], [])).0) processors sent (sent_by sent_in_step step)) (sym sent_is)
+        (show_but_one run r (get_or processors number ([], [])).0 processors (standing d.group p k0) number (named_at processors number (get_or processors number ([], [])).0 (omega (arith, lt, stands.count)) refl) offered sent_to)
+
+    -- memory ran out before it was done
+    some_so : result ≡ Err fault.Memory → AreFronts (all_sent k1.known d.group) (sent_by sent_in_step step)
+    some_so is = subst (λ sent. AreFronts sent (sent_by sent_in_step step)) (sym sent_is)
+        (show_some run r (standing d.group p k0) number offered sent_to (some_sent d processors k0 k1 number stands lt r offered p filings' result shows attends.change.others is))
+
+    -- it was done
+    all_so : (answer : Answer) → result ≡ Ok answer → AreFronts (all_sent k1.known d.group) (sent_by sent_in_step step)
+    all_so answer is = fronts_exact (all_sent k1.known d.group) (sent_by sent_in_step step) (all_shown d processors k0 k1 number stands lt r offered p filings' result shows attends.change.others answer is)
+
+  -- what all were sent by a session's fault
+  fault_so : (f : SessionFault) → Showed (Err f) → StopsAs step (all_sent k1.known d.group) (of_session (get_or processors number ([], [])).0 f)
+      → FrontsBut (exempt_by (of_session (get_or processors number ([], [])).0 f)) processors (all_sent k1.known d.group) (sent_by sent_in_step step)
+  fault_so fault.Failed shows comes = others_so (Err fault.Failed) shows
+  fault_so fault.Memory shows comes = some_so (Err fault.Memory) shows refl
+  fault_so fault.Unbuilt shows comes = fronts_exact (all_sent k1.known d.group) (sent_by sent_in_step step) (ap (sent_by sent_in_step) comes)
+  fault_so (fault.TooManyQuestions most) shows comes = fronts_exact (all_sent k1.known d.group) (sent_by sent_in_step step) (ap (sent_by sent_in_step) comes)
+  fault_so (fault.ClaimBroken declared said) shows comes = fronts_exact (all_sent k1.known d.group) (sent_by sent_in_step step) (ap (sent_by sent_in_step) comes)
 
   -- its session failed
-  pub asks_err : (means : Bool → Progress × Bool) (fault : SessionFault) (refusal : declared.Refusal) → Showed (Err fault) → OrMemory (of_session (get_or d.names number []) fault) (stop_of refusal) → Asked_so means (Err refusal)
-  asks_err means fault refusal shows due_as = record {
-    comes = show_err d processors k0 k1 number stands lt r offered p filings' (Err fault) shows attends.change.others fault (stop_of refusal) refl
-        (subst (λ name. OrMemory (of_session name fault) (stop_of refusal)) (name_is d processors k0 k1 number stands lt) due_as);
-    same = same_after d processors k0 k1 number stands lt r offered p filings' (Err fault) shows attends.change.others;
-    ready = tt;
-    fronts = others_so (Err fault) shows;
-  }
+  pub asks_err : (means : Bool → Progress × Bool) (f : SessionFault) (refusal : declared.Refusal) → Showed (Err f) → stop_of refusal ≡ of_session (get_or d.names number []) f → Asked_so means (Err refusal)
+  asks_err means f refusal shows due_as =
+      let due : stop_of refusal ≡ of_session (get_or processors number ([], [])).0 f = due_as ∙ ap (λ name. of_session name f) (name_is d processors k0 k1 number stands lt) in
+      let comes : StopsAs step (all_sent k1.known d.group) (of_session (get_or processors number ([], [])).0 f) =
+      show_err d processors k0 k1 number stands lt r offered p filings' (Err f) shows attends.change.others f (of_session (get_or processors number ([], [])).0 f) refl refl in
+      record {
+        comes = subst (StopsAs step (all_sent k1.known d.group)) (sym due) comes;
+        same = same_after d processors k0 k1 number stands lt r offered p filings' (Err f) shows attends.change.others;
+        ready = tt;
+        fronts = subst (λ s. FrontsBut (exempt_by s) processors (all_sent k1.known d.group) (sent_by sent_in_step step)) (sym due) (fault_so f shows comes);
+      }
 
   -- it was done, but memory was wanted for what it printed
   pub asks_memory : (means : Bool → Progress × Bool) (answer : Answer) (refusal : declared.Refusal) → Showed (Ok answer) → stop_of refusal ≡ stop.Memory → Asked_so means (Err refusal)
   asks_memory means answer refusal shows memory =
       goes_memory sent_in_step d processors (show run r (standing d.group p k0) number offered) means refusal k1
-      (same_after d processors k0 k1 number stands lt r offered p filings' (Ok answer) shows attends.change.others) memory (others_so (Ok answer) shows)
+      (same_after d processors k0 k1 number stands lt r offered p filings' (Ok answer) shows attends.change.others) memory (all_so (Ok answer) shows answer refl)
 
   -- it was done
   pub asks_ok : (p' : code_progress.Progress) (answer : Answer) → Showed (Ok answer) → p'.contributed.items ≡ set p.contributed.items number true → p'.filer ≡ filings' → p'.messages ≡ p.messages ++ place r.number number 0 answer.messages
@@ -119,5 +152,5 @@ module _ (d : code_discovered.Discovered) (k0 k1 : State) (number : ℕ) (lt : n
         ∙ ap (λ q. Ok (q, answer.claimed)) (stands_so d processors k0 k1 number stands lt r offered p filings' (Ok answer) shows attends.change.others p' answer.messages contributed filed messages);
     same = same_after d processors k0 k1 number stands lt r offered p filings' (Ok answer) shows attends.change.others;
     ready = ready_after d processors k0 k1 number stands lt r offered p filings' (Ok answer) shows attends.change.others answer refl attends.same_says;
-    fronts = others_so (Ok answer) shows;
+    fronts = all_so (Ok answer) shows answer refl;
   }

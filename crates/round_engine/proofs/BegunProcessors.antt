@@ -1,44 +1,20 @@
 -- What one processor says of itself: from what its session says to what the run has of it.
 use Rattle.std.proofs.Common.{◌≡◌, ◌+◌, ℕ, List, [], ◌∷◌, ◌++◌, Option, None, Some, Err, IfSome, IsSomeAnd, inl, inr, refl, sym, ap, ◌∙◌, subst}
+use Rattle.std.specs.Prelude.{option_and_then}
 use Rattle.apt_outside.specs.Child.{Try, Child, State, Attends, StaysSent}
-use Rattle.wire_frames.specs.declared.frame.Frame.{Frame}
-use Rattle.wire_frames.specs.declared.frame.Frame.TheVariants as frame
 use Rattle.wire_frames.specs.declared.frame.Hello.{Hello}
 use Rattle.processor_claims.specs.declared.supported.Supported.{Supported}
 use Rattle.child_session.specs.declared.fault.SessionFault.{SessionFault}
 use Rattle.child_session.specs.declared.fault.SessionFault.TheVariants as fault
-use Rattle.child_session.specs.Talk.{answer_to}
 use Rattle.child_session.specs.Beginning as session
-use Rattle.child_session.specs.Beginning.{hello_in, first_hello, IsBegun, HasBegun, IsUnheard}
+use Rattle.child_session.specs.Beginning.{IsBegun, HasBegun, IsUnheard}
 use Rattle.project_units.specs.Refusals as stop
 use Rattle.project_units.specs.Refusals.{Stop, UnbuiltTalk}
 use Rattle.round_engine.specs.Faults.{of_session}
 use Rattle.project_units.specs.Plans.{Plan, init_frame}
-use Rattle.round_engine.specs.Run.{first_sent, supported_in, supported_by}
+use Rattle.round_engine.specs.Run.{supported_in}
 use Rattle.round_engine.specs.Shown.{IsSame, SaysHello, SaysNone, StopsOne}
 use Rattle.round_engine.proofs.StoppedChildren.{same_one}
-
-supported_hello : (o : Option Frame) (hello : Hello) → hello_in o ≡ Some hello → supported_by o ≡ supported_in hello
-supported_hello (Some (frame.Hello found)) hello e = let is : found ≡ hello = cc in ap supported_in is
-supported_hello None hello e = absurd cc
-supported_hello (Some (frame.Init init)) hello e = absurd cc
-supported_hello (Some (frame.Round number over error offered roots)) hello e = absurd cc
-supported_hello (Some (frame.Reply answer)) hello e = absurd cc
-supported_hello (Some (frame.Done claimed)) hello e = absurd cc
-supported_hello (Some (frame.Create creation)) hello e = absurd cc
-supported_hello (Some (frame.Message message)) hello e = absurd cc
-supported_hello (Some (frame.Ask question)) hello e = absurd cc
-
-supported_none : (o : Option Frame) → hello_in o ≡ None → supported_by o ≡ None
-supported_none (Some (frame.Hello found)) e = absurd cc
-supported_none None e = refl
-supported_none (Some (frame.Init init)) e = refl
-supported_none (Some (frame.Round number over error offered roots)) e = refl
-supported_none (Some (frame.Reply answer)) e = refl
-supported_none (Some (frame.Done claimed)) e = refl
-supported_none (Some (frame.Create creation)) e = refl
-supported_none (Some (frame.Message message)) e = refl
-supported_none (Some (frame.Ask question)) e = refl
 
 some_weaker : (P Q : Child → Type 0) (o : Option Child) → ((c : Child) → P c → Q c) → IsSomeAnd o P → IsSomeAnd o Q
 some_weaker P Q None weaker fact = absurd fact
@@ -50,7 +26,7 @@ some_stays P Q (Some b) None stays fact same = absurd same
 some_stays P Q (Some b) (Some a) stays fact same = stays b a fact same
 
 -- a child that was sent the first frame alone
-begun_is : (call : Try) (init : List ℕ) (child : ℕ) (k0 k1 : State) → session.TellsOf child (IsBegun call init) k0 k1 → session.TellsOf child (IsUnheard call init) k0 k1
+pub begun_is : (call : Try) (init : List ℕ) (child : ℕ) (k0 k1 : State) → session.TellsOf child (IsBegun call init) k0 k1 → session.TellsOf child (IsUnheard call init) k0 k1
 begun_is call init child k0 k1 tells = record {
   unknown = tells.unknown;
   others = tells.others;
@@ -68,7 +44,7 @@ module _ (plan : Plan) (p : Try) (k0 k1 : State) where
   -- it said Hello, and each name in it is a pattern
   pub says_hello : (child : ℕ) (hello : Hello) (supported : Supported) → session.SaysHello p init k0 k1 child hello → supported_in hello ≡ Some supported → SaysHello plan p child supported k0 k1
   says_hello child hello supported says is = record {
-    hello = supported_hello (answer_to (k0.says p.0 p.1) (first_sent plan p)) hello says.says ∙ is;
+    hello = ap (option_and_then supported_in) says.says ∙ is;
     tells = says.tells;
     tried = says.tried;
   }
@@ -76,7 +52,7 @@ module _ (plan : Plan) (p : Try) (k0 k1 : State) where
   -- it said none
   pub says_none : (s : Stop) → session.SaysNone p init k0 k1 → k1.starts ≡ k0.starts + 1 → s ≡ stop.Refused (UnbuiltTalk p.0) → SaysNone plan p s k0 k1
   says_none s says starts is = record {
-    hello = supported_none (answer_to (k0.says p.0 p.1) (first_sent plan p)) says.says;
+    hello = ap (option_and_then supported_in) says.says;
     is = is;
     child = says.child;
     tells = says.tells;
@@ -86,7 +62,7 @@ module _ (plan : Plan) (p : Try) (k0 k1 : State) where
 
   -- the session did not begin
   pub begins_err : (f : SessionFault) (s : Stop) → session.Begins p init k0 k1 (Err f) → session.StartsOne {T = ℕ × Hello} k0.starts k1.starts (Err f) → s ≡ of_session p.0 f → StopsOne plan p s k0 k1
-  begins_err fault.Failed s fails starts is = subst (λ t. StopsOne plan p t k0 k1) (sym is) fails
+  begins_err fault.Failed s fails starts is = subst (λ t. StopsOne plan p t k0 k1) (sym is) (refl, fails)
   begins_err fault.Memory s fails starts is = subst (λ t. StopsOne plan p t k0 k1) (sym is) fails
   begins_err fault.Unbuilt s says starts is = subst (λ t. StopsOne plan p t k0 k1) (sym is) (says_none (stop.Refused (UnbuiltTalk p.0)) says starts refl)
   begins_err (fault.TooManyQuestions most) s never starts is = absurd never
@@ -114,7 +90,7 @@ module _ (plan : Plan) (p : Try) (k0 k1 : State) where
     -- since a name in its Hello is no pattern
     pub stopped_none : supported_in hello ≡ None → StopsOne plan p (stop.Refused (UnbuiltTalk p.0)) k0 k2
     stopped_none none = record {
-      hello = supported_hello (answer_to (k0.says p.0 p.1) (first_sent plan p)) hello says.says ∙ none;
+      hello = ap (option_and_then supported_in) says.says ∙ none;
       is = refl;
       child = child;
       tells = stopped_tells;

@@ -1,5 +1,5 @@
 -- What a clean run comes to: from the start of all processors over the rounds to their stops.
-use Rattle.std.proofs.Common.{◌≡◌, ℕ, ◌+◌, ◌<◌, Bool, true, false, List, [], ◌∷◌, ◌++◌, length, map, take, Result, Ok, Err, refl, sym, ap, subst, ◌∙◌, append-nil, arith}
+use Rattle.std.proofs.Common.{◌≡◌, ℕ, ◌+◌, ◌<◌, ◌≤◌, Bool, true, false, List, [], ◌∷◌, ◌++◌, length, map, take, Option, None, Some, Result, Ok, Err, refl, sym, ap, subst, ◌∙◌, append-nil, arith}
 use Rattle.std.specs.Prelude.{replicate}
 use Rattle.std.proofs.Math.Seq.{take-length}
 use Rattle.std.proofs.lemmas.Bool.{false≢true}
@@ -18,16 +18,17 @@ use Rattle.project_units.specs.declared.refusal.Refusal as code
 use Rattle.round_engine.specs.declared.rounds.Rounds.{Rounds}
 use Rattle.round_engine.specs.declared.running.Finished as declared
 use Rattle.project_units.specs.Refusals as stop
-use Rattle.project_units.specs.Refusals.{Refusal, Stop, is_refusal}
-use Rattle.project_units.specs.Faults.{stop_of}
+use Rattle.project_units.specs.Refusals.{Refusal, Stop, is_refusal, exempt_by}
+use Rattle.project_units.specs.Faults.{stop_of, exempt_in}
 use Rattle.project_units.proofs.CreationLemmas.{unread_none}
 use Rattle.project_units.specs.Units.{all_of}
 use Rattle.project_units.specs.Plans.{Plan, try_of, tries_in, name_of, names_in, plan_of}
 use Rattle.round_engine.specs.Run.{Frames, Progress, Run, first_sent, hellos_from, discovered, start, new_filings, next_of, rounds_before_last, rounds_from, asks_from, run_of, frames_of, ◌>>=◌}
 use Rattle.project_units.specs.Creations.{unread_among}
 use Rattle.round_engine.specs.Clean.{Has, Closes, ShowsWhole, Cleans, Talked}
-use Rattle.round_engine.specs.Shown.{frames_to, all_sent, AreSent, Stands, standing, shown_discovered, shown_rounds, AttendsAll, StopsAs, FrontsButOne, hellos_sent, ShowsNoMore, sent_in_finished, Goes, EndsAll, TellsOf, TellsMore, StopsAll, AllSayHello, Begins}
-use Rattle.round_engine.proofs.FrontsOfFrames.{but_one_more}
+use Rattle.round_engine.specs.Fronts.{FrontsBut}
+use Rattle.round_engine.specs.Shown.{frames_to, all_sent, AreSent, Stands, standing, shown_discovered, shown_rounds, AttendsAll, StopsAs, hellos_sent, ShowsNoMore, sent_in_finished, Goes, EndsAll, TellsOf, TellsMore, StopsAll, AllSayHello, Begins}
+use Rattle.round_engine.proofs.FrontsOfFrames.{fronts_more}
 use Rattle.round_engine.proofs.FrontsOfHellos.{sent_to_each, sent_are, each_same, tells_no_more, shows_nothing, frames_by, run_fronts}
 use Rattle.round_engine.proofs.StoppedProcessors.{sent_same, sent_count, all_same}
 
@@ -74,7 +75,7 @@ cleans_none plan table k finished none closes has =
         has = has;
         started = closes.3 ∙ ap length (sym none);
       };
-      more = tells_no_more plan.processors (frames_of (run_of k.says plan table)) k k (shows_nothing plan.processors (frames_of (run_of k.says plan table)) k);
+      more = tells_no_more None plan.processors (frames_of (run_of k.says plan table)) k k (shows_nothing plan.processors (frames_of (run_of k.says plan table)) k);
       fronts = shows_nothing plan.processors (frames_of (run_of k.says plan table)) k;
       shown = λ due. record {
         frames = ([], record { tells = record { different = tt; unknown = tt; others = λ child out. refl }; shown = subst (λ s. AreSent plan.processors s [] k.known) (sym sent) tt });
@@ -85,11 +86,11 @@ cleans_none plan table k finished none closes has =
 
 -- ---- memory was wanted
 
-pub cleans_memory : (plan : Plan) (table : TypeTable) (k0 k : State) (refusal : code.Refusal) → stop_of refusal ≡ stop.Memory → ShowsNoMore plan.processors (frames_of (run_of k0.says plan table)) k0 k → Cleans plan table k0 k (Err refusal)
+pub cleans_memory : (plan : Plan) (table : TypeTable) (k0 k : State) (refusal : code.Refusal) → stop_of refusal ≡ stop.Memory → ShowsNoMore None plan.processors (frames_of (run_of k0.says plan table)) k0 k → Cleans plan table k0 k (Err refusal)
 cleans_memory plan table k0 k refusal memory none = record {
   comes = subst (StopsAs (run_of k0.says plan table) (frames_of (run_of k0.says plan table))) (sym memory) tt;
-  more = tells_no_more plan.processors (frames_of (run_of k0.says plan table)) k0 k none;
-  fronts = none;
+  more = tells_no_more None plan.processors (frames_of (run_of k0.says plan table)) k0 k none;
+  fronts = subst (λ s. ShowsNoMore (exempt_by s) plan.processors (frames_of (run_of k0.says plan table)) k0 k) (sym memory) none;
   shown = λ due. absurd (false≢true (ap is_refusal (sym memory) ∙ due));
 }
 
@@ -122,13 +123,14 @@ pub cleans_at_hello : (plan : Plan) (table : TypeTable) (k0 k : State) (refusal 
 cleans_at_hello plan table k0 k refusal begins = record {
   comes = due_comes (run_of k0.says plan table) (stop_of refusal)
       (λ due. let h = begins.0 due in stopped_whole (run_of k0.says plan table) h.sent (stop_of refusal) (hello_stops k0.says plan table h.sent (stop_of refusal) h.comes));
-  more = tells_no_more plan.processors (hellos_sent k0.says plan) k0 k begins.1;
+  more = tells_no_more (exempt_by (stop_of refusal)) plan.processors (hellos_sent k0.says plan) k0 k begins.1;
   fronts = record {
     group = begins.1.group;
     shows = record {
       tells = begins.1.shows.tells;
       theirs = begins.1.shows.theirs;
-      fronts = but_one_more (all_sent k.known begins.1.group) (hellos_sent k0.says plan) (frames_of (run_of k0.says plan table)) begins.1.shows.fronts (run_fronts k0.says plan table);
+      fronts = fronts_more (exempt_by (stop_of refusal)) plan.processors (all_sent k.known begins.1.group) (hellos_sent k0.says plan) (frames_of (run_of k0.says plan table)) begins.1.shows.fronts (run_fronts k0.says plan table);
+      tries = record { count = begins.1.shows.tries.count; few = omega (arith, begins.1.shows.tries.few, (run_fronts k0.says plan table).few); tried = begins.1.shows.tries.tried };
     };
   };
   shown = λ due.
@@ -192,19 +194,35 @@ module _ (key : Key) (table : TypeTable) (d : code_discovered.Discovered) (p : c
     others = λ child out. stops.attends.others child out ∙ attends.others child out ∙ begins.shown.tells.others child out;
   }
 
+  few_so : (exempt : Option (List ℕ)) (a b : List Frames) → FrontsBut exempt processors a b → length a ≤ length b
+  few_so None a b fronts = fronts.few
+  few_so (Some name) a b fronts = fronts.few
+
   -- whatever came of it
-  pub all_shown : ShowsNoMore processors (frames_of whole) k0 k3
+  fronts_so : FrontsBut (exempt_in result) processors (all_sent k3.known d.group) (frames_of whole)
+  fronts_so = subst (λ sent. FrontsBut (exempt_in result) processors sent (frames_of whole)) (sym (all_same processors d.group k2.known k3.known stops.same goes.same))
+      (frames_by k0.says plan (exempt_in result) processors (all_sent k2.known d.group) whole goes.fronts)
+
+  as_many : length (all_sent k3.known d.group) ≡ length processors
+  as_many = length-map d.group (frames_to k3.known) ∙ count
+
+  pub all_shown : ShowsNoMore (exempt_in result) processors (frames_of whole) k0 k3
   all_shown = record {
     group = d.group;
     shows = record {
       tells = tells;
       theirs = each_same processors d.group k2.known k3.known stops.same goes.same;
-      fronts = subst (λ sent. FrontsButOne sent (frames_of whole)) (sym (all_same processors d.group k2.known k3.known stops.same goes.same)) (frames_by k0.says plan (all_sent k2.known d.group) whole goes.fronts);
+      fronts = fronts_so;
+      tries = record {
+        count = length processors;
+        few = omega (arith, as_many, few_so (exempt_in result) (all_sent k3.known d.group) (frames_of whole) fronts_so);
+        tried = stops.attends.same_tried ∙ attends.same_tried ∙ begins.tried ∙ ap (λ ps. k0.tried ++ ps) (sym (take-length processors));
+      };
     };
   }
 
   all_more : TellsMore (length processors) k0 k3
-  all_more = tells_no_more processors (frames_of whole) k0 k3 all_shown
+  all_more = tells_no_more (exempt_in result) processors (frames_of whole) k0 k3 all_shown
 
   shows : k3.starts ≡ k0.starts + length processors → frames_of whole ≡ all_sent k2.known d.group → ShowsWhole processors whole k0 k3
   shows starts frames =
@@ -228,7 +246,7 @@ module _ (key : Key) (table : TypeTable) (d : code_discovered.Discovered) (p : c
       record {
         comes = stopped_whole whole (all_sent k2.known d.group) (stop_of refusal) refused.comes;
         more = all_more;
-        fronts = all_shown;
+        fronts = subst (λ o. ShowsNoMore (exempt_in o) processors (frames_of whole) k0 k3) is all_shown;
         shown = λ due. shows starts (stopped_frames whole (all_sent k2.known d.group) (stop_of refusal) due refused.comes);
       }
 
@@ -249,6 +267,6 @@ module _ (key : Key) (table : TypeTable) (d : code_discovered.Discovered) (p : c
           started = closes.3;
         };
         more = all_more;
-        fronts = all_shown;
+        fronts = subst (λ o. ShowsNoMore (exempt_in o) processors (frames_of whole) k0 k3) is all_shown;
         shown = λ due. shows starts sent;
       }

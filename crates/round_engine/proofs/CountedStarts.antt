@@ -110,7 +110,7 @@ stops_later s k0 k k1 so_far (inr counted) = inr (counted.0, omega (arith, so_fa
 -- one was refused
 pub stops_counted : (plan : Plan) (p : Try) (s : Stop) (k0 k1 : State) → StopsOne plan p s k0 k1 → StopsCounted s k0 k1
 stops_counted plan p (stop.Refused refusal) k0 k1 none = inl (counted_by (p ∷ []) k0 k1 none.tried none.starts)
-stops_counted plan p (stop.Failed object) k0 k1 (inl unstarted) = inr (refl, omega (arith, ap length unstarted.tried, length-append k0.tried (p ∷ []), unstarted.starts))
-stops_counted plan p (stop.Failed object) k0 k1 (inr stopped) = inl (counted_by (p ∷ []) k0 k1 stopped.tried stopped.starts)
+stops_counted plan p (stop.Failed object) k0 k1 (is, inl unstarted) = inr (refl, omega (arith, ap length unstarted.tried, length-append k0.tried (p ∷ []), unstarted.starts))
+stops_counted plan p (stop.Failed object) k0 k1 (is, inr stopped) = inl (counted_by (p ∷ []) k0 k1 stopped.tried stopped.starts)
 stops_counted plan p stop.Memory k0 k1 (inl untried) = inl (counted_same k0 k0 k1 untried.tried untried.starts (omega arith))
 stops_counted plan p stop.Memory k0 k1 (inr stopped) = inl (counted_by (p ∷ []) k0 k1 stopped.tried stopped.starts)

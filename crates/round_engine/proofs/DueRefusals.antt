@@ -1,12 +1,12 @@
 -- Refusals that are due whatever the children tell: one by a limit has that of a round, and one by a claim that was broken broke it.
-use Rattle.std.proofs.Common.{◌≡◌, ℕ, List, Option, None, Result, Err, inl, inr, refl, sym, subst, ◌∙◌}
+use Rattle.std.proofs.Common.{◌≡◌, ℕ, List, None, Result, Err, sym, subst, ◌∙◌}
 use Rattle.child_session.specs.declared.fault.SessionFault.{SessionFault}
 use Rattle.child_session.specs.declared.fault.SessionFault.TheVariants as fault
 use Rattle.child_session.specs.declared.round.Answer.{Answer}
 use Rattle.child_session.specs.declared.round.Showing.{Showing}
 use Rattle.child_session.specs.Round.{IsDue}
 use Rattle.project_units.specs.Refusals as stop
-use Rattle.project_units.specs.Refusals.{Stop, OrMemory, named_by}
+use Rattle.project_units.specs.Refusals.{Stop, named_by}
 use Rattle.round_engine.specs.Faults.{of_session}
 use Rattle.round_engine.specs.Run.{limit}
 use Rattle.round_engine.specs.Shown.{IsDueStop}
@@ -41,6 +41,5 @@ module _ (processor : List ℕ) (shown : Showing) (roots : List (List ℕ)) (lim
   due_of (fault.ClaimBroken declared said) is = is.1
   due_of fault.Memory is = tt
 
-  pub due_session : (f : SessionFault) → IsDue shown (fault_of f) → (s : Stop) → OrMemory (of_session processor f) s → IsDueStop s
-  due_session f is s (inl due) = subst IsDueStop (sym due) (due_of f is)
-  due_session f is s (inr memory) = subst IsDueStop (sym memory) tt
+  pub due_session : (f : SessionFault) → IsDue shown (fault_of f) → (s : Stop) → s ≡ of_session processor f → IsDueStop s
+  due_session f is s due = subst IsDueStop (sym due) (due_of f is)

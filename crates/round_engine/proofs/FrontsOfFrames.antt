@@ -1,55 +1,47 @@
 -- What children were sent at some point of a run is the first of what the run sends them.
-use Rattle.std.proofs.Common.{◌≡◌, ℕ, zero, suc, Bool, true, false, cond, List, [], ◌∷◌, ◌++◌, length, get_or, set, Option, None, Some, Result, Ok, Err, refl, sym, ap, subst, ◌∙◌, append-nil, append_assoc, get_or-set_other}
-use Rattle.std.specs.Prelude.{◌||◌, not}
+use Rattle.std.proofs.Common.{◌≡◌, ℕ, zero, suc, ◌<◌, Bool, true, false, cond, List, [], ◌∷◌, ◌++◌, length, get_or, set, Option, None, Some, IsSomeAnd, Result, Ok, Err, sym, subst, ◌∙◌, append-nil, get_or-set_other, length-set, arith}
+use Rattle.std.specs.Prelude.{◌||◌, not, slice_get}
 use Rattle.std.specs.FinMap as fin
-use Rattle.apt_base.specs.declared.kinds.Claim.{Claim}
-use Rattle.wire_frames.specs.declared.frame.Message.{Message}
-use Rattle.apt_filer.specs.Filing.{Filings}
+use Rattle.std.proofs.lemmas.Option.{slice_get-get_or}
+use Rattle.apt_outside.specs.Child.{Try}
 use Rattle.element_table.specs.TypeTable.{TypeTable}
-use Rattle.child_session.specs.declared.round.Request.{Request}
-use Rattle.child_session.specs.declared.round.Turn.{Turn}
-use Rattle.child_session.specs.declared.round.Turn.TheVariants as turns
-use Rattle.child_session.specs.declared.round.Showing.{Showing}
-use Rattle.child_session.specs.Talk.{Stream, answer_to}
-use Rattle.child_session.specs.Round.{Act, Answered, Broken, Overasked, Differed, turn_at, after_turn, round_from, act_of, reply_frame, filed_after, printed_after}
+use Rattle.child_session.specs.Round.{Act, Answered, Broken, Overasked, Differed, IsFront, sent_of}
+use Rattle.child_session.proofs.FrontsOfActs.{front_same, front_trans, act_front}
 use Rattle.round_engine.specs.declared.rounds.Round.{Round}
 use Rattle.project_units.specs.Refusals.{Refusal}
 use Rattle.project_units.specs.Units.{Entered, enter_all}
 use Rattle.round_engine.specs.Run.{Frames, Course, Discovered, Progress, Run, claim_at, sent_at, processor_at, showing, act, after_act, show, ask, offered_names, next_asked, ask_next, asks_from, round_of, has_error, printed_since, new_since, last_of, next_of, finished, last_round, entering, after_round, rounds_from, ◌>>=◌}
 use Rattle.project_units.specs.Creations.{creates_source, sources_among}
-use Rattle.round_engine.specs.Shown.{IsFront, AreFronts, FrontsButOne, sent_by, sent_in_step, sent_in_progress, sent_in_finished}
+use Rattle.round_engine.specs.Fronts.{AreFronts, FrontsButOne, FrontsBut}
+use Rattle.round_engine.specs.Shown.{sent_by, sent_in_step, sent_in_progress, sent_in_finished}
 
 -- ---- fronts
 
-pub front_same : (xs : Frames) → IsFront xs xs
-front_same xs = record { rest = []; is = append-nil xs }
-
-front_more : (xs ys : Frames) → IsFront xs (xs ++ ys)
-front_more xs ys = record { rest = ys; is = refl }
-
-front_trans : (xs ys zs : Frames) → IsFront xs ys → IsFront ys zs → IsFront xs zs
-front_trans xs ys zs first second = record {
-  rest = first.rest ++ second.rest;
-  is = sym (append_assoc xs first.rest second.rest) ∙ ap (λ f. f ++ second.rest) first.is ∙ second.is;
-}
-
 pub fronts_same : (all : List Frames) → AreFronts all all
-fronts_same all = record { at = λ n. front_same (get_or all n []) }
+fronts_same all = record { few = omega arith; at = λ n. front_same (get_or all n []) }
 
 pub fronts_trans : (a b c : List Frames) → AreFronts a b → AreFronts b c → AreFronts a c
-fronts_trans a b c first second = record { at = λ n. front_trans (get_or a n []) (get_or b n []) (get_or c n []) (first.at n) (second.at n) }
-
-pub but_none : (a b : List Frames) → AreFronts a b → FrontsButOne a b
-but_none a b are = record { one = 0; at = λ n other. are.at n }
-
-pub but_one_more : (a b c : List Frames) → FrontsButOne a b → AreFronts b c → FrontsButOne a c
-but_one_more a b c first second = record { one = first.one; at = λ n other. front_trans (get_or a n []) (get_or b n []) (get_or c n []) (first.at n other) (second.at n) }
+fronts_trans a b c first second = record { few = omega (arith, first.few, second.few); at = λ n. front_trans (get_or a n []) (get_or b n []) (get_or c n []) (first.at n) (second.at n) }
 
 -- those that were sent are all that the run sends
-pub but_exact : (a b : List Frames) → b ≡ a → FrontsButOne a b
-but_exact a b is = but_none a b (subst (AreFronts a) (sym is) (fronts_same a))
+pub fronts_exact : (a b : List Frames) → b ≡ a → AreFronts a b
+fronts_exact a b is = subst (AreFronts a) (sym is) (fronts_same a)
 
--- one child was sent more
+pub fronts_more : (exempt : Option (List ℕ)) (processors : List Try) (a b c : List Frames) → FrontsBut exempt processors a b → AreFronts b c → FrontsBut exempt processors a c
+fronts_more None processors a b c first second = fronts_trans a b c first second
+fronts_more (Some name) processors a b c first second = record {
+  few = omega (arith, first.few, second.few);
+  one = first.one;
+  named = first.named;
+  at = λ n other. front_trans (get_or a n []) (get_or b n []) (get_or c n []) (first.at n other) (second.at n);
+}
+
+-- the processor with a number is the one of this name
+pub named_at : (processors : List Try) (number : ℕ) (name : List ℕ) → number < length processors → name ≡ (get_or processors number ([], [])).0 → IsSomeAnd (slice_get processors number) (λ (p : Try). p.0 ≡ name)
+named_at processors number name lt is = subst (λ o. IsSomeAnd o (λ (p : Try). p.0 ≡ name)) (sym (slice_get-get_or processors number ([], []) lt)) (sym is)
+
+-- ---- one child was sent more
+
 front_at : (all : List Frames) (n : ℕ) (frames : Frames) (i : ℕ) → IsFront (get_or all n []) frames → IsFront (get_or all i []) (get_or (set all n frames) i [])
 front_at [] zero frames zero front = front_same []
 front_at [] zero frames (suc i) front = front_same []
@@ -61,41 +53,30 @@ front_at (x ∷ xs) (suc n) frames zero front = front_same x
 front_at (x ∷ xs) (suc n) frames (suc i) front = front_at xs n frames i front
 
 fronts_set : (all : List Frames) (n : ℕ) (frames : Frames) → IsFront (get_or all n []) frames → AreFronts all (set all n frames)
-fronts_set all n frames front = record { at = λ i. front_at all n frames i front }
+fronts_set all n frames front = record { few = omega (arith, length-set all n frames); at = λ i. front_at all n frames i front }
+
+both_at : (all : List Frames) (n : ℕ) (a b : Frames) (i : ℕ) → IsFront a b → IsFront (get_or (set all n a) i []) (get_or (set all n b) i [])
+both_at [] zero a b zero front = front_same []
+both_at [] zero a b (suc i) front = front_same []
+both_at [] (suc n) a b zero front = front_same []
+both_at [] (suc n) a b (suc i) front = front_same []
+both_at (x ∷ xs) zero a b zero front = front
+both_at (x ∷ xs) zero a b (suc i) front = front_same (get_or xs i [])
+both_at (x ∷ xs) (suc n) a b zero front = front_same x
+both_at (x ∷ xs) (suc n) a b (suc i) front = both_at xs n a b i front
+
+fronts_at : (all : List Frames) (n : ℕ) (a b : Frames) → IsFront a b → AreFronts (set all n a) (set all n b)
+fronts_at all n a b front = record { few = omega (arith, length-set all n a, length-set all n b); at = λ i. both_at all n a b i front }
 
 -- whatever one child was sent
-others_fronts : (all : List Frames) (n : ℕ) (a b : Frames) → FrontsButOne (set all n a) (set all n b)
-others_fronts all n a b = record {
-  one = n;
-  at = λ i other. record { rest = []; is = append-nil (get_or (set all n a) i []) ∙ get_or-set_other all n i a [] other ∙ sym (get_or-set_other all n i b [] other) };
-}
-
--- ---- one child
-
-abbrev sent_of : Act → Frames
-sent_of (Answered sent filings printed claimed) = sent
-sent_of (Broken sent filings) = sent
-sent_of (Overasked sent filings) = sent
-sent_of (Differed sent filings said) = sent
-
-turn_front : (turn : Turn) (sent : Frames) (filings : Filings) (printed : List Message) (go : Frames → Filings → List Message → Act)
-    → ((request : Request) → IsFront sent (sent_of (go (sent ++ reply_frame filings request ∷ []) (filed_after filings request) (printed_after printed request)))) → IsFront sent (sent_of (after_turn turn sent filings printed go))
-turn_front (turns.Ends claimed) sent filings printed go more = front_same sent
-turn_front (turns.Differs said) sent filings printed go more = front_same sent
-turn_front (turns.Asks request) sent filings printed go more = more request
-turn_front turns.Leaves sent filings printed go more = front_same sent
-
-talk_front : (stream : Stream) (declared : Claim) (left : ℕ) (sent : Frames) (filings : Filings) (printed : List Message) → IsFront sent (sent_of (round_from stream declared left sent filings printed))
-unfolding round_from
-talk_front stream declared zero sent filings printed = turn_front (turn_at declared (answer_to stream sent)) sent filings printed (λ s f m. Overasked sent filings) (λ request. front_same sent)
-talk_front stream declared (suc left) sent filings printed = turn_front (turn_at declared (answer_to stream sent)) sent filings printed (round_from stream declared left)
-    (λ request. front_trans sent (sent ++ reply_frame filings request ∷ []) (sent_of (round_from stream declared left (sent ++ reply_frame filings request ∷ []) (filed_after filings request) (printed_after printed request)))
-    (front_more sent (reply_frame filings request ∷ []))
-    (talk_front stream declared left (sent ++ reply_frame filings request ∷ []) (filed_after filings request) (printed_after printed request)))
-
-act_front : (stream : Stream) (shown : Showing) (sent : Frames) (filings : Filings) → IsFront sent (sent_of (act_of stream shown sent filings))
-act_front stream shown sent filings = front_trans sent (sent ++ shown.round ∷ []) (sent_of (act_of stream shown sent filings)) (front_more sent (shown.round ∷ []))
-    (talk_front stream shown.claim shown.limit (sent ++ shown.round ∷ []) filings [])
+module _ (name : List ℕ) (processors : List Try) (n : ℕ) (named : IsSomeAnd (slice_get processors n) (λ (p : Try). p.0 ≡ name)) where
+  others_fronts : (all : List Frames) (a b : Frames) → FrontsButOne name processors (set all n a) (set all n b)
+  others_fronts all a b = record {
+    few = omega (arith, length-set all n a, length-set all n b);
+    one = n;
+    named = named;
+    at = λ i other. record { rest = []; is = append-nil (get_or (set all n a) i []) ∙ get_or-set_other all n i a [] other ∙ sym (get_or-set_other all n i b [] other) };
+  }
 
 -- ---- one part of a run behind another
 
@@ -111,20 +92,33 @@ module _ (d : Discovered) (r : Round) where
   acted_fronts p number (Overasked sent filings) front = fronts_set p.sent number sent front
   acted_fronts p number (Differed sent filings said) front = fronts_set p.sent number sent front
 
-  acted_but_one : (p : Progress) (number : ℕ) (frames : Frames) (a : Act) → FrontsButOne (set p.sent number frames) (sent_by sent_in_step (after_act d r p number a))
-  acted_but_one p number frames (Answered sent filings printed claimed) = others_fronts p.sent number frames sent
-  acted_but_one p number frames (Broken sent filings) = others_fronts p.sent number frames sent
-  acted_but_one p number frames (Overasked sent filings) = others_fronts p.sent number frames sent
-  acted_but_one p number frames (Differed sent filings said) = others_fronts p.sent number frames sent
+  -- it was sent the first of what its act sends
+  acted_some : (p : Progress) (number : ℕ) (frames : Frames) (a : Act) → IsFront frames (sent_of a) → AreFronts (set p.sent number frames) (sent_by sent_in_step (after_act d r p number a))
+  acted_some p number frames (Answered sent filings printed claimed) front = fronts_at p.sent number frames sent front
+  acted_some p number frames (Broken sent filings) front = fronts_at p.sent number frames sent front
+  acted_some p number frames (Overasked sent filings) front = fronts_at p.sent number frames sent front
+  acted_some p number frames (Differed sent filings said) front = fronts_at p.sent number frames sent front
+
+  acted_but_one : (name : List ℕ) (processors : List Try) (p : Progress) (number : ℕ) → IsSomeAnd (slice_get processors number) (λ (q : Try). q.0 ≡ name) → (frames : Frames) (a : Act)
+      → FrontsButOne name processors (set p.sent number frames) (sent_by sent_in_step (after_act d r p number a))
+  acted_but_one name processors p number named frames (Answered sent filings printed claimed) = others_fronts name processors number named p.sent frames sent
+  acted_but_one name processors p number named frames (Broken sent filings) = others_fronts name processors number named p.sent frames sent
+  acted_but_one name processors p number named frames (Overasked sent filings) = others_fronts name processors number named p.sent frames sent
+  acted_but_one name processors p number named frames (Differed sent filings said) = others_fronts name processors number named p.sent frames sent
 
   -- before one is shown the round
   pub show_fronts : (p : Progress) (number : ℕ) (offered : List (List ℕ)) → AreFronts p.sent (sent_by sent_in_step (show d r p number offered))
   show_fronts p number offered = acted_fronts p number (act d r p number offered)
       (act_front (d.says (processor_at d number).0 (processor_at d number).1) (showing r offered (claim_at d number)) (sent_at p number) p.filings)
 
+  -- once one was shown some of it
+  pub show_some : (p : Progress) (number : ℕ) (offered : List (List ℕ)) (frames : Frames) → IsFront frames (sent_of (act d r p number offered)) → AreFronts (set p.sent number frames) (sent_by sent_in_step (show d r p number offered))
+  show_some p number offered frames front = acted_some p number frames (act d r p number offered) front
+
   -- once one was shown it, whatever it was sent
-  pub show_but_one : (p : Progress) (number : ℕ) (offered : List (List ℕ)) (frames : Frames) → FrontsButOne (set p.sent number frames) (sent_by sent_in_step (show d r p number offered))
-  show_but_one p number offered frames = acted_but_one p number frames (act d r p number offered)
+  pub show_but_one : (name : List ℕ) (processors : List Try) (p : Progress) (number : ℕ) → IsSomeAnd (slice_get processors number) (λ (q : Try). q.0 ≡ name) → (offered : List (List ℕ)) (frames : Frames)
+      → FrontsButOne name processors (set p.sent number frames) (sent_by sent_in_step (show d r p number offered))
+  show_but_one name processors p number named offered frames = acted_but_one name processors p number named frames (act d r p number offered)
 
   next_fronts : (p : Progress) (o : Option (ℕ × List ℕ)) (go : Progress × Bool → Course Progress) → ((acted : Progress × Bool) → AreFronts acted.0.sent (sent_by sent_in_progress (go acted)))
       → AreFronts p.sent (sent_by sent_in_progress (ask_next d r p o go))

@@ -13,14 +13,15 @@ use Rattle.project_units.specs.declared.refusal.Refusal.TheVariants as code
 use Rattle.round_engine.specs.declared.rounds.Round.{Round}
 use Rattle.round_engine.specs.declared.rounds.Rounds.{Rounds}
 use Rattle.project_units.specs.Refusals as stop
-use Rattle.project_units.specs.Refusals.{Refusal, Stop}
+use Rattle.project_units.specs.Refusals.{Refusal, Stop, exempt_by}
 use Rattle.project_units.specs.Faults.{stop_of}
 use Rattle.project_units.specs.Entering.{RefusesAs}
 use Rattle.project_units.specs.Units.{Entered, enter_all, all_of}
 use Rattle.round_engine.specs.Run.{Discovered, Progress, Run, Finished, round_of, has_error, last_of, next_of, last_round, rounds_before_last, rounds_from}
 use Rattle.project_units.specs.Creations.{creates_source, sources_among, unread_among}
-use Rattle.round_engine.specs.Shown.{Stands, Goes, StopsAs, AreFronts, FrontsButOne, sent_by, sent_in_progress, sent_in_finished, all_sent, standing, shown_discovered, shown_rounds}
-use Rattle.round_engine.proofs.FrontsOfFrames.{but_none, but_exact, but_one_more, last_fronts, later_fronts, round_then}
+use Rattle.round_engine.specs.Fronts.{AreFronts, FrontsBut}
+use Rattle.round_engine.specs.Shown.{Stands, Goes, StopsAs, sent_by, sent_in_progress, sent_in_finished, all_sent, standing, shown_discovered, shown_rounds}
+use Rattle.round_engine.proofs.FrontsOfFrames.{fronts_exact, fronts_more, last_fronts, later_fronts, round_then}
 use Rattle.round_engine.proofs.AskedProcessors.{still_theirs, goes_memory}
 use Rattle.round_engine.proofs.RoundsOfARun.{last_ok, last_err, rounds_opened, rounds_after, rounds_stop, rounds_close, rounds_refused, rounds_go, rounds_full}
 
@@ -51,16 +52,16 @@ module _ (d : code_discovered.Discovered) (processors : List Try) (r : Round) (p
       stops (stop.Failed object) is = tt
       stops stop.Memory is = tt
 
-      fronts : FrontsButOne (all_sent k'.known d.group) (sent_by sent_in_finished last)
-      fronts = but_one_more (all_sent k'.known d.group) (sent_by sent_in_progress (round_of run (last_of r.number r.error r.table) before)) (sent_by sent_in_finished last)
-          (subst (λ q. FrontsButOne (all_sent k'.known d.group) (sent_by sent_in_progress (round_of run q before))) is_last goes.fronts)
+      fronts : FrontsBut (exempt_by (stop_of refusal)) processors (all_sent k'.known d.group) (sent_by sent_in_finished last)
+      fronts = fronts_more (exempt_by (stop_of refusal)) processors (all_sent k'.known d.group) (sent_by sent_in_progress (round_of run (last_of r.number r.error r.table) before)) (sent_by sent_in_finished last)
+          (subst (λ q. FrontsBut (exempt_by (stop_of refusal)) processors (all_sent k'.known d.group) (sent_by sent_in_progress (round_of run q before))) is_last goes.fronts)
           (last_fronts run r.number r.error r.table before)
 
   -- memory was wanted behind it
   pub last_memory : {T V : Type 0} (done : T) (p' : code_progress.Progress) (k' : State) (means : V → Finished) (refusal : declared.Refusal) → stop_of refusal ≡ stop.Memory
       → Goes sent_in_progress d processors (round_of run r before) (λ (x : T). standing d.group p' k') (Ok done) k' → Goes sent_in_finished d processors last means (Err refusal) k'
   last_memory done p' k' means refusal memory goes = goes_memory sent_in_finished d processors last means refusal k' goes.same memory
-      (but_exact (all_sent k'.known d.group) (sent_by sent_in_finished last)
+      (fronts_exact (all_sent k'.known d.group) (sent_by sent_in_finished last)
       (ap (sent_by sent_in_finished) (last_ok run r.number r.error r.table before (standing d.group p' k') (ap (λ q. round_of run q before) (sym is_last) ∙ goes.comes))))
 
   -- it was shown, and this is what the run comes to
@@ -75,7 +76,7 @@ module _ (d : code_discovered.Discovered) (processors : List Try) (r : Round) (p
         ∙ ap (ended rounds.count rounds.made rounds.messages) (sym unread);
     same = goes.same;
     ready = goes.ready;
-    fronts = but_exact (all_sent k'.known d.group) (sent_by sent_in_finished last)
+    fronts = fronts_exact (all_sent k'.known d.group) (sent_by sent_in_finished last)
         (ap (sent_by sent_in_finished) (last_ok run r.number r.error r.table before (standing d.group p' k') (ap (λ q. round_of run q before) (sym is_last) ∙ goes.comes)));
   }
     where
@@ -113,7 +114,7 @@ module _ (d : code_discovered.Discovered) (processors : List Try) (table : TypeT
     comes = rounds_full all whole left r (standing d.group p k) none is.way;
     same = still_theirs d processors k is.stands;
     ready = tt;
-    fronts = but_exact (all_sent k.known d.group) (sent_by sent_in_finished whole) (ap (sent_by sent_in_finished) (rounds_full all whole left r (standing d.group p k) none is.way));
+    fronts = fronts_exact (all_sent k.known d.group) (sent_by sent_in_finished whole) (ap (sent_by sent_in_finished) (rounds_full all whole left r (standing d.group p k) none is.way));
   }
 
   module _ (left : ℕ) (r : Round) (p : code_progress.Progress) (k : State) (is : AreUnderway d processors table p0 k0 (suc left) r p k) where
@@ -133,9 +134,9 @@ module _ (d : code_discovered.Discovered) (processors : List Try) (table : TypeT
         stops (stop.Failed object) so = tt
         stops stop.Memory so = tt
 
-        fronts : FrontsButOne (all_sent k'.known d.group) (sent_by sent_in_finished whole)
-        fronts = but_one_more (all_sent k'.known d.group) (sent_by sent_in_progress (round_of all r now)) (sent_by sent_in_finished whole)
-            (subst (λ course. FrontsButOne (all_sent k'.known d.group) (sent_by sent_in_progress course)) (sym shown_is) goes.fronts)
+        fronts : FrontsBut (exempt_by (stop_of refusal)) processors (all_sent k'.known d.group) (sent_by sent_in_finished whole)
+        fronts = fronts_more (exempt_by (stop_of refusal)) processors (all_sent k'.known d.group) (sent_by sent_in_progress (round_of all r now)) (sent_by sent_in_finished whole)
+            (subst (λ course. FrontsBut (exempt_by (stop_of refusal)) processors (all_sent k'.known d.group) (sent_by sent_in_progress course)) (sym shown_is) goes.fronts)
             (subst (λ course. AreFronts (sent_by sent_in_progress (round_of all r now)) (sent_by sent_in_finished course)) (rounds_opened all whole left r now is.way) (round_then all left r now (round_of all r now)))
 
     module _ {T : Type 0} (done : T) (p' : code_progress.Progress) (k' : State) (goes : Goes sent_in_progress d processors (round_of (shown_discovered k.says processors d) r now) (λ (x : T). standing d.group p' k') (Ok done) k')
@@ -171,14 +172,21 @@ module _ (d : code_discovered.Discovered) (processors : List Try) (table : TypeT
         comes = stops (stop_of refusal) refuses;
         same = goes.same;
         ready = tt;
-        fronts = but_none (all_sent k'.known d.group) (sent_by sent_in_finished whole)
-            (subst (λ course. AreFronts later.sent (sent_by sent_in_finished course)) (rounds_after all whole left r now is.way later round_is) (later_fronts all left r now later));
+        fronts = none_exempt (stop_of refusal) refuses;
       }
         where
           stops : (s : Stop) → RefusesAs (enter_all r.table (fin.entries (sources_among made))) s → StopsAs whole (all_sent k'.known d.group) s
           stops (stop.Refused refused) so = rounds_refused all whole left r now is.way later round_is more refused so
           stops (stop.Failed object) so = absurd so
           stops stop.Memory so = tt
+
+          so_far : AreFronts (all_sent k'.known d.group) (sent_by sent_in_finished whole)
+          so_far = subst (λ course. AreFronts later.sent (sent_by sent_in_finished course)) (rounds_after all whole left r now is.way later round_is) (later_fronts all left r now later)
+
+          none_exempt : (s : Stop) → RefusesAs (enter_all r.table (fin.entries (sources_among made))) s → FrontsBut (exempt_by s) processors (all_sent k'.known d.group) (sent_by sent_in_finished whole)
+          none_exempt (stop.Refused refused) so = so_far
+          none_exempt (stop.Failed object) so = absurd so
+          none_exempt stop.Memory so = so_far
 
       -- its sources were entered
       pub rounds_next : (entered : Entered) (next : Round) → (error || not (creates_source made)) ≡ false → enter_all r.table (fin.entries (sources_among made)) ≡ Ok entered → next ≡ next_of (suc r.number) entered

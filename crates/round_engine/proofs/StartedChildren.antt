@@ -1,19 +1,23 @@
 -- Children of a run that are started one after another and say Hello.
-use Rattle.std.proofs.Common.{◌≡◌, ◌≢◌, ◌+◌, ℕ, List, [], ◌∷◌, ◌++◌, length, map, take, Option, None, Some, Ok, Err, IsSomeAnd, refl, sym, ap, subst, ◌∙◌, inl, inr, append-nil, append_assoc, length-append, arith}
+use Rattle.std.proofs.Common.{◌≡◌, ◌≢◌, ◌⊎◌, ◌+◌, ℕ, List, [], ◌∷◌, ◌++◌, length, map, take, Option, None, Some, Ok, Err, IsSomeAnd, refl, sym, ap, subst, ◌∙◌, inl, inr, append-nil, append_assoc, length-append, arith}
+use Rattle.std.specs.Prelude.{slice_get}
 use Rattle.std.proofs.Math.Seq.{take-append_seam}
 use Rattle.std.specs.List.{AllByRecursion}
 use Rattle.apt_outside.specs.Child.{Says, Try, Child, Known, State, OthersKept, AllKept}
 use Rattle.processor_claims.specs.declared.supported.Supported.{Supported}
 use Rattle.child_session.specs.Beginning as session
+use Rattle.child_session.specs.Round.{IsFront}
+use Rattle.child_session.proofs.FrontsOfActs.{front_same}
 use Rattle.project_units.specs.Refusals as stop
-use Rattle.project_units.specs.Refusals.{Stop, UnbuiltTalk}
+use Rattle.project_units.specs.Refusals.{Stop, UnbuiltTalk, exempt_by}
 use Rattle.project_units.specs.Plans.{Plan, init_frame}
 use Rattle.round_engine.specs.Run.{Frames, Course, first_sent, hello_of, greeting, hellos_from, ◌>>=◌}
-use Rattle.std.proofs.lemmas.List.{map-append}
-use Rattle.round_engine.specs.Shown.{EachOf, IsOf, Serves, IsOutside, AreDifferent, IsSent, AreSent, TellsOf, all_sent, frames_to, AreFronts, FrontsButOne, sent_at_hello, hellos_sent, ShowsFronts, ShowsBehind, StopsAs, SaysHello, SaysNone, StopsOne, AllSayHello, OneSaysNone}
-use Rattle.round_engine.proofs.ChildrenOfARun.{all_sent-outside, each-weaker}
-use Rattle.round_engine.proofs.FrontsOfFrames.{but_none}
-use Rattle.round_engine.proofs.FrontsOfHellos.{fronts_last, sent_are, each_front, each_kept, sent_kept, hello_fronts}
+use Rattle.std.proofs.lemmas.List.{map-append, length-map}
+use Rattle.round_engine.specs.Fronts.{AreFronts, FrontsBut}
+use Rattle.round_engine.specs.Shown.{EachOf, IsOf, Serves, IsOutside, AreDifferent, IsSent, AreSent, TellsOf, all_sent, frames_to, sent_at_hello, hellos_sent, TriesUpTo, ShowsFronts, ShowsBehind, StopsAs, SaysHello, SaysNone, StopsOne, AllSayHello, OneSaysNone}
+use Rattle.round_engine.proofs.ChildrenOfARun.{frames_in, all_sent-outside, each-weaker}
+use Rattle.round_engine.proofs.BegunProcessors.{begun_is}
+use Rattle.round_engine.proofs.FrontsOfHellos.{fronts_last, fronts_one_more, fronts_no_more, named_next, sent_are, each_front, each_kept, sent_kept, hello_fronts, hello_next}
 
 -- ---- a child more
 
@@ -133,17 +137,30 @@ module _ (plan : Plan) (before : List Try) (group : List ℕ) (supported : List 
   his : EachOf IsOf before group now.known
   his = each-weaker (Serves now.says) IsOf (λ q c serves. serves.is) before group now.known so_far.each
 
+  -- the starts that were tried are theirs
+  tries_before : (new : State) → new.tried ≡ now.tried → TriesUpTo (length (hellos_sent old.says plan)) plan.processors old new
+  tries_before new tried = record {
+    count = length before;
+    few = omega (arith, first_fronts.few, length-map before (first_sent plan));
+    tried = tried ∙ so_far.tried ∙ ap (λ xs. old.tried ++ xs) (sym (ap (take (length before)) (sym so_far.all) ∙ take_front before later (length before) refl));
+  }
+
   -- nothing is told anew but of these
-  pub begun_untold : (new : State) → AllKept now.known new.known → ShowsBehind plan.processors group (hellos_sent old.says plan) old new
-  begun_untold new kept = record {
+  begun_untold : (exempt : Option (List ℕ)) (new : State) → AllKept now.known new.known → FrontsBut exempt plan.processors (map (first_sent plan) before) (hellos_sent old.says plan)
+      → TriesUpTo (length (hellos_sent old.says plan)) plan.processors old new → ShowsBehind exempt plan.processors group (hellos_sent old.says plan) old new
+  begun_untold exempt new kept fronts tries = record {
     others = [];
-    shows = subst (λ xs. ShowsFronts plan.processors xs (hellos_sent old.says plan) old new) (sym (append-nil group)) (record {
+    shows = subst (λ xs. ShowsFronts exempt plan.processors xs (hellos_sent old.says plan) old new) (sym (append-nil group)) (record {
       tells = record { different = so_far.tells.different; unknown = so_far.tells.unknown; others = λ child out. kept child ∙ so_far.tells.others child out };
       theirs = subst (λ xs. EachOf IsOf xs group new.known) so_far.all (each_front IsOf before later group new.known (each_kept IsOf before group now.known new.known kept his));
-      fronts = but_none (all_sent new.known group) (hellos_sent old.says plan)
-          (subst (λ sent. AreFronts sent (hellos_sent old.says plan)) (sym (sent_kept group now.known new.known kept ∙ sent_first)) first_fronts);
+      fronts = subst (λ sent. FrontsBut exempt plan.processors sent (hellos_sent old.says plan)) (sym (sent_kept group now.known new.known kept ∙ sent_first)) fronts;
+      tries = tries;
     });
   }
+
+  -- memory was wanted
+  pub begun_nothing : (new : State) → AllKept now.known new.known → new.tried ≡ now.tried → ShowsBehind None plan.processors group (hellos_sent old.says plan) old new
+  begun_nothing new kept tried = begun_untold None new kept first_fronts (tries_before new tried)
 
 -- what the next one says
 abbrev then_hellos : Says → Plan → List Try → Try → List Try → Option Supported → Course (List Supported)
@@ -209,9 +226,27 @@ module _ (plan : Plan) (before : List Try) (group : List ℕ) (supported : List 
       is_sent None h = absurd h
       is_sent (Some c) h = record { name = h.is.name; command = h.is.command; frames = h.sent }
 
+  -- what all are sent begins with what these and it are sent
+  next_fronts : AreFronts (map (first_sent plan) before ++ first_sent plan p ∷ []) (hellos_sent old.says plan)
+  next_fronts = subst (AreFronts (map (first_sent plan) before ++ first_sent plan p ∷ [])) (sym (onto_sent plan supported (hellos_from old.says plan before (p ∷ later))) ∙ ap (sent_at_hello plan) so_far.hellos)
+      (hello_next old.says plan before p later so_far.all)
+
+  named : IsSomeAnd (slice_get plan.processors (length (map (first_sent plan) before))) (λ (q : Try). q.0 ≡ p.0)
+  named = subst (λ n. IsSomeAnd (slice_get plan.processors n) (λ (q : Try). q.0 ≡ p.0)) (sym (length-map before (first_sent plan))) (named_next before p later plan.processors so_far.all)
+
+  -- its start was tried
+  tries_next : (new : State) → new.tried ≡ now.tried ++ p ∷ [] → TriesUpTo (length (hellos_sent old.says plan)) plan.processors old new
+  tries_next new tried = record {
+    count = length (before ++ p ∷ []);
+    few = omega (arith, next_fronts.few, length-append (map (first_sent plan) before) (first_sent plan p ∷ []), length-map before (first_sent plan), length-append before (p ∷ []));
+    tried = tried ∙ ap (λ xs. xs ++ p ∷ []) so_far.tried ∙ append_assoc old.tried before (p ∷ [])
+        ∙ ap (λ xs. old.tried ++ xs) (sym (ap (take (length (before ++ p ∷ []))) (sym so_far.all ∙ sym (append_assoc before (p ∷ []) later)) ∙ take_front (before ++ p ∷ []) later (length (before ++ p ∷ [])) refl));
+  }
+
   -- nothing is told anew but of these, and of one behind them
-  pub begun_told : (P : Child → Type 0) → ((c : Child) → P c → IsOf p c) → (child : ℕ) (new : State) → session.TellsOf child P now new → ShowsBehind plan.processors group (hellos_sent old.says plan) old new
-  begun_told P is_his child new tells =
+  begun_told : (exempt : Option (List ℕ)) (P : Child → Type 0) → ((c : Child) → P c → IsOf p c) → (child : ℕ) (new : State) → session.TellsOf child P now new → new.tried ≡ now.tried ++ p ∷ []
+      → FrontsBut exempt plan.processors (map (first_sent plan) before ++ frames_to new.known child ∷ []) (hellos_sent old.says plan) → ShowsBehind exempt plan.processors group (hellos_sent old.says plan) old new
+  begun_told exempt P is_his child new tells tried fronts =
       let out = outside child tells.unknown in
       let kept = tells.others in
       let sent_is : all_sent new.known (group ++ child ∷ []) ≡ map (first_sent plan) before ++ frames_to new.known child ∷ [] =
@@ -223,8 +258,8 @@ module _ (plan : Plan) (before : List Try) (group : List ℕ) (supported : List 
           theirs = subst (λ xs. EachOf IsOf xs (group ++ child ∷ []) new.known) (append_assoc before (p ∷ []) later ∙ so_far.all)
               (each_front IsOf (before ++ p ∷ []) later (group ++ child ∷ []) new.known
               (each_more IsOf before group p child now.known new.known so_far.count kept out (his plan before group supported (p ∷ later) old now so_far) (fact_is (new.known child) tells.fact)));
-          fronts = subst (λ sent. FrontsButOne sent (hellos_sent old.says plan)) (sym sent_is)
-              (fronts_last (map (first_sent plan) before) (frames_to new.known child) (hellos_sent old.says plan) (first_fronts plan before group supported (p ∷ later) old now so_far));
+          fronts = subst (λ sent. FrontsBut exempt plan.processors sent (hellos_sent old.says plan)) (sym sent_is) fronts;
+          tries = tries_next new tried;
         };
       }
     where
@@ -235,12 +270,32 @@ module _ (plan : Plan) (before : List Try) (group : List ℕ) (supported : List 
   from_session : (c : Child) → session.IsOf p c → IsOf p c
   from_session c is = record { name = is.name; command = is.command }
 
-  pub begun_refuses : (s : Stop) (new : State) → StopsOne plan p s now new → ShowsBehind plan.processors group (hellos_sent old.says plan) old new
-  begun_refuses (stop.Refused refusal) new none = begun_told (session.IsBegun p (init_frame plan p.0)) (λ c begun. from_session c begun.is) none.child new none.tells
-  begun_refuses (stop.Failed object) new (inl unstarted) = begun_untold plan before group supported (p ∷ later) old now so_far new unstarted.known
-  begun_refuses (stop.Failed object) new (inr stopped) = begun_told (session.IsOf p) from_session stopped.child new stopped.tells
-  begun_refuses stop.Memory new (inl untried) = begun_untold plan before group supported (p ∷ later) old now so_far new untried.known
-  begun_refuses stop.Memory new (inr stopped) = begun_told (session.IsUnheard p (init_frame plan p.0)) (λ c unheard. from_session c unheard.is) stopped.child new stopped.tells
+  unheard : (o : Option Child) → IsSomeAnd o (session.IsUnheard p (init_frame plan p.0)) → IsFront (frames_in o) (first_sent plan p)
+  unheard None is = absurd is
+  unheard (Some c) is = by is.sent
+    where
+      by : (c.sent ≡ []) ⊎ (c.sent ≡ first_sent plan p) → IsFront c.sent (first_sent plan p)
+      by (inl none) = record { rest = first_sent plan p; is = ap (λ sent. sent ++ first_sent plan p) none }
+      by (inr all) = subst (λ sent. IsFront sent (first_sent plan p)) (sym all) (front_same (first_sent plan p))
+
+  -- its child was stopped before it was heard
+  pub begun_unheard : (child : ℕ) (new : State) → session.TellsOf child (session.IsUnheard p (init_frame plan p.0)) now new → new.tried ≡ now.tried ++ p ∷ []
+      → ShowsBehind None plan.processors group (hellos_sent old.says plan) old new
+  begun_unheard child new tells tried = begun_told None (session.IsUnheard p (init_frame plan p.0)) (λ c is. from_session c is.is) child new tells tried
+      (fronts_last (map (first_sent plan) before) (frames_to new.known child) (first_sent plan p) (hellos_sent old.says plan) (unheard (new.known child) tells.fact) next_fronts)
+
+  -- a fault of the children came
+  begun_failed : (new : State) → session.Unstarted p now new ⊎ session.Stopped p (session.IsOf p) now new → ShowsBehind (Some p.0) plan.processors group (hellos_sent old.says plan) old new
+  begun_failed new (inl unstarted) = begun_untold plan before group supported (p ∷ later) old now so_far (Some p.0) new unstarted.known
+      (fronts_no_more plan.processors p.0 (map (first_sent plan) before) (hellos_sent old.says plan) named (first_fronts plan before group supported (p ∷ later) old now so_far)) (tries_next new unstarted.tried)
+  begun_failed new (inr stopped) = begun_told (Some p.0) (session.IsOf p) from_session stopped.child new stopped.tells stopped.tried
+      (fronts_one_more plan.processors p.0 (map (first_sent plan) before) (frames_to new.known stopped.child) (first_sent plan p) (hellos_sent old.says plan) named next_fronts)
+
+  pub begun_refuses : (s : Stop) (new : State) → StopsOne plan p s now new → ShowsBehind (exempt_by s) plan.processors group (hellos_sent old.says plan) old new
+  begun_refuses (stop.Refused refusal) new none = begun_unheard none.child new (begun_is p (init_frame plan p.0) none.child now new none.tells) none.tried
+  begun_refuses (stop.Failed object) new (is, stops) = subst (λ o. ShowsBehind (exempt_by (stop.Failed o)) plan.processors group (hellos_sent old.says plan) old new) (sym is) (begun_failed new stops)
+  begun_refuses stop.Memory new (inl untried) = begun_nothing plan before group supported (p ∷ later) old now so_far new untried.known untried.tried
+  begun_refuses stop.Memory new (inr stopped) = begun_unheard stopped.child new stopped.tells stopped.tried
 
 -- all said Hello
 pub begun_all : (plan : Plan) (before : List Try) (group : List ℕ) (supported : List Supported) (old now : State) → Begun plan before group supported [] old now → AllSayHello plan group supported old now

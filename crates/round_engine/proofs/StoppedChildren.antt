@@ -47,6 +47,14 @@ module _ (child : ℕ) (k0 k1 : State) (attends : Attends child k0 k1) (stays : 
     same = λ k. same_then (k0.known k) (k1.known k) (k2.known k) (same_one k) (later.same k);
   }
 
+-- nothing was called
+pub stays_still : (child : ℕ) (k : State) → StaysSent child k k
+stays_still child k = record { same_sent = same (k.known child) }
+  where
+    same : (o : Option Child) → IfSome o (λ before. IsSomeAnd o (λ after. after.sent ≡ before.sent))
+    same None = tt
+    same (Some c) = refl
+
 pub stops_none : (k : State) → StopsAll [] k k
 stops_none k = record { attends = record { same_says = refl; same_tried = refl; others = λ child out. refl }; same = λ child. same_refl (k.known child) }
 

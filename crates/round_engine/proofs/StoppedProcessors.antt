@@ -4,7 +4,8 @@ use Rattle.apt_outside.specs.Child.{Try, Child, Known, State}
 use Rattle.project_units.specs.Refusals.{Stop}
 use Rattle.project_units.specs.Plans.{Plan}
 use Rattle.round_engine.specs.Run.{Frames, first_sent}
-use Rattle.round_engine.specs.Shown.{IsOutside, IsSent, AreSent, IsSame, AllSame, EachOf, IsOf, all_sent, FrontsButOne, ShowsNoMore, ShowsBehind, TriesInOrder, StopsAll, OneSaysNone, StopsAtHello}
+use Rattle.round_engine.specs.Fronts.{FrontsBut}
+use Rattle.round_engine.specs.Shown.{IsOutside, IsSent, AreSent, IsSame, AllSame, EachOf, IsOf, all_sent, ShowsNoMore, ShowsBehind, TriesInOrder, StopsAll, OneSaysNone, StopsAtHello}
 use Rattle.round_engine.proofs.FrontsOfHellos.{sent_to_each, sent_are, each_same}
 
 outside_front : (child : ℕ) (group others : List ℕ) → IsOutside child (group ++ others) → IsOutside child group
@@ -43,8 +44,8 @@ pub all_same : (processors : List Try) (group : List ℕ) (old new : Known) → 
 all_same processors group old new same each = sent_are processors (all_sent old group) group new (sent_same processors (all_sent old group) group old new same (sent_to_each processors group old each))
 
 -- nothing more is told of others
-pub shows_stopped : (processors : List Try) (all : List Frames) (group : List ℕ) (k0 k1 k2 : State) → ShowsBehind processors group all k0 k1 → StopsAll group k1 k2 → ShowsNoMore processors all k0 k2
-shows_stopped processors all group k0 k1 k2 behind stops =
+pub shows_stopped : (exempt : Option (List ℕ)) (processors : List Try) (all : List Frames) (group : List ℕ) (k0 k1 k2 : State) → ShowsBehind exempt processors group all k0 k1 → StopsAll group k1 k2 → ShowsNoMore exempt processors all k0 k2
+shows_stopped exempt processors all group k0 k1 k2 behind stops =
     let whole : List ℕ = group ++ behind.others in
     let shows = behind.shows in
     record {
@@ -56,7 +57,8 @@ shows_stopped processors all group k0 k1 k2 behind stops =
           others = λ child out. stops.attends.others child (outside_front child group behind.others out) ∙ shows.tells.others child out;
         };
         theirs = each_same processors whole k1.known k2.known stops.same shows.theirs;
-        fronts = subst (λ sent. FrontsButOne sent all) (sym (all_same processors whole k1.known k2.known stops.same shows.theirs)) shows.fronts;
+        fronts = subst (λ sent. FrontsBut exempt processors sent all) (sym (all_same processors whole k1.known k2.known stops.same shows.theirs)) shows.fronts;
+        tries = record { count = shows.tries.count; few = shows.tries.few; tried = stops.attends.same_tried ∙ shows.tries.tried };
       };
     }
 

@@ -9,12 +9,13 @@ use Rattle.round_engine.specs.declared.progress.Progress as code_progress
 use Rattle.project_units.specs.declared.refusal.Refusal as declared
 use Rattle.round_engine.specs.declared.rounds.Round.{Round}
 use Rattle.project_units.specs.Refusals as stop
-use Rattle.project_units.specs.Refusals.{Stop}
+use Rattle.project_units.specs.Refusals.{Stop, exempt_by}
 use Rattle.project_units.specs.Faults.{stop_of}
 use Rattle.round_engine.specs.Run.{Frames, Discovered, Progress, present_in, offered_names, next_asked, show, ask, round_of}
-use Rattle.round_engine.specs.Shown.{Stands, Goes, StopsAs, AreFronts, FrontsButOne, sent_by, sent_in_step, sent_in_progress, all_sent, standing, shown_discovered}
+use Rattle.round_engine.specs.Fronts.{AreFronts, FrontsBut}
+use Rattle.round_engine.specs.Shown.{Stands, Goes, StopsAs, sent_by, sent_in_step, sent_in_progress, all_sent, standing, shown_discovered}
 use Rattle.round_engine.proofs.AskedInTurn.{Ahead, Underway, ahead_begins, ahead_next, ahead_nobody, ahead_answered, way_begins, step_opened, way_goes, way_stops, way_ends}
-use Rattle.round_engine.proofs.FrontsOfFrames.{but_none, but_one_more, asks_fronts, step_fronts}
+use Rattle.round_engine.proofs.FrontsOfFrames.{fronts_more, asks_fronts, step_fronts}
 use Rattle.round_engine.proofs.AskedProcessors.{still_theirs, goes_memory}
 
 -- A round is under way: its processors stand ready, some have answered, and those that the turn has still to ask are the rest of the list.
@@ -59,8 +60,8 @@ module _ (d : code_discovered.Discovered) (r : Round) (p0 : code_progress.Progre
   abbrev listed : List Bool → List (ℕ × List ℕ)
   listed = asked d.supported p0.contributed.items (present_in r) r.over
 
-  far : FrontsButOne (all_sent k.known d.group) (sent_by sent_in_progress (round_of run r before))
-  far = but_none (all_sent k.known d.group) _ (subst (λ course. AreFronts now.sent (sent_by sent_in_progress course)) is.way.rest (asks_fronts run r before.contributed is.left is.answers now))
+  far : AreFronts (all_sent k.known d.group) (sent_by sent_in_progress (round_of run r before))
+  far = subst (λ course. AreFronts now.sent (sent_by sent_in_progress course)) is.way.rest (asks_fronts run r before.contributed is.left is.answers now)
 
   -- nobody is left
   pub asking_ends : {T : Type 0} (done : T) → AsksNobody turn claimed → Goes sent_in_progress d processors (round_of run r before) (λ (x : T). now) (Ok done) k
@@ -115,8 +116,8 @@ module _ (d : code_discovered.Discovered) (r : Round) (p0 : code_progress.Progre
       comes = stops (all_sent k'.known d.group) (stop_of refusal) goes.comes;
       same = goes.same;
       ready = tt;
-      fronts = but_one_more (all_sent k'.known d.group) (sent_by sent_in_step (ask run r now (number, offered new))) (sent_by sent_in_progress (round_of run r before))
-          (subst (λ course. FrontsButOne (all_sent k'.known d.group) (sent_by sent_in_step course)) asks_it goes.fronts)
+      fronts = fronts_more (exempt_by (stop_of refusal)) processors (all_sent k'.known d.group) (sent_by sent_in_step (ask run r now (number, offered new))) (sent_by sent_in_progress (round_of run r before))
+          (subst (λ course. FrontsBut (exempt_by (stop_of refusal)) processors (all_sent k'.known d.group) (sent_by sent_in_step course)) asks_it goes.fronts)
           (subst (λ course. AreFronts (sent_by sent_in_step (ask run r now (number, offered new))) (sent_by sent_in_progress course))
           (step_opened run r before is.answers now fuel.0 way (number, offered new) next_is) (step_fronts run r before.contributed fuel.0 is.answers (ask run r now (number, offered new))));
     }

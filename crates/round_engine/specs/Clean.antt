@@ -15,7 +15,7 @@ use Rattle.round_engine.specs.declared.numbering.Made.{Made}
 use Rattle.round_engine.specs.declared.running.Finished as declared
 use Rattle.project_units.specs.declared.refusal.Refusal as code
 use Rattle.project_units.specs.Refusals.{NamesAmong}
-use Rattle.project_units.specs.Faults.{stop_of, is_due}
+use Rattle.project_units.specs.Faults.{stop_of, is_due, exempt_in}
 use Rattle.element_table.specs.TypeTable.{TypeTable}
 use Rattle.round_engine.specs.Numbering.{AreLeast}
 use Rattle.round_engine.specs.Numbered.{shown_made, number_of, HasText, IsWritten, Fits}
@@ -87,8 +87,8 @@ pub record Cleans (plan : Plan) (table : TypeTable) (old new : State) (result : 
   pub comes : ComesOf (run_of old.says plan table) (length plan.processors) result
   pub more : TellsMore (length plan.processors) old new
   pub shown : is_due result ≡ true → ShowsWhole plan.processors (run_of old.says plan table) old new
-  -- also after a fault of the children or out of memory
-  pub fronts : ShowsNoMore plan.processors (frames_of (run_of old.says plan table)) old new
+  -- whatever came of it; of the child that a fault of the children names it is not told what it was sent
+  pub fronts : ShowsNoMore (exempt_in result) plan.processors (frames_of (run_of old.says plan table)) old new
 
 -- a fact on which what children say bears, where they tell it; without a processor none is asked
 abbrev pub Talked : Bool → List Try → Type 0 → Type 0

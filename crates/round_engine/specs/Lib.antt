@@ -1,5 +1,6 @@
 pub mod Run
 pub mod Faults
+pub mod Fronts
 pub mod Shown
 pub mod Numbering
 pub mod Numbered

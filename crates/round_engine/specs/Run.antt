@@ -1,13 +1,12 @@
 -- The run of the processors of a project over its type table, from nothing: all say Hello, then come the rounds of JSR 269. It is a function of the table and of
 -- what the children say. In a round those are asked that `asked` of `processor_claims` lists, one after another, and what each answers decides who follows.
-use Rattle.std.specs.Prelude.{ℕ, zero, suc, ◌==◌, ◌+◌, ◌*◌, ◌||◌, not, Bool, true, false, List, [], ◌∷◌, ◌++◌, length, drop, map, replicate, slice_get, slice_set, slice_index_or, Option, None, Some, if◌then◌else◌, Result, Ok, Err}
+use Rattle.std.specs.Prelude.{ℕ, zero, suc, ◌==◌, ◌+◌, ◌*◌, ◌||◌, not, Bool, true, false, List, [], ◌∷◌, ◌++◌, length, drop, map, replicate, slice_get, slice_set, slice_index_or, Option, None, Some, option_and_then, if◌then◌else◌, Result, Ok, Err}
 use Rattle.std.specs.List.{list_any, list_all}
 use Rattle.std.specs.FinMap as fin
 use Rattle.apt_outside.specs.Child.{Says, Try}
 use Rattle.apt_base.specs.Identifiers.{is_pattern}
 use Rattle.apt_base.specs.declared.kinds.Claim.{Claim}
 use Rattle.apt_base.specs.declared.kinds.Claim.TheVariants.{Varies}
-use Rattle.wire_frames.specs.declared.frame.Frame.{Frame}
 use Rattle.wire_frames.specs.declared.frame.Hello.{Hello}
 use Rattle.wire_frames.specs.declared.frame.Frame.TheVariants as frame
 use Rattle.wire_frames.specs.declared.frame.Creation.{Creation}
@@ -17,7 +16,7 @@ use Rattle.apt_filer.specs.Filing.{Filings}
 use Rattle.processor_claims.specs.declared.supported.Supported.{Supported}
 use Rattle.processor_claims.specs.Asked.{asked}
 use Rattle.child_session.specs.declared.round.Showing.{Showing}
-use Rattle.child_session.specs.Talk.{answer_to}
+use Rattle.child_session.specs.Beginning.{first_hello}
 use Rattle.child_session.specs.Round.{Act, Answered, Broken, Overasked, Differed, act_of}
 use Rattle.round_engine.specs.declared.messages.Placed.{Placed}
 use Rattle.round_engine.specs.declared.rounds.Round.{Round}
@@ -57,13 +56,9 @@ first_sent plan processor = init_frame plan processor.0 ∷ []
 abbrev pub supported_in : Hello → Option Supported
 supported_in hello = if list_all is_pattern hello.patterns then Some (record { patterns = hello.patterns; claim = hello.claim }) else None
 
-abbrev pub supported_by : Option Frame → Option Supported
-supported_by (Some (frame.Hello hello)) = supported_in hello
-supported_by other = None
-
--- what a child answers to the first frame
+-- what a processor says that it supports, in its answer to the first frame
 abbrev pub hello_of : Says → Plan → Try → Option Supported
-hello_of says plan processor = supported_by (answer_to (says processor.0 processor.1) (first_sent plan processor))
+hello_of says plan processor = option_and_then supported_in (first_hello says processor (init_frame plan processor.0))
 
 -- a processor said Hello, or the run is refused; these were started before it, and none behind it is
 abbrev pub greeting : Plan → List Try → Try → Option Supported → Course Supported
@@ -265,11 +260,15 @@ rounds_before_last = 63
 abbrev pub new_filings : TypeTable → Filings
 new_filings table = record { initial = unit_names table; made = [] }
 
+-- for each processor, that it was not asked
+abbrev pub none_asked : {A : Type 0} → List A → List Bool
+none_asked processors = replicate (length processors) false
+
 -- each child was sent the first frame, and none was asked
 abbrev pub start : Plan → TypeTable → Progress
 start plan table = record {
   sent = map (first_sent plan) plan.processors;
-  contributed = replicate (length plan.processors) false;
+  contributed = none_asked plan.processors;
   filings = new_filings table;
   messages = [];
 }

@@ -1,5 +1,5 @@
 -- What the calls of the engine say: what came of a part of a run, and what each child was sent by then.
-use Rattle.std.specs.Prelude.{◌≡◌, ◌≢◌, ◌⊎◌, ℕ, ◌+◌, ◌≤◌, ◌<◌, Bool, true, false, List, [], ◌∷◌, ◌++◌, length, map, take, slice_index_or, Contains, None, Some, Result, Ok, Err, OnOk, IfSome, IsSomeAnd}
+use Rattle.std.specs.Prelude.{◌≡◌, ◌≢◌, ◌⊎◌, ℕ, ◌+◌, ◌≤◌, ◌<◌, Bool, true, false, List, [], ◌∷◌, ◌++◌, length, map, take, Contains, Option, None, Some, Result, Ok, Err, OnOk, IfSome, IsSomeAnd}
 use Rattle.std.specs.List.{AllByRecursion}
 use Rattle.std.specs.Option.{option_map_or}
 use Rattle.apt_outside.specs.Child.{Says, Try, Child, Known, State, without}
@@ -18,8 +18,9 @@ use Rattle.round_engine.specs.declared.asking.Asked.{Asked}
 use Rattle.round_engine.specs.declared.rounds.Round.{Round}
 use Rattle.round_engine.specs.declared.rounds.Rounds.{Rounds}
 use Rattle.project_units.specs.Refusals as stop
-use Rattle.project_units.specs.Refusals.{Stop, is_refusal, is_failure, is_of_hello}
-use Rattle.project_units.specs.Faults.{stop_of, is_due}
+use Rattle.project_units.specs.Refusals.{Stop, is_refusal, is_failure, is_of_hello, exempt_by}
+use Rattle.project_units.specs.Faults.{stop_of, is_due, exempt_in}
+use Rattle.round_engine.specs.Fronts.{FrontsBut}
 use Rattle.element_table.specs.TypeTable.{TypeTable}
 use Rattle.project_units.specs.Units.{all_of}
 use Rattle.project_units.specs.Plans.{Plan, init_frame}
@@ -124,21 +125,7 @@ abbrev pub ComesTo : {A T : Type 0} → Course A → (T → A) → Result T decl
 ComesTo course means (Ok value) sent = course ≡ Ok (means value)
 ComesTo course means (Err refusal) sent = StopsAs course sent (stop_of refusal)
 
--- ---- what was sent where a run broke off
-
--- these are the first of all those frames
-pub record IsFront (some all : Frames) : Type 0 where
-  pub rest : Frames
-  pub is : some ++ rest ≡ all
-
--- each child, by its processor's number, was sent the first of all the frames that it is sent
-pub record AreFronts (sent all : List Frames) : Type 0 where
-  pub at : (number : ℕ) → IsFront (slice_index_or sent number []) (slice_index_or all number [])
-
--- each but at most one was
-pub record FrontsButOne (sent all : List Frames) : Type 0 where
-  pub one : ℕ
-  pub at : (number : ℕ) → number ≢ one → IsFront (slice_index_or sent number []) (slice_index_or all number [])
+-- ---- what a part of a run sends
 
 -- what a part of a run sends, where sent_in says it of what the part comes to
 abbrev pub sent_by : {A : Type 0} → (A → List Frames) → Course A → List Frames
@@ -156,13 +143,13 @@ sent_in_finished finished = finished.sent
 
 -- ---- what comes of a part of a run
 
--- a part of a run: what came of it; the group are the same children, and they are ready for the next; and whatever came of it, each child, but for at most one,
--- was sent the first of what the run sends it and nothing else
+-- a part of a run: what came of it; the group are the same children, and they are ready for the next; and whatever came of it, each child was sent the first of
+-- what the run sends it and nothing else, but for that of the processor that a fault of the children names
 pub record Goes {A T : Type 0} (sent_in : A → List Frames) (d : code_discovered.Discovered) (processors : List Try) (course : Course A) (means : T → A) (result : Result T declared.Refusal) (now : State) : Type 0 where
   pub comes : ComesTo course means result (all_sent now.known d.group)
   pub same : EachOf IsOf processors d.group now.known
   pub ready : OnOk result (Stands d processors now)
-  pub fronts : FrontsButOne (all_sent now.known d.group) (sent_by sent_in course)
+  pub fronts : FrontsBut (exempt_in result) processors (all_sent now.known d.group) (sent_by sent_in course)
 
 -- a part of a run, by what the run is of these processors before it
 abbrev pub Part : {A T : Type 0} → (A → List Frames) → code_discovered.Discovered → (Discovered → Course A) → (T → A) → Result T declared.Refusal → State → State → Type 0
@@ -223,29 +210,35 @@ pub record TellsMore (most : ℕ) (old new : State) : Type 0 where
   pub few : length group ≤ most
   pub tells : TellsOf group old new
 
--- Whatever came of it: the group is new, each is the child of its processor, in order, and was sent the first of these frames and nothing else, but for at most one.
-pub record ShowsFronts (processors : List Try) (group : List ℕ) (all : List Frames) (old new : State) : Type 0 where
+-- the starts of the first of these processors were tried in order, of this many at most
+pub record TriesUpTo (most : ℕ) (processors : List Try) (old new : State) : Type 0 where
+  pub count : ℕ
+  pub few : count ≤ most
+  pub tried : new.tried ≡ old.tried ++ take count processors
+
+-- Whatever came of it: the group is new, each is the child of its processor, in order, and was sent the first of these frames and nothing else, but for the
+-- child that is exempt; and no start was tried of a processor behind those that the run starts.
+pub record ShowsFronts (exempt : Option (List ℕ)) (processors : List Try) (group : List ℕ) (all : List Frames) (old new : State) : Type 0 where
   pub tells : TellsOf group old new
   pub theirs : EachOf IsOf processors group new.known
-  pub fronts : FrontsButOne (all_sent new.known group) all
+  pub fronts : FrontsBut exempt processors (all_sent new.known group) all
+  pub tries : TriesUpTo (length all) processors old new
 
 -- a group was shown no more than this
-pub record ShowsNoMore (processors : List Try) (all : List Frames) (old new : State) : Type 0 where
+pub record ShowsNoMore (exempt : Option (List ℕ)) (processors : List Try) (all : List Frames) (old new : State) : Type 0 where
   pub group : List ℕ
-  pub shows : ShowsFronts processors group all old new
+  pub shows : ShowsFronts exempt processors group all old new
 
 -- this group, and others behind it
-pub record ShowsBehind (processors : List Try) (group : List ℕ) (all : List Frames) (old new : State) : Type 0 where
+pub record ShowsBehind (exempt : Option (List ℕ)) (processors : List Try) (group : List ℕ) (all : List Frames) (old new : State) : Type 0 where
   pub others : List ℕ
-  pub shows : ShowsFronts processors (group ++ others) all old new
+  pub shows : ShowsFronts exempt processors (group ++ others) all old new
 
 -- ---- the starts
 
 -- the starts of these processors were tried in order, up to one of them
-pub record TriesInOrder (processors : List Try) (old new : State) : Type 0 where
-  pub count : ℕ
-  pub few : count ≤ length processors
-  pub tried : new.tried ≡ old.tried ++ take count processors
+abbrev pub TriesInOrder : List Try → State → State → Type 0
+TriesInOrder processors old new = TriesUpTo (length processors) processors old new
 
 -- Of this many processors some were started: a refusal comes of one that was, and all were where it comes of a round.
 pub record StartsUpTo (count : ℕ) (refusal : Stop) (old new : State) : Type 0 where
@@ -334,11 +327,12 @@ pub record SaysNone (plan : Plan) (processor : Try) (refusal : Stop) (old new : 
   pub starts : new.starts ≡ old.starts + 1
   pub tried : new.tried ≡ old.tried ++ processor ∷ []
 
--- One did not begin. It said no Hello; or after a fault of the children its start was tried, and a child that it gave was stopped; or memory was wanted before the
+-- One did not begin. It said no Hello; or after a fault of the children, which names it, its start was tried, and a child that it gave was stopped; or memory was wanted before the
 -- start, or behind it, and then the child was stopped before it was heard.
 abbrev pub StopsOne : Plan → Try → Stop → State → State → Type 0
 StopsOne plan processor (stop.Refused refusal) old new = SaysNone plan processor (stop.Refused refusal) old new
-StopsOne plan processor (stop.Failed object) old new = Unstarted processor old new ⊎ session.Stopped processor (session.IsOf processor) old new
+StopsOne plan processor (stop.Failed object) old new =
+    (object ≡ stop.Children processor.0) × (Unstarted processor old new ⊎ session.Stopped processor (session.IsOf processor) old new)
 StopsOne plan processor stop.Memory old new =
     Untried old new ⊎ session.Stopped processor (IsUnheard processor (init_frame plan processor.0)) old new
 
@@ -374,7 +368,7 @@ abbrev pub BeginsEach : Plan → List ℕ → State → State → Result (List S
 BeginsEach plan group old new (Ok supported) = AllSayHello plan group supported old new
 BeginsEach plan group old new (Err refusal) =
     (is_due {T = Unit {0}} (Err refusal) ≡ true → OneSaysNone plan group (stop_of refusal) old new)
-    × ShowsBehind plan.processors group (hellos_sent old.says plan) old new
+    × ShowsBehind (exempt_by (stop_of refusal)) plan.processors group (hellos_sent old.says plan) old new
 
 -- one did not: children were started up to its own, sent the first frame, and stopped again
 pub record StopsAtHello (plan : Plan) (refusal : Stop) (old new : State) : Type 0 where
@@ -389,4 +383,4 @@ abbrev pub Begins : Plan → State → State → Result code_discovered.Discover
 Begins plan old new (Ok d) = AllSayHello plan d.group d.supported old new
 Begins plan old new (Err refusal) =
     (is_due {T = Unit {0}} (Err refusal) ≡ true → StopsAtHello plan (stop_of refusal) old new)
-    × ShowsNoMore plan.processors (hellos_sent old.says plan) old new
+    × ShowsNoMore (exempt_by (stop_of refusal)) plan.processors (hellos_sent old.says plan) old new

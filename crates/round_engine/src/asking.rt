@@ -12,7 +12,7 @@ use crate::beginning::Discovered;
 use crate::messages::place;
 use crate::progress::Progress;
 use crate::rounds::Round;
-use crate::session_fault::refusal_of;
+use crate::session_fault::refusal_by;
 use apt_base::{Claim, List, Name, NoMemory, copy_names};
 use apt_outside::Children;
 use child_session::{Showing, show_round};
@@ -115,12 +115,12 @@ fn ask<C: Children>(
 {
     let number = usize::from(asked.number);
     let child = asked.run.group.as_slice()[number];
-    let name = &asked.run.names.as_slice()[number];
+    let name = asked.run.names.as_slice()[number].copy()?;
     let claim = asked.run.supported.as_slice()[number].claim;
     let showing = showing_of(alloc, asked.round, asked.offered, claim)?;
     let answer = match show_round(alloc, children, child, &showing, &mut progress.filer) {
         Ok(answer) => answer,
-        Err(fault) => return Err(refusal_of(name, fault)),
+        Err(fault) => return Err(refusal_by(name, fault)),
     };
     set_contributed(&mut progress.contributed, number);
     place(

@@ -2,7 +2,7 @@
 ghost use Rattle.std.specs.Prelude.{◌≡◌, ◌∷◌, ◌++◌, ◌≤◌, true, [], length, map, string_bytes, Contains, IfOk, IfErr, OnOk, OnErr};
 ghost use Rattle.apt_base.specs.Limits.{max_processors};
 ghost use Rattle.apt_outside.specs.Count.{Told};
-ghost use Rattle.apt_outside.specs.Child.{Attends, without};
+ghost use Rattle.apt_outside.specs.Child.{Attends, StaysSent, without};
 ghost use Rattle.project_units.specs.Refusals.{Names, NamesAmong, is_of_hello};
 ghost use Rattle.project_units.specs.Faults.{stop_of, HasReason};
 ghost use Rattle.round_engine.specs.Run.{supported_in};
@@ -118,6 +118,7 @@ fn add_child<C: Children>(
     ensures kept { OnErr result (group.new ≡ group.old) }
     ensures stopped { OnErr result ((C.state children.new).live ≡ without child (C.state children.old).live) }
     ensures attends { Told C.tells (Attends child (C.state children.old) (C.state children.new)) }
+    ensures sent { Told C.tells (StaysSent child (C.state children.old) (C.state children.new)) }
 {
     match group.push(child) {
         Ok(()) => Ok(()),

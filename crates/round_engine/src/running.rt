@@ -4,6 +4,7 @@ ghost use Rattle.std.specs.List.Sorted.{IsStrictlyIncreasing};
 ghost use Rattle.apt_base.specs.Limits.{max_processors};
 ghost use Rattle.apt_outside.specs.Count.{Told};
 ghost use Rattle.project_units.specs.Faults.{HasReason, stop_of};
+ghost use Rattle.round_engine.specs.Run.{new_filings, none_asked};
 ghost use Rattle.round_engine.specs.Clean.{AreNumbered, Closes, Has, NamesProcessor, Starts, Tries, CleansOver};
 ghost use Rattle.round_engine.specs.Shown.{AreListed, CountsTries, IsDueStop};
 ghost use Rattle.round_engine.specs.Moments.{Over};
@@ -53,6 +54,20 @@ impl Finished {
             unread: copy_names(alloc, self.unread.as_slice())?,
         })
     }
+}
+
+// How far a run is before anything was created or printed.
+fn first_progress(alloc: Global, project: &Project) -> Result<Progress, NoMemory>
+    ensures contributed { IfOk result (λ p. p.contributed.items ≡ none_asked project.now.key.processors) }
+    ensures filer { IfOk result (λ p. p.filer ≡ new_filings project.now.initial) }
+    ensures messages { IfOk result (λ p. p.messages ≡ []) }
+{
+    let names = unit_names(alloc, &project.initial)?;
+    Ok(Progress {
+        contributed: vec![in alloc; false; project.key.processors.len()]?,
+        filer: Filer::new(alloc, &names)?,
+        messages: List::new(alloc),
+    })
 }
 
 // What two rounds come to in which nobody is asked.
@@ -111,7 +126,8 @@ fn finish_run(
 /// A fault of the children comes only where their count rose. Out of memory may come at any point, and each other
 /// refusal comes exactly where the run has it (JSR 269, `Processor`, `RoundEnvironment` and `Filer`).
 /// Whatever comes of it, each child that is new is that of its processor, in order, and was sent the first of the frames that the
-/// run sends it and nothing else; but for at most one, where a fault of the children or out of memory came.
+/// run sends it and nothing else. After a fault of the children the child of the processor that it names is exempt: the children do
+/// not say what became of a frame whose sending failed.
 pub fn clean<C: Children>(
     alloc: Global,
     project: &Project,
@@ -132,19 +148,12 @@ pub fn clean<C: Children>(
     ensures due { IfErr result (λ refusal. IsDueStop (stop_of refusal)) }
     ensures cleans { CleansOver C.Children project.now children.old children.new result }
 {
-    let names = unit_names(alloc, &project.initial)?;
-    let filer = Filer::new(alloc, &names)?;
+    let progress = first_progress(alloc, project)?;
     let processors = project.key.processors.len();
     if processors == 0 {
         // nobody is asked in the two rounds, whatever the children tell
         return Ok(finish_run(alloc, taken, 0, no_rounds(alloc))?);
     }
-    let contributed = vec![in alloc; false; processors]?;
-    let progress = Progress {
-        contributed,
-        filer,
-        messages: List::new(alloc),
-    };
     let run = begin_all(alloc, children, &project.key)?;
     let outcome = show_rounds(alloc, children, &run, &project.initial, progress);
     let started = count_of(&run);

@@ -1,6 +1,6 @@
 // Why a run is refused whose session with a child failed.
 ghost use Rattle.std.specs.Prelude.{◌≡◌};
-ghost use Rattle.project_units.specs.Refusals.{Names, OrMemory};
+ghost use Rattle.project_units.specs.Refusals.{Names};
 ghost use Rattle.project_units.specs.Faults.{stop_of};
 ghost use Rattle.round_engine.specs.Faults.{of_session};
 
@@ -24,15 +24,4 @@ pub(crate) fn refusal_by(processor: Name, fault: SessionFault) -> Refusal
         },
         SessionFault::Memory => Refusal::Memory,
     }
-}
-
-/// The refusal of a run whose session with this processor failed so, or `Memory` where there is none for the name.
-pub fn refusal_of(processor: &Name, fault: SessionFault) -> Refusal
-    ensures is { OrMemory (of_session processor.now fault) (stop_of result) }
-    ensures named { Names processor.now (stop_of result) }
-{
-    let Ok(processor) = processor.copy() else {
-        return Refusal::Memory;
-    };
-    refusal_by(processor, fault)
 }

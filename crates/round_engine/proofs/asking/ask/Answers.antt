@@ -1,10 +1,11 @@
-use Rattle.std.proofs.Common.{◌≡◌, ◌<◌, [], Ok, Err, length, get_or, refl, ap, ◌∙◌, subst, arith, rules}
+use Rattle.std.proofs.Common.{◌≡◌, ◌<◌, [], Ok, Err, length, get_or, Contains, refl, ap, ◌∙◌, subst, arith, rules}
 use Rattle.std.proofs.lemmas.List.{get_or_default, get_or_read}
+use Rattle.std.proofs.lemmas.List.Elements.{Contains-get_or}
 use Rattle.std.proofs.lemmas.Result.{err_from_is_err_and}
 use Rattle.apt_outside.specs.Child.{Attends}
 use Rattle.processor_claims.specs.declared.supported.Supported.{Supported}
 use Rattle.child_session.specs.Round as session
-use Rattle.project_units.specs.Refusals.{OrMemory}
+use Rattle.project_units.specs.Refusals.{Names, named_by}
 use Rattle.project_units.specs.Faults.{stop_of}
 use Rattle.round_engine.specs.Faults.{of_session}
 use Rattle.child_session.specs.declared.round.Showing.{Showing}
@@ -12,11 +13,17 @@ use Rattle.round_engine.specs.Run.{supports_nothing, limit, claim_at, showing}
 use Rattle.round_engine.specs.Shown.{shown_discovered}
 use Rattle.round_engine.proofs.AskedProcessors.{attends_at, step_unbegun, asks_err, asks_memory, asks_ok}
 use Rattle.round_engine.proofs.DueRefusals.{due_session}
+use Rattle.round_engine.proofs.ProcessorsInOrder.{some_among}
 use Rattle.round_engine.proofs.asking.ask.Goals as goal
+
+pub returns-in_err-name-clause-asks : goal.returns-in_err-name-clause-asks
+returns-in_err-name-clause-asks g c = λ told processors stands.
+    let e = err_from_is_err_and c.from_residual.result c.from_residual.ensures.1 in
+    rw (e.1, e.2) (step_unbegun c.args.asked.run.now processors (g.C.Children.state c.args.children.now) stands c.args.progress.now _ refl c.args.asked.round.now c.args.asked.number c.args.asked.offered.now _)
 
 pub returns-in_err-showing-clause-asks : goal.returns-in_err-showing-clause-asks
 returns-in_err-showing-clause-asks g c = λ told processors stands.
-    let e = err_from_is_err_and c.from_residual.result c.from_residual.ensures.1 in
+    let e = err_from_is_err_and c.from_residual-in_err-showing.result c.from_residual-in_err-showing.ensures.1 in
     rw (e.1, e.2) (step_unbegun c.args.asked.run.now processors (g.C.Children.state c.args.children.now) stands c.args.progress.now _ refl c.args.asked.round.now c.args.asked.number c.args.asked.offered.now _)
 
 pub returns-in-Err-clause-attends : goal.returns-in-Err-clause-attends
@@ -67,8 +74,8 @@ returns-in-Err-clause-asks g c = λ told processors stands.
     let inside : c.from-number.result < length c.as_slice-2.result.now = omega (arith, c.from-number.ensures, ap length c.as_slice-2.ensures, c.requires.number, c.requires.listed.names) in
     let name_is : c.index-as_slice-number.result ≡ get_or d.names number [] = get_or_read c.as_slice-2.result.now c.from-number.result c.index-as_slice-number.result inside c.index-as_slice-number.is []
     ∙ ap (λ n. get_or c.as_slice-2.result.now n []) c.from-number.ensures ∙ ap (λ xs. get_or xs number []) c.as_slice-2.ensures in
-    let due_as = subst (λ name. OrMemory (of_session name c.in-Err.fault) (stop_of c.refusal_of.result)) name_is c.refusal_of.ensures.is in
-    asks_err d k0 k1 number lt c.args.asked.round.now c.args.asked.offered.now c.args.progress.now c.show_round.new.filer attends processors stands _ c.in-Err.fault c.refusal_of.result shows due_as
+    let due_as = c.refusal_by.ensures.is ∙ ap (λ n. of_session n c.in-Err.fault) (c.in_ok-name.ensures ∙ name_is) in
+    asks_err d k0 k1 number lt c.args.asked.round.now c.args.asked.offered.now c.args.progress.now c.show_round.new.filer attends processors stands _ c.in-Err.fault c.refusal_by.result shows due_as
 
 pub returns-in_err-place-clause-asks : goal.returns-in_err-place-clause-asks
 returns-in_err-place-clause-asks g c = λ told processors stands.
@@ -116,4 +123,16 @@ pub returns-in-Err-clause-due : goal.returns-in-Err-clause-due
 returns-in-Err-clause-due g c =
     let roots = c.args.asked.round.now.roots in
     let limit_is : c.in_ok-showing.showing.limit ≡ limit roots = ap (λ (s : Showing). s.limit) c.in_ok-showing.ensures in
-    due_session _ c.in_ok-showing.showing roots limit_is c.in-Err.fault c.in-Err.ensures.due (stop_of c.refusal_of.result) c.refusal_of.ensures.is
+    due_session c.in_ok-name.name c.in_ok-showing.showing roots limit_is c.in-Err.fault c.in-Err.ensures.due (stop_of c.refusal_by.result) c.refusal_by.ensures.is
+
+pub returns-in-Err-clause-named : goal.returns-in-Err-clause-named
+returns-in-Err-clause-named g c =
+    let d = c.args.asked.run.now in
+    let number = c.args.asked.number in
+    let s = stop_of c.refusal_by.result in
+    let inside : c.from-number.result < length c.as_slice-2.result.now = omega (arith, c.from-number.ensures, ap length c.as_slice-2.ensures, c.requires.number, c.requires.listed.names) in
+    let name_is : c.index-as_slice-number.result ≡ get_or d.names number [] = get_or_read c.as_slice-2.result.now c.from-number.result c.index-as_slice-number.result inside c.index-as_slice-number.is []
+    ∙ ap (λ n. get_or c.as_slice-2.result.now n []) c.from-number.ensures ∙ ap (λ xs. get_or xs number []) c.as_slice-2.ensures in
+    let has : Contains d.names (get_or d.names number []) = Contains-get_or d.names number [] (omega (arith, c.requires.number, c.requires.listed.names)) in
+    let named : Names (get_or d.names number []) s = subst (λ n. Names n s) (c.in_ok-name.ensures ∙ name_is) c.refusal_by.ensures.named in
+    some_among d.names (get_or d.names number []) (named_by s) has named

@@ -3,6 +3,7 @@ use Rattle.std.proofs.lemmas.Bool.{false≢true}
 use Rattle.std.proofs.lemmas.List.{length-map}
 use Rattle.std.proofs.lemmas.Result.{err_from_is_err_and}
 use Rattle.project_units.specs.Refusals as stop
+use Rattle.project_units.specs.Refusals.{exempt_by}
 use Rattle.project_units.specs.Faults.{stop_of}
 use Rattle.project_units.specs.Plans.{plan_of, tries_in, name_of, names_in}
 use Rattle.round_engine.specs.Shown.{LiveInTurn, without_each, hellos_sent}
@@ -61,7 +62,7 @@ returns-in-Err-clause-begins g c = λ told.
     let k2 = C.state c.end_all.new.children in
     let begins = c.in-Err.ensures.begins told in
     let stops = c.end_all.ensures.stops told in
-    (λ due. stops_at_hello plan group (stop_of c.in-Err.refusal) k0 k1 k2 (begins.0 due) stops c.end_all.ensures.starts, shows_stopped plan.processors (hellos_sent k0.says plan) group k0 k1 k2 begins.1 stops)
+    (λ due. stops_at_hello plan group (stop_of c.in-Err.refusal) k0 k1 k2 (begins.0 due) stops c.end_all.ensures.starts, shows_stopped (exempt_by (stop_of c.in-Err.refusal)) plan.processors (hellos_sent k0.says plan) group k0 k1 k2 begins.1 stops)
 
 pub returns-in_err-names-clause-starts : goal.returns-in_err-names-clause-starts
 returns-in_err-names-clause-starts g c =

@@ -144,7 +144,7 @@ returns-in_err-add_child-clause-begins g c = λ told.
     let e = err_from_is_err_and c.from_residual-in_err-add_child.result c.from_residual-in_err-add_child.ensures.1 in
     rw (e.1, e.2) (subst (λ group. BeginsEach (plan_of key) group k0 k2 (Err code.Memory)) (sym c.in_err-add_child.ensures.kept)
     (begun_full (plan_of key) i (try_of p) lt_tries (try_at key i p lt is) c.loop-processor.group c.loop-processor.list k0 k (c.loop-processor.invariant.begun told)
-    c.in_ok-begun.begun.0 c.in_ok-begun.begun.1 (C.state c.begin_one.new.children) k2 (c.in_ok-begun.ensures.begins told) (c.add_child.ensures.attends told) code.Memory refl))
+    c.in_ok-begun.begun.0 c.in_ok-begun.begun.1 (C.state c.begin_one.new.children) k2 (c.in_ok-begun.ensures.begins told) (c.add_child.ensures.attends told) (c.add_child.ensures.sent told) code.Memory refl))
 
 pub returns-in_err-push-clause-starts : goal.returns-in_err-push-clause-starts
 returns-in_err-push-clause-starts g c =

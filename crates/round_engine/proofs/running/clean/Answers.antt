@@ -1,13 +1,11 @@
 use Rattle.std.proofs.Common.{◌≡◌, ◌<◌, ◌+◌, false, [], Ok, Err, length, map, refl, sym, ap, ◌∙◌, subst, inl, arith, rules}
-use Rattle.std.specs.Prelude.{replicate}
 use Rattle.std.proofs.lemmas.List.{length-map, nil_from_length}
 use Rattle.std.proofs.lemmas.Result.{err_from_is_err_and}
-use Rattle.round_engine.specs.declared.progress.Progress.{Progress}
 use Rattle.round_engine.specs.declared.rounds.Rounds.{Rounds}
 use Rattle.project_units.specs.Refusals as stop
 use Rattle.project_units.specs.Refusals.{NamesAmong}
 use Rattle.project_units.specs.Faults.{stop_of}
-use Rattle.round_engine.specs.Run.{new_filings, run_of, frames_of}
+use Rattle.round_engine.specs.Run.{run_of, frames_of}
 use Rattle.project_units.specs.Plans.{plan_of, try_of, tries_in}
 use Rattle.round_engine.specs.Clean.{Has, Closes}
 use Rattle.round_engine.specs.Shown.{IsCounted, LiveInTurn, without_each}
@@ -18,35 +16,15 @@ use Rattle.round_engine.proofs.CleanLemmas.{talked, talked_told, cleans_none, cl
 use Rattle.round_engine.proofs.CountedStarts.{counted_same, due_of_hello, starts_memory, starts_all}
 use Rattle.round_engine.proofs.running.clean.Goals as goal
 
-pub returns-in_err-names-clause-cleans : goal.returns-in_err-names-clause-cleans
-returns-in_err-names-clause-cleans g c =
+pub returns-in_err-progress-clause-cleans : goal.returns-in_err-progress-clause-cleans
+returns-in_err-progress-clause-cleans g c =
     let e = err_from_is_err_and c.from_residual.result c.from_residual.ensures.1 in
     let plan = plan_of c.args.project.now.key in
     let k0 = g.C.Children.state c.args.children.now in
     rw (e.1, e.2) (talked _ _ _ (cleans_memory plan c.args.project.now.initial k0 k0 _ refl (shows_nothing plan.processors (frames_of (run_of k0.says plan c.args.project.now.initial)) k0)))
 
-pub returns-in_err-filer-clause-cleans : goal.returns-in_err-filer-clause-cleans
-returns-in_err-filer-clause-cleans g c =
-    let e = err_from_is_err_and c.from_residual-in_err-filer.result c.from_residual-in_err-filer.ensures.1 in
-    let plan = plan_of c.args.project.now.key in
-    let k0 = g.C.Children.state c.args.children.now in
-    rw (e.1, e.2) (talked _ _ _ (cleans_memory plan c.args.project.now.initial k0 k0 _ refl (shows_nothing plan.processors (frames_of (run_of k0.says plan c.args.project.now.initial)) k0)))
-
-pub returns-in_err-contributed-clause-cleans : goal.returns-in_err-contributed-clause-cleans
-returns-in_err-contributed-clause-cleans g c =
-    let e = err_from_is_err_and c.from_residual-in_err-contributed.result c.from_residual-in_err-contributed.ensures.1 in
-    let plan = plan_of c.args.project.now.key in
-    let k0 = g.C.Children.state c.args.children.now in
-    rw (e.1, e.2) (talked _ _ _ (cleans_memory plan c.args.project.now.initial k0 k0 _ refl (shows_nothing plan.processors (frames_of (run_of k0.says plan c.args.project.now.initial)) k0)))
-
-pub returns-in_err-names-clause-tried : goal.returns-in_err-names-clause-tried
-returns-in_err-names-clause-tried g c = λ told. tries_nothing (tries_in c.args.project.now.key) (g.C.Children.state c.args.children.now)
-
-pub returns-in_err-filer-clause-tried : goal.returns-in_err-filer-clause-tried
-returns-in_err-filer-clause-tried g c = λ told. tries_nothing (tries_in c.args.project.now.key) (g.C.Children.state c.args.children.now)
-
-pub returns-in_err-contributed-clause-tried : goal.returns-in_err-contributed-clause-tried
-returns-in_err-contributed-clause-tried g c = λ told. tries_nothing (tries_in c.args.project.now.key) (g.C.Children.state c.args.children.now)
+pub returns-in_err-progress-clause-tried : goal.returns-in_err-progress-clause-tried
+returns-in_err-progress-clause-tried g c = λ told. tries_nothing (tries_in c.args.project.now.key) (g.C.Children.state c.args.children.now)
 
 pub returns-in_err-run-clause-cleans : goal.returns-in_err-run-clause-cleans
 returns-in_err-run-clause-cleans g c =
@@ -89,17 +67,15 @@ returns-in-Err-clause-cleans g c =
     let key = c.args.project.now.key in
     let table = c.args.project.now.initial in
     let d = c.in_ok-run.run' in
-    let p : Progress = record { contributed = c.in_ok-contributed.contributed; filer = c.in_ok-filer.filer; messages = c.new-2.result } in
+    let p = c.in_ok-progress.progress in
     let k0 = C.state c.args.children.now in
     let k1 = C.state c.begin_all.new.children in
     let k2 = C.state c.show_rounds-outcome.new.children in
     let k3 = C.state c.end_all.new.children in
     let some : 0 < length (tries_in key) = omega (arith, c.if-processors-eq0.false, c.len-processors.ensures, length-map key.processors try_of) in
     let starts : k3.starts ≡ k0.starts + length (tries_in key) = c.end_all.ensures.starts ∙ c.show_rounds-outcome.ensures.starts ∙ c.in_ok-run.ensures.starts in
-    let contributed : c.in_ok-contributed.contributed.items ≡ replicate (length key.processors) false = search rules in
-    let filed : c.in_ok-filer.filer ≡ new_filings table = search rules in
     talked_told _ (tries_in key) _ some (λ told.
-    cleans_stopped key table d p k0 k1 k2 k3 c.in_ok-run.ensures.names (c.in_ok-run.ensures.begins told) (c.in_ok-run.ensures.says told) contributed filed c.new-2.ensures
+    cleans_stopped key table d p k0 k1 k2 k3 c.in_ok-run.ensures.names (c.in_ok-run.ensures.begins told) (c.in_ok-run.ensures.says told) c.in_ok-progress.ensures.contributed c.in_ok-progress.ensures.filer c.in_ok-progress.ensures.messages
     (c.show_rounds-outcome.ensures.attends told) (c.end_all.ensures.stops told) (Err c.in-Err.refusal) (c.in-Err.ensures.ends told) c.in-Err.refusal refl starts)
 
 pub returns-in_err-finish_run-in-Ok-clause-cleans : goal.returns-in_err-finish_run-in-Ok-clause-cleans
@@ -108,17 +84,15 @@ returns-in_err-finish_run-in-Ok-clause-cleans g c =
     let key = c.args.project.now.key in
     let table = c.args.project.now.initial in
     let d = c.in_ok-run.run' in
-    let p : Progress = record { contributed = c.in_ok-contributed.contributed; filer = c.in_ok-filer.filer; messages = c.new-2.result } in
+    let p = c.in_ok-progress.progress in
     let k0 = C.state c.args.children.now in
     let k1 = C.state c.begin_all.new.children in
     let k2 = C.state c.show_rounds-outcome.new.children in
     let k3 = C.state c.end_all.new.children in
     let some : 0 < length (tries_in key) = omega (arith, c.if-processors-eq0.false, c.len-processors.ensures, length-map key.processors try_of) in
-    let contributed : c.in_ok-contributed.contributed.items ≡ replicate (length key.processors) false = search rules in
-    let filed : c.in_ok-filer.filer ≡ new_filings table = search rules in
     let e = err_from_is_err_and c.from_residual-in_err-finish_run-in-Ok.result c.from_residual-in_err-finish_run-in-Ok.ensures.1 in
     rw (e.1, e.2) (talked_told _ (tries_in key) _ some (λ told.
-    cleans_memory (plan_of key) table k0 k3 _ refl (all_shown key table d p k0 k1 k2 k3 c.in_ok-run.ensures.names (c.in_ok-run.ensures.begins told) (c.in_ok-run.ensures.says told) contributed filed c.new-2.ensures
+    cleans_memory (plan_of key) table k0 k3 _ refl (all_shown key table d p k0 k1 k2 k3 c.in_ok-run.ensures.names (c.in_ok-run.ensures.begins told) (c.in_ok-run.ensures.says told) c.in_ok-progress.ensures.contributed c.in_ok-progress.ensures.filer c.in_ok-progress.ensures.messages
     (c.show_rounds-outcome.ensures.attends told) (c.end_all.ensures.stops told) (Ok c.in-Ok.rounds) (c.in-Ok.ensures.ends told))))
 
 pub returns-clause-cleans : goal.returns-clause-cleans
@@ -127,7 +101,7 @@ returns-clause-cleans g c =
     let key = c.args.project.now.key in
     let table = c.args.project.now.initial in
     let d = c.in_ok-run.run' in
-    let p : Progress = record { contributed = c.in_ok-contributed.contributed; filer = c.in_ok-filer.filer; messages = c.new-2.result } in
+    let p = c.in_ok-progress.progress in
     let k0 = C.state c.args.children.now in
     let k1 = C.state c.begin_all.new.children in
     let k2 = C.state c.show_rounds-outcome.new.children in
@@ -136,13 +110,11 @@ returns-clause-cleans g c =
     let finished = c.in_ok-finish_run-in-Ok.field-0 in
     let some : 0 < length (tries_in key) = omega (arith, c.if-processors-eq0.false, c.len-processors.ensures, length-map key.processors try_of) in
     let starts : k3.starts ≡ k0.starts + length (tries_in key) = c.end_all.ensures.starts ∙ c.show_rounds-outcome.ensures.starts ∙ c.in_ok-run.ensures.starts in
-    let contributed : c.in_ok-contributed.contributed.items ≡ replicate (length key.processors) false = search rules in
-    let filed : c.in_ok-filer.filer ≡ new_filings table = search rules in
     let count : c.count_of-started.result ≡ length (tries_in key) =
     c.count_of-started.ensures ∙ c.in_ok-run.ensures.listed.group ∙ sym c.in_ok-run.ensures.listed.names ∙ ap length c.in_ok-run.ensures.names ∙ length-map key.processors _ ∙ sym (length-map key.processors try_of) in
     let closes : Closes rounds (length (tries_in key)) finished = subst (λ n. Closes rounds n finished) count c.in_ok-finish_run-in-Ok.ensures.is in
     talked_told _ (tries_in key) _ some (λ told.
-    cleans_so key table d p k0 k1 k2 k3 c.in_ok-run.ensures.names (c.in_ok-run.ensures.begins told) (c.in_ok-run.ensures.says told) contributed filed c.new-2.ensures
+    cleans_so key table d p k0 k1 k2 k3 c.in_ok-run.ensures.names (c.in_ok-run.ensures.begins told) (c.in_ok-run.ensures.says told) c.in_ok-progress.ensures.contributed c.in_ok-progress.ensures.filer c.in_ok-progress.ensures.messages
     (c.show_rounds-outcome.ensures.attends told) (c.end_all.ensures.stops told) (Ok rounds) (c.in-Ok.ensures.ends told) rounds finished refl starts closes c.in_ok-finish_run-in-Ok.ensures.has)
 
 pub returns-in-Err-clause-tried : goal.returns-in-Err-clause-tried
@@ -219,22 +191,10 @@ returns-then-processors-eq0-clause-cleans g c =
     talked _ _ _ (cleans_none (plan_of key) c.args.project.now.initial k0 finished none
     (subst (λ rounds. Closes rounds 0 finished) c.no_rounds.ensures c.in_ok-finish_run.ensures.is) (subst (λ (rounds : Rounds). Has rounds.made finished) c.no_rounds.ensures c.in_ok-finish_run.ensures.has))
 
-pub returns-in_err-names-clause-starts : goal.returns-in_err-names-clause-starts
-returns-in_err-names-clause-starts g c =
+pub returns-in_err-progress-clause-starts : goal.returns-in_err-progress-clause-starts
+returns-in_err-progress-clause-starts g c =
     let k0 = g.C.Children.state c.args.children.now in
     let e = err_from_is_err_and c.from_residual.result c.from_residual.ensures.1 in
-    rw (e.1, e.2) (starts_memory (length (tries_in c.args.project.now.key)) stop.Memory k0 k0 refl (omega arith) (omega arith))
-
-pub returns-in_err-filer-clause-starts : goal.returns-in_err-filer-clause-starts
-returns-in_err-filer-clause-starts g c =
-    let k0 = g.C.Children.state c.args.children.now in
-    let e = err_from_is_err_and c.from_residual-in_err-filer.result c.from_residual-in_err-filer.ensures.1 in
-    rw (e.1, e.2) (starts_memory (length (tries_in c.args.project.now.key)) stop.Memory k0 k0 refl (omega arith) (omega arith))
-
-pub returns-in_err-contributed-clause-starts : goal.returns-in_err-contributed-clause-starts
-returns-in_err-contributed-clause-starts g c =
-    let k0 = g.C.Children.state c.args.children.now in
-    let e = err_from_is_err_and c.from_residual-in_err-contributed.result c.from_residual-in_err-contributed.ensures.1 in
     rw (e.1, e.2) (starts_memory (length (tries_in c.args.project.now.key)) stop.Memory k0 k0 refl (omega arith) (omega arith))
 
 pub returns-in_err-finish_run-clause-starts : goal.returns-in_err-finish_run-clause-starts
@@ -263,19 +223,9 @@ returns-in_err-run-clause-due g c =
     let e = err_from_is_err_and c.from_residual-in_err-run.result c.from_residual-in_err-run.ensures.1 in
     rw (e.1, e.2) (due_of_hello (stop_of c.in_err-run.field-0.0) c.in_err-run.ensures.hello)
 
-pub returns-in_err-names-clause-counted : goal.returns-in_err-names-clause-counted
-returns-in_err-names-clause-counted g c = λ told.
+pub returns-in_err-progress-clause-counted : goal.returns-in_err-progress-clause-counted
+returns-in_err-progress-clause-counted g c = λ told.
     let e = err_from_is_err_and c.from_residual.result c.from_residual.ensures.1 in
-    rw (e.1, e.2) (inl (omega arith))
-
-pub returns-in_err-filer-clause-counted : goal.returns-in_err-filer-clause-counted
-returns-in_err-filer-clause-counted g c = λ told.
-    let e = err_from_is_err_and c.from_residual-in_err-filer.result c.from_residual-in_err-filer.ensures.1 in
-    rw (e.1, e.2) (inl (omega arith))
-
-pub returns-in_err-contributed-clause-counted : goal.returns-in_err-contributed-clause-counted
-returns-in_err-contributed-clause-counted g c = λ told.
-    let e = err_from_is_err_and c.from_residual-in_err-contributed.result c.from_residual-in_err-contributed.ensures.1 in
     rw (e.1, e.2) (inl (omega arith))
 
 pub returns-in_err-finish_run-clause-counted : goal.returns-in_err-finish_run-clause-counted
