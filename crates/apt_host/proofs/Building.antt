@@ -1,5 +1,5 @@
 -- From what was spelled to what a build leaves.
-use Rattle.std.proofs.Common.{◌≡◌, ◌≢◌, ℕ, zero, suc, ◌<◌, ◌^◌, List, [], ◌∷◌, length, map, get_or, All, None, Result, Ok, Err, inl, inr, refl, sym, ap, ◌∙◌, subst, Contains, arith}
+use Rattle.std.proofs.Common.{◌≡◌, ◌≢◌, ℕ, zero, suc, ◌<◌, ◌^◌, List, [], ◌∷◌, length, map, get_or, All, None, Result, Ok, Err, inl, inr, refl, sym, ap, ◌∙◌, subst, Contains, arith, Option}
 use Rattle.std.specs.Prelude.{AllPairs, ◌+◌, ◌==◌, cond, not, Bool, true, false}
 use Rattle.std.specs.FinMap as fin
 use Rattle.std.proofs.lemmas.List.Elements.{All-head, All-tail, All-cons}
@@ -42,6 +42,8 @@ use Rattle.apt_host.specs.Promises.{TalkedOf, ToldOf, Answers, Stores, Publishes
 use Rattle.apt_host.proofs.MakingLemmas.{talked_then}
 use Rattle.apt_host.proofs.Writing.{talked, front_more}
 use Rattle.apt_host.proofs.Leaving.{stands_by}
+use Rattle.apt_host.specs.Exempt.{exempt_in, IsExempt}
+use Rattle.apt_host.specs.BuildEndings.{IsConcluded}
 
 -- ---- the store's new files
 
@@ -223,28 +225,46 @@ shows_early P Q (Failed Sink) early shown = absurd (let e : false ≡ true = ear
 shows_early P Q (Failed (Children processor)) early shown = tt
 shows_early P Q Memory early shown = tt
 
+-- the child that is exempt by a verdict
+exempt_is : (rose : Type 0) (v : Verdict) → IsExempt rose v (exempt_in v)
+exempt_is rose Done = refl
+exempt_is rose (Errors count) = refl
+exempt_is rose (Refused refusal) = refl
+exempt_is rose (Failed object) = refl
+exempt_is rose Memory = inl refl
+
+-- a build whose run was finished exempts none
+exempts_none : (rose : Type 0) (v : Verdict) → IsConcluded v → IsExempt rose v None
+exempts_none rose Done concluded = refl
+exempts_none rose (Errors count) concluded = refl
+exempts_none rose (Refused refusal) concluded = absurd concluded
+exempts_none rose (Failed Tree) concluded = refl
+exempts_none rose (Failed Sink) concluded = refl
+exempts_none rose (Failed (Children processor)) concluded = absurd cc
+exempts_none rose Memory concluded = inl refl
+
 -- nothing was shown to a child
-no_fronts : (read : Read) (state : State) → ShowsNoMore read.plan.processors (frames_of (run_of state.says read.plan read.table)) state state
+no_fronts : (read : Read) (state : State) → ShowsNoMore None read.plan.processors (frames_of (run_of state.says read.plan read.table)) state state
 no_fronts read state = shows_nothing read.plan.processors (frames_of (run_of state.says read.plan read.table)) state
 
-pub shows_unread : (read : Result Read Refusal) (state : State) (v : Verdict) → RefusesAs read v → ShowsOver read state state v
-shows_unread (Err refusal) state v refuses = λ k. refl
-shows_unread (Ok read) state Done refuses = absurd refuses
-shows_unread (Ok read) state (Errors count) refuses = absurd refuses
-shows_unread (Ok read) state (Refused refusal) refuses = absurd (let e : Ok read ≡ Err refusal = refuses in cc)
-shows_unread (Ok read) state (Failed Tree) refuses = record { by = inr refl; fronts = no_fronts read state }
-shows_unread (Ok read) state (Failed Sink) refuses = absurd (let e : false ≡ true = refuses in cc)
-shows_unread (Ok read) state (Failed (Children processor)) refuses = absurd (let e : false ≡ true = refuses in cc)
-shows_unread (Ok read) state Memory refuses = record { by = tt; fronts = no_fronts read state }
+pub shows_unread : (rose : Type 0) (read : Result Read Refusal) (state : State) (v : Verdict) → RefusesAs read v → ShowsOver rose read state state v
+shows_unread rose (Err refusal) state v refuses = λ k. refl
+shows_unread rose (Ok read) state Done refuses = absurd refuses
+shows_unread rose (Ok read) state (Errors count) refuses = absurd refuses
+shows_unread rose (Ok read) state (Refused refusal) refuses = absurd (let e : Ok read ≡ Err refusal = refuses in cc)
+shows_unread rose (Ok read) state (Failed Tree) refuses = record { by = inr refl; exempt = None; is_exempt = refl; fronts = no_fronts read state }
+shows_unread rose (Ok read) state (Failed Sink) refuses = absurd (let e : false ≡ true = refuses in cc)
+shows_unread rose (Ok read) state (Failed (Children processor)) refuses = absurd (let e : false ≡ true = refuses in cc)
+shows_unread rose (Ok read) state Memory refuses = record { by = tt; exempt = None; is_exempt = inl refl; fronts = no_fronts read state }
 
-pub shows_store : (read : Result Read Refusal) (state : State) (fault : StoreFault) → ShowsOver read state state (verdict (of_store fault))
-shows_store (Err refusal) state fault = λ k. refl
-shows_store (Ok read) state store.Failed = record { by = inr refl; fronts = no_fronts read state }
-shows_store (Ok read) state store.Memory = record { by = tt; fronts = no_fronts read state }
+pub shows_store : (rose : Type 0) (read : Result Read Refusal) (state : State) (fault : StoreFault) → ShowsOver rose read state state (verdict (of_store fault))
+shows_store rose (Err refusal) state fault = λ k. refl
+shows_store rose (Ok read) state store.Failed = record { by = inr refl; exempt = None; is_exempt = refl; fronts = no_fronts read state }
+shows_store rose (Ok read) state store.Memory = record { by = tt; exempt = None; is_exempt = inl refl; fronts = no_fronts read state }
 
-pub shows_memory : (read : Result Read Refusal) (state : State) → ShowsOver read state state Memory
-shows_memory (Err refusal) state = λ k. refl
-shows_memory (Ok read) state = record { by = tt; fronts = no_fronts read state }
+pub shows_memory : (rose : Type 0) (read : Result Read Refusal) (state : State) → ShowsOver rose read state state Memory
+shows_memory rose (Err refusal) state = λ k. refl
+shows_memory rose (Ok read) state = record { by = tt; exempt = None; is_exempt = inl refl; fronts = no_fronts read state }
 
 -- ---- a build whose run is known
 
@@ -256,10 +276,10 @@ talked_over : (talks : Bool) (due : Result Read Refusal) (read : Read) (M P : Ty
 talked_over talks due read M P is makes then = subst (λ o. TalkedOf talks o P) (sym is) (talked_then talks read.plan.processors M P makes then)
 
 -- the frames of its run
-shown_over : (due : Result Read Refusal) (read : Read) (before after : State) (v : Verdict) → due ≡ Ok read
+shown_over : (rose : Type 0) (due : Result Read Refusal) (read : Read) (before after : State) (v : Verdict) (exempt : Option (List ℕ)) → due ≡ Ok read → IsExempt rose v exempt
     → ShowsBy v (ShowsWhole read.plan.processors (run_of before.says read.plan read.table) before after) (after ≡ before)
-    → ShowsNoMore read.plan.processors (frames_of (run_of before.says read.plan read.table)) before after → ShowsOver due before after v
-shown_over due read before after v is by fronts = subst (λ o. ShowsOver o before after v) (sym is) (record { by = by; fronts = fronts })
+    → ShowsNoMore exempt read.plan.processors (frames_of (run_of before.says read.plan read.table)) before after → ShowsOver rose due before after v
+shown_over rose due read before after v exempt is is_exempt by fronts = subst (λ o. ShowsOver rose o before after v) (sym is) (record { by = by; exempt = exempt; is_exempt = is_exempt; fronts = fronts })
 
 module _ (tells talks : Bool) (options : Options) (project : Files) (read : Read) (before after : State) (is : Told tells (read_of options project ≡ Ok read)) where
   abbrev whole : Result Read Refusal
@@ -280,8 +300,8 @@ module _ (tells talks : Bool) (options : Options) (project : Files) (read : Read
     answers_refused = λ told. talked_over talks whole read MakesHere _ (is told) makes
         (λ m. subst (λ o. OrFree (verdict_of (outcome_of before.says o)) (verdict status)) (sym (is told)) m.comes)
 
-    pub shown_refused : EndsEarly is_children (verdict status) → Told tells (Told talks (ShowsOver whole before after (verdict status)))
-    shown_refused early = λ told said. shown_over whole read before after (verdict status) (is told)
+    pub shown_refused : (rose : Type 0) → EndsEarly is_children (verdict status) → Told tells (Told talks (ShowsOver rose whole before after (verdict status)))
+    shown_refused rose early = λ told said. shown_over rose whole read before after (verdict status) (exempt_in (verdict status)) (is told) (exempt_is rose (verdict status))
         (shows_early (ShowsWhole processors (run_of before.says read.plan read.table) before after) (after ≡ before) (verdict status) early (λ free. (made_of talks processors MakesHere makes said).shown (ap not free)))
         (made_of talks processors MakesHere makes said).fronts
 
@@ -350,8 +370,8 @@ module _ (tells talks : Bool) (options : Options) (project : Files) (read : Read
       answers_finished = λ told. talked_over talks whole read MadeHere _ (is told) makes
           (λ m. subst (λ o. OrFree (verdict_of o) v) (outcome_is_here told m) (subst (λ w. OrFree w v) verdict_here answer))
 
-      pub shown_finished : Told tells (Told talks (ShowsOver whole before after v))
-      shown_finished = λ told said. shown_over whole read before after v (is told)
+      pub shown_finished : (rose : Type 0) → IsConcluded v → Told tells (Told talks (ShowsOver rose whole before after v))
+      shown_finished rose concluded = λ told said. shown_over rose whole read before after v None (is told) (exempts_none rose v concluded)
           (shows_whole (ShowsWhole processors (run_of before.says read.plan read.table) before after) (after ≡ before) v ((made_of talks processors MadeHere makes said).shown refl))
           (made_of talks processors MadeHere makes said).fronts
 

@@ -1,15 +1,16 @@
 -- What a build leaves in the tree, and what its children were shown, also where the line of a refusal wants memory.
-use Rattle.std.proofs.Common.{◌≡◌, ◌≢◌, Result, Ok, Err, inr, refl, sym, ap, ◌∙◌, subst}
+use Rattle.std.proofs.Common.{◌≡◌, ◌≢◌, Result, Ok, Err, inr, refl, sym, subst, ℕ, List, Option, true, inl}
 use Rattle.apt_outside.specs.Files.{Files}
 use Rattle.apt_outside.specs.Child.{State}
 use Rattle.tree_store.specs.Output.{StoresStand}
 use Rattle.tree_store.specs.Storing.{AddsToStore}
 use Rattle.project_units.specs.Refusals.{Refusal, Tree, Sink, Children}
 use Rattle.apt_host.specs.Words.{Request, Build, Bad}
-use Rattle.project_reading.specs.Verdicts.{Verdict, Done, Errors, Refused, Failed, Memory, OrMemory}
+use Rattle.project_reading.specs.Verdicts.{Verdict, Done, Errors, Refused, Failed, Memory, OrMemory, is_children, fails}
 use Rattle.project_reading.specs.Project.{Read, read_of}
 use Rattle.apt_host.specs.Promises.{Leaves, KeepsOutput, Finishes, ShowsOver, ShowsRun}
 use Rattle.apt_host.proofs.Writing.{memory_or_not, not_done}
+use Rattle.apt_host.specs.Exempt.{IsExempt}
 
 -- ---- the tree
 
@@ -54,16 +55,27 @@ finishes_memory expected w finishes = memory_or_not w (OrMemory expected w) (λ 
 
 -- ---- the children
 
--- a refusal whose line wants memory
-shown_memory : (read : Result Read Refusal) (v : Verdict) (old new : State) → ShowsOver read old new v → ShowsOver read old new Memory
-shown_memory (Err refusal) v old new shown = shown
-shown_memory (Ok read) v old new shown = record { by = tt; fronts = shown.fronts }
+-- a refusal whose line finds no memory: the child that was exempt stays so, and where one was, the count of the children's faults rose
+exempt_memory : (rose : Type 0) (v : Verdict) (exempt : Option (List ℕ)) → (fails is_children v ≡ true → rose) → IsExempt rose v exempt → IsExempt rose Memory exempt
+exempt_memory rose Done exempt cause is = inl is
+exempt_memory rose (Errors count) exempt cause is = inl is
+exempt_memory rose (Refused refusal) exempt cause is = inl is
+exempt_memory rose (Failed Tree) exempt cause is = inl is
+exempt_memory rose (Failed Sink) exempt cause is = inl is
+exempt_memory rose (Failed (Children processor)) exempt cause is = inr (cause refl)
+exempt_memory rose Memory exempt cause is = is
 
-shows_run_memory : (request : Request) (project : Files) (v : Verdict) (old new : State) → ShowsRun request project old new v → ShowsRun request project old new Memory
-shows_run_memory (Build options) project v old new shown = shown_memory (read_of options project) v old new shown
-shows_run_memory (Bad at) project v old new shown = tt
+module _ (rose : Type 0) where
+  shown_memory : (read : Result Read Refusal) (v : Verdict) (old new : State) → (fails is_children v ≡ true → rose) → ShowsOver rose read old new v → ShowsOver rose read old new Memory
+  shown_memory (Err refusal) v old new cause shown = shown
+  shown_memory (Ok read) v old new cause shown =
+      record { by = tt; exempt = shown.exempt; is_exempt = exempt_memory rose v shown.exempt cause shown.is_exempt; fronts = shown.fronts }
 
-pub shows_finish : (request : Request) (project : Files) (v w : Verdict) (old new : State) → Finishes v w → ShowsRun request project old new v → ShowsRun request project old new w
-shows_finish request project v w old new finishes shown = memory_or_not w (ShowsRun request project old new w)
-    (λ memory. subst (λ u. ShowsRun request project old new u) (sym memory) (shows_run_memory request project v old new shown))
-    (λ ne. subst (λ u. ShowsRun request project old new u) (sym (finishes.same ne)) shown)
+  shows_run_memory : (request : Request) (project : Files) (v : Verdict) (old new : State) → (fails is_children v ≡ true → rose) → ShowsRun rose request project old new v → ShowsRun rose request project old new Memory
+  shows_run_memory (Build options) project v old new cause shown = shown_memory (read_of options project) v old new cause shown
+  shows_run_memory (Bad at) project v old new cause shown = tt
+
+  pub shows_finish : (request : Request) (project : Files) (v w : Verdict) (old new : State) → (fails is_children v ≡ true → rose) → Finishes v w → ShowsRun rose request project old new v → ShowsRun rose request project old new w
+  shows_finish request project v w old new cause finishes shown = memory_or_not w (ShowsRun rose request project old new w)
+      (λ memory. subst (λ u. ShowsRun rose request project old new u) (sym memory) (shows_run_memory request project v old new cause shown))
+      (λ ne. subst (λ u. ShowsRun rose request project old new u) (sym (finishes.same ne)) shown)

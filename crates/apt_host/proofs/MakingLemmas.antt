@@ -12,10 +12,10 @@ use Rattle.project_units.specs.declared.project.Project.{Project}
 use Rattle.project_units.specs.declared.refusal.Refusal as engine
 use Rattle.project_units.specs.declared.refusal.Refusal.TheVariants as run
 use Rattle.project_units.specs.Refusals as stop
-use Rattle.project_units.specs.Refusals.{Tree, Sink, Children, Stop, NamesAmong, is_failure, is_refusal}
+use Rattle.project_units.specs.Refusals.{Tree, Sink, Children, Stop, NamesAmong, is_failure, is_refusal, exempt_by}
 use Rattle.project_units.specs.Faults.{stop_of, HasReason}
 use Rattle.round_engine.specs.Run.{Run, run_of, frames_of}
-use Rattle.round_engine.specs.Shown.{StopsAs, StartsUpTo, TriesInOrder, IsCounted, TellsMore, IsDueStop}
+use Rattle.round_engine.specs.Shown.{StopsAs, StartsUpTo, TriesInOrder, IsCounted, TellsMore, ShowsNoMore, IsDueStop}
 use Rattle.round_engine.specs.Clean as clean
 use Rattle.project_units.specs.Plans.{try_of, name_of, plan_of, tries_in, names_in}
 use Rattle.round_engine.specs.Clean.{Talked}
@@ -24,6 +24,7 @@ use Rattle.project_reading.specs.Project.{shown_project}
 use Rattle.apt_host.specs.CleanBuild.{outcome_of, outcome_of_run, verdict_of}
 use Rattle.project_reading.specs.Verdicts.{Done, verdict, stopped, is_free, is_finished, is_children, named_in, fails, OrFree, HasCause}
 use Rattle.project_reading.specs.Endings.{EndsEarly}
+use Rattle.apt_host.specs.Exempt.{exempt_in}
 use Rattle.apt_host.specs.Making.{Makes, RefusesRun}
 use Rattle.apt_host.specs.Promises.{IsDue}
 use Rattle.apt_host.specs.Builds.{UsesKey}
@@ -56,6 +57,14 @@ due_stop : (s : Stop) → not (is_free (stopped s)) ≡ true → is_refusal s �
 due_stop (stop.Refused refusal) e = refl
 due_stop (stop.Failed object) e = absurd cc
 due_stop stop.Memory e = absurd cc
+
+-- the child that is exempt
+exempt_as : (s : Stop) → exempt_by s ≡ exempt_in (stopped s)
+exempt_as (stop.Refused refusal) = refl
+exempt_as (stop.Failed Tree) = refl
+exempt_as (stop.Failed Sink) = refl
+exempt_as (stop.Failed (Children processor)) = refl
+exempt_as stop.Memory = refl
 
 names_stop : (names : List (List ℕ)) (s : Stop) → NamesAmong names s → IfSome (named_in (stopped s)) (Contains names)
 names_stop names (stop.Refused refusal) named = named
@@ -184,7 +193,7 @@ module _ (project : Project) (old new : State) where
     comes = subst (OrFree (verdict_of (outcome_of old.says (Ok (shown_project project))))) (sym due_as) (verdict_here (stop_of refusal) cleans.comes);
     more = cleans.more;
     shown = λ made. cleans.shown (due_stop (stop_of refusal) (ap (λ v. not (is_free v)) (sym due_as) ∙ made));
-    fronts = cleans.fronts;
+    fronts = subst (λ exempt. ShowsNoMore exempt (plan_of project.key).processors (frames_of whole) old new) (exempt_as (stop_of refusal) ∙ sym (ap exempt_in due_as)) cleans.fronts;
   }
 
   module _ (talks : Bool) where

@@ -22,9 +22,9 @@ pub publishes_unread : (tells talks : Bool) (request : Request) (says : Says) (o
 publishes_unread tells talks (Build options) says old new = λ told. talked talks (read_of options old) _ (λ done. absurd (let e : Memory ≡ Done = done in cc))
 publishes_unread tells talks (Bad at) says old new = λ done. cc
 
-pub shows_unread_words : (request : Request) (project : Files) (state : State) → ShowsRun request project state state Memory
-shows_unread_words (Build options) project state = shows_memory (read_of options project) state
-shows_unread_words (Bad at) project state = tt
+pub shows_unread_words : (rose : Type 0) (request : Request) (project : Files) (state : State) → ShowsRun rose request project state state Memory
+shows_unread_words rose (Build options) project state = shows_memory rose (read_of options project) state
+shows_unread_words rose (Bad at) project state = tt
 
 -- ---- behind the line of a refusal
 

@@ -54,7 +54,7 @@ UsesFor c project old new result = UsesKey c.tells project.key (ended result) (c
 -- the children are shown exactly the run
 abbrev pub Shows : {T C : Type 0} → tree.Ghosts T → children.Ghosts C → Options → T → C → C → Result Ending Status → Type 0
 Shows t c options tree old new result =
-    Told t.tells (Told c.tells (promise.ShowsRun (Build options) (t.files tree) (c.state old) (c.state new) (closed result)))
+    Told t.tells (Told c.tells (promise.ShowsRun (Rose (c.faults old) (c.faults new)) (Build options) (t.files tree) (c.state old) (c.state new) (closed result)))
 
 -- what was made is the clean build's
 abbrev pub Makes : {C : Type 0} → children.Ghosts C → Project → C → C → Result Finished Status → Type 0

@@ -18,7 +18,7 @@ Uses t c words tree old new result = promise.Uses t.tells c.tells (asked words) 
 
 -- the children are shown exactly the run
 abbrev pub Shows : {T C : Type 0} → tree.Ghosts T → children.Ghosts C → List (String Global) → T → C → C → Status → Type 0
-Shows t c words tree old new result = Told t.tells (Told c.tells (promise.ShowsRun (asked words) (t.files tree) (c.state old) (c.state new) (verdict result)))
+Shows t c words tree old new result = Told t.tells (Told c.tells (promise.ShowsRun (Rose (c.faults old) (c.faults new)) (asked words) (t.files tree) (c.state old) (c.state new) (verdict result)))
 
 -- ---- what is answered and published
 

@@ -9,6 +9,7 @@ use Rattle.round_engine.specs.Clean.{FinishesAs, ShowsWhole}
 use Rattle.project_reading.specs.declared.status.Status.{Status}
 use Rattle.project_reading.specs.Configuration.{is_of_project}
 use Rattle.project_reading.specs.Project.{Read}
+use Rattle.apt_host.specs.Exempt.{exempt_made}
 use Rattle.apt_host.specs.CleanBuild as outcome
 use Rattle.apt_host.specs.CleanBuild.{Summary, Outcome, outcome_of, verdict_of}
 use Rattle.apt_host.specs.Report.{report_of, errors_report}
@@ -29,8 +30,8 @@ pub record Makes (read : Read) (old new : State) (result : Result Finished Statu
   pub comes : MakesOf old.says read result
   pub more : TellsMore (length read.plan.processors) old new
   pub shown : is_made result ≡ true → ShowsWhole read.plan.processors (run_of old.says read.plan read.table) old new
-  -- also after a fault of the children or out of memory
-  pub fronts : ShowsNoMore read.plan.processors (frames_of (run_of old.says read.plan read.table)) old new
+  -- whatever came of it; of the child that a fault of the children names it is not told what it was sent
+  pub fronts : ShowsNoMore (exempt_made result) read.plan.processors (frames_of (run_of old.says read.plan read.table)) old new
 
 -- whatever the children tell, a refusal comes behind a start, and is none that the project alone comes to
 abbrev pub RefusesRun : State → State → Verdict → Type 0

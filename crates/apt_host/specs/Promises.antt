@@ -1,5 +1,5 @@
 -- What `run` promises, by what its words ask for.
-use Rattle.std.specs.Prelude.{◌≡◌, ◌≢◌, ◌⊎◌, ℕ, ◌+◌, ◌≤◌, Bool, true, List, [], ◌++◌, map, length, take, Contains, IfSome, Result, Ok, Err}
+use Rattle.std.specs.Prelude.{◌≡◌, ◌≢◌, ◌⊎◌, ℕ, ◌+◌, ◌≤◌, Bool, true, List, [], ◌++◌, map, length, take, Contains, IfSome, Result, Ok, Err, Option}
 use Rattle.std.specs.FinMap as fin
 use Rattle.apt_outside.specs.Count.{Told}
 use Rattle.apt_outside.specs.Files.{Files}
@@ -15,6 +15,7 @@ use Rattle.project_units.specs.Refusals.{Refusal, BadWords, Object, Tree, Sink, 
 use Rattle.round_engine.specs.Run.{run_of, frames_of}
 use Rattle.round_engine.specs.Shown.{TriesInOrder, TellsMore, ShowsNoMore, IsDueStop}
 use Rattle.round_engine.specs.Clean.{Talked, ShowsWhole}
+use Rattle.apt_host.specs.Exempt.{IsExempt}
 use Rattle.project_reading.specs.Configuration.{Options, IsPlaceOf, is_of_project}
 use Rattle.apt_host.specs.Words.{Request, Build, Bad}
 use Rattle.project_reading.specs.Project.{Read, read_of}
@@ -246,16 +247,19 @@ ShowsBy Memory P Q = Unit {0}
 
 -- As many processors, the first in order, were started as the run has frames for, all of them where it finished. The child of each was not known before and was
 -- shown exactly its frames of the run: the first frame, the rounds in which it is asked with the names that it is offered, and the replies between them.
-pub record ShowsRead (read : Read) (old new : State) (v : Verdict) : Type 0 where
+pub record ShowsRead (rose : Type 0) (read : Read) (old new : State) (v : Verdict) : Type 0 where
   pub by : ShowsBy v (ShowsWhole read.plan.processors (run_of old.says read.plan read.table) old new) (new ≡ old)
-  -- Whatever came of it, each child that is new is that of its processor, in order, and was sent the first of these frames and nothing else; but for at most one,
-  -- where a fault of the children or out of memory came.
-  pub fronts : ShowsNoMore read.plan.processors (frames_of (run_of old.says read.plan read.table)) old new
+  pub exempt : Option (List ℕ)
+  pub is_exempt : IsExempt rose v exempt
+  -- Whatever came of it, each child that is new is that of its processor, in order, and was sent the first of these frames and nothing else; but for the one that is
+  -- exempt. After a fault of the children that is the child of the processor which it names; out of memory exempts none, but behind such a fault.
+  pub fronts : ShowsNoMore exempt read.plan.processors (frames_of (run_of old.says read.plan read.table)) old new
 
-abbrev pub ShowsOver : Result Read Refusal → State → State → Verdict → Type 0
-ShowsOver (Err refusal) old new v = AllKept old.known new.known
-ShowsOver (Ok read) old new v = ShowsRead read old new v
+abbrev pub ShowsOver : Type 0 → Result Read Refusal → State → State → Verdict → Type 0
+ShowsOver rose (Err refusal) old new v = AllKept old.known new.known
+ShowsOver rose (Ok read) old new v = ShowsRead rose read old new v
 
-abbrev pub ShowsRun : Request → Files → State → State → Verdict → Type 0
-ShowsRun (Build options) project old new v = ShowsOver (read_of options project) old new v
-ShowsRun (Bad at) project old new v = Unit {0}
+-- `rose` says that the count of the faults of the children rose
+abbrev pub ShowsRun : Type 0 → Request → Files → State → State → Verdict → Type 0
+ShowsRun rose (Build options) project old new v = ShowsOver rose (read_of options project) old new v
+ShowsRun rose (Bad at) project old new v = Unit {0}

@@ -134,7 +134,8 @@ pub fn run<T: Tree, C: Children, R: Source, W: Sink>(
     ensures stand { Told T.tells (StoresStand (T.files tree.old) → StoresStand (T.files tree.new)) }
     ensures outside { Told T.tells (SameOutside (T.files tree.old) (T.files tree.new)) }
 
-    // New children, one for each processor that is started, are shown exactly the run, and the front of it where it broke off.
+    // New children, one for each processor that is started, are shown exactly the run, and the front of it where it broke off; but
+    // for the child of the processor that a fault of the children names.
     ensures shown { Shows T.Tree C.Children words.now tree.old children.old children.new result }
 
     // What is written is the clean build's report, or ends in the refusal's line. A report begins with the number of starts.

@@ -242,7 +242,8 @@ returns-in_err-project-clause-shown g c = λ told said.
     let same : closed c.from_residual.result ≡ verdict c.in_err-project.field-0.0 = ap closed p.1 ∙ ap verdict p.2 in
     let read = read_of c.args.options.now (T.files c.args.tree.now) in
     let state = C.state c.args.children.now in
-    subst (λ v. ShowsOver read state state v) (sym same) (shows_unread read state (verdict c.in_err-project.field-0.0) (c.in_err-project.ensures.read told))
+    let rose = Rose (C.faults c.args.children.now) (C.faults c.args.children.now) in
+    subst (λ v. ShowsOver rose read state state v) (sym same) (shows_unread rose read state (verdict c.in_err-project.field-0.0) (c.in_err-project.ensures.read told))
 
 pub returns-in_err-names-clause-shown : goal.returns-in_err-names-clause-shown
 returns-in_err-names-clause-shown g c = λ told said.
@@ -252,7 +253,8 @@ returns-in_err-names-clause-shown g c = λ told said.
     let same : closed c.from_residual-in_err-names.result ≡ Memory = ap closed p.1 ∙ ap verdict p.2 in
     let read = read_of c.args.options.now (T.files c.args.tree.now) in
     let state = C.state c.args.children.now in
-    subst (λ v. ShowsOver read state state v) (sym same) (shows_memory read state)
+    let rose = Rose (C.faults c.args.children.now) (C.faults c.args.children.now) in
+    subst (λ v. ShowsOver rose read state state v) (sym same) (shows_memory rose read state)
 
 pub returns-in_err-taken-clause-shown : goal.returns-in_err-taken-clause-shown
 returns-in_err-taken-clause-shown g c = λ told said.
@@ -262,7 +264,8 @@ returns-in_err-taken-clause-shown g c = λ told said.
     let same : closed c.from_residual-in_err-taken.result ≡ verdict (of_store c.in_err-taken.field-0.0) = ap closed p.1 ∙ ap verdict p.2 in
     let read = read_of c.args.options.now (T.files c.args.tree.now) in
     let state = C.state c.args.children.now in
-    subst (λ v. ShowsOver read state state v) (sym same) (shows_store read state c.in_err-taken.field-0.0)
+    let rose = Rose (C.faults c.args.children.now) (C.faults c.args.children.now) in
+    subst (λ v. ShowsOver rose read state state v) (sym same) (shows_store rose read state c.in_err-taken.field-0.0)
 
 pub returns-in_err-finished-clause-shown : goal.returns-in_err-finished-clause-shown
 returns-in_err-finished-clause-shown g c = λ told said.
@@ -274,9 +277,10 @@ returns-in_err-finished-clause-shown g c = λ told said.
     let files = T.files c.args.tree.now in
     let before = C.state c.args.children.now in
     let after = C.state c.make.new.children in
-    subst (λ v. ShowsOver (read_of options files) before after v) (sym same)
+    let rose = Rose (C.faults c.args.children.now) (C.faults c.make.new.children) in
+    subst (λ v. ShowsOver rose (read_of options files) before after v) (sym same)
     (shown_refused T.tells C.tells options files (shown_project c.in_ok-project.project) before after c.in_ok-project.ensures.read
-    c.in_err-finished.field-0.0 c.in_err-finished.ensures.made c.in_err-finished.ensures.early told said)
+    c.in_err-finished.field-0.0 c.in_err-finished.ensures.made rose c.in_err-finished.ensures.early told said)
 
 pub returns-clause-shown : goal.returns-clause-shown
 returns-clause-shown g c =
@@ -284,6 +288,7 @@ returns-clause-shown g c =
     let C = g.C.Children in
     shown_finished T.tells C.tells c.args.options.now (T.files c.args.tree.now) (shown_project c.in_ok-project.project) (C.state c.args.children.now) (C.state c.make.new.children) c.in_ok-project.ensures.read
     c.in_ok-taken.taken c.in_ok-finished.finished c.in_ok-finished.ensures.numbered c.in_ok-finished.ensures.made (closed c.conclude.result) c.conclude.ensures.answer
+    (Rose (C.faults c.args.children.now) (C.faults c.make.new.children)) c.conclude.ensures.concluded
 
 -- ---- what is published
 

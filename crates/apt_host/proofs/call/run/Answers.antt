@@ -40,7 +40,9 @@ pub returns-clause-shown : goal.returns-clause-shown
 returns-clause-shown g c = λ told said.
     let T = g.T.Tree in
     let C = g.C.Children in
-    shows_finish (asked c.args.words.now) (T.files c.args.tree.now) (verdict c.work-status.result) (verdict c.finish.result) (C.state c.args.children.now) (C.state c.work-status.new.children) c.finish.ensures.status (c.work-status.ensures.shown told said)
+    let rose = Rose (C.faults c.args.children.now) (C.faults c.work-status.new.children) in
+    shows_finish rose (asked c.args.words.now) (T.files c.args.tree.now) (verdict c.work-status.result) (verdict c.finish.result) (C.state c.args.children.now) (C.state c.work-status.new.children)
+    c.work-status.ensures.children.rose c.finish.ensures.status (c.work-status.ensures.shown told said)
 
 pub returns-clause-due : goal.returns-clause-due
 returns-clause-due g c =

@@ -90,4 +90,4 @@ pub returns-in-Err-clause-published : goal.returns-in-Err-clause-published
 returns-in-Err-clause-published g c = publishes_unread g.T.Tree.tells g.C.Children.tells (asked c.args.words.now) _ _ _
 
 pub returns-in-Err-clause-shown : goal.returns-in-Err-clause-shown
-returns-in-Err-clause-shown g c = λ told said. shows_unread_words (asked c.args.words.now) _ _
+returns-in-Err-clause-shown g c = λ told said. shows_unread_words _ (asked c.args.words.now) _ _
