@@ -13,10 +13,11 @@ import subprocess
 import sys
 import time
 
-from host import (ACCEPTED, BAD_CONFIG, BAD_SOURCE, BAD_STUB, BAD_WORDS, CHILD_FAULT, CLAIM_BROKEN, CREATE, DONE,
-                  DONE_STATUS, DUPLICATE_TYPE, EXISTS, FIRST_ROUND, HELLO, INIT, KINDS, LAST_ROUND, PAST_A_LIMIT,
-                  SECONDS, SERVICES, SINK_FAULT, SOURCE, TREE_FAULT, UNBUILT_TALK, UNKNOWN_PROCESSOR, Cases, Failure,
-                  NotRun, by_hand, expect, former_stands, frames, processes_of, program, record_of, refused, say, says)
+from host import (ACCEPTED, BAD_CONFIG, BAD_GENERATED, BAD_SOURCE, BAD_STUB, BAD_WORDS, CHILD_FAULT, CLAIM_BROKEN,
+                  CREATE, DONE, DONE_STATUS, DUPLICATE_TYPE, EXISTS, FIRST_ROUND, HELLO, INIT, KINDS, LAST_ROUND,
+                  PAST_A_LIMIT, SECONDS, SERVICES, SINK_FAULT, SOURCE, TREE_FAULT, UNBUILT_TALK, UNKNOWN_PROCESSOR,
+                  Cases, Failure, NotRun, by_hand, expect, former_stands, frames, processes_of, program, record_of,
+                  refused, say, says)
 
 # The steps of a child that creates one file, and of one that creates nothing.
 CREATES = ["read", say(HELLO), "read", say(CREATE), "read", say(DONE), "read", say(DONE), "rest"]
@@ -330,7 +331,7 @@ def a_child_that_ends_at_once(project):
 @case
 def a_child_that_ends_after_init(project):
     run = refused(project, project.scripted(["read"]), UNBUILT_TALK, "UnbuiltTalk(maker)")
-    says(run)
+    says(run, "processor maker: frame at offset 0: end of stream after 0 bytes of it")
 
 
 @case
@@ -358,7 +359,8 @@ def ended_by(project, command):
 def a_child_that_ends_badly_where_the_build_is_refused(project):
     # It ends with status 3 where its input ends before the frame that it waits for.
     run = refused(project, project.scripted([say(DONE), "read", "read"]), UNBUILT_TALK, "UnbuiltTalk(maker)")
-    says(run, f"processor {sys.executable} ended with status 3")
+    says(run, f"processor {sys.executable} ended with status 3",
+         "processor maker: frame at offset 0, tag 65: it may not stand there")
 
 
 @case
@@ -687,6 +689,177 @@ def sixty_four_processors(project):
     expect("the output", run.output, report(64, "done: 2 rounds, 0 files, 0 errors, 0 warnings"))
     for name in names[1:]:
         expect(f"what {name} was sent", project.sent(name), frames.init(name))
+
+
+# What is said beside the line of a refusal.
+
+
+USAGE = [
+    "apt_cli: usage: build [--full] [KEY=VALUE]..",
+    "apt_cli: builds the project in the current folder; KEY=VALUE is an option of its processors",
+]
+
+# Words that no command has.
+WORDS = [[], ["help"], ["--help"], ["--version"], ["biuld"], ["build", "maker"], ["build", b"\xff"]]
+
+# A file that is no Java file of level 11, and what is said of it.
+FILES = [
+    (b"class {", ["1:7: not Java of level 11", "  class {", "        ^"]),
+    (b"class A {\n", ["2:1: the file ends too early"]),
+    (b"class A {", ["1:10: the file ends too early", "  class A {", "           ^"]),
+    (b"package p;\r\n\r\npublic record P(int x) {}\r\n",
+     ["3:8: records need level 17", "  public record P(int x) {}", "         ^"]),
+    (b"package p;\rsealed interface S {}", ["2:1: sealed types need level 17", "  sealed interface S {}", "  ^"]),
+    (b"non-sealed class S {}", ["1:1: sealed types need level 17", "  non-sealed class S {}", "  ^"]),
+    (b"class S permits T {}", ["1:9: sealed types need level 17", "  class S permits T {}", "          ^"]),
+    ("/* \u00e4\u20ac\x1b */\tclass 1\n".encode(),
+     ["1:17: not Java of level 11", "  /* \u00e4\u20ac\\u{1b} */ class 1", "                       ^"]),
+    (b"/*" + b"-" * 200 + b"*/ 1" + b"=" * 200,
+     ["1:206: not Java of level 11", "  " + "-" * 77 + "*/ 1" + "=" * 79, "  " + " " * 80 + "^"]),
+]
+
+# An apt.json that is off its form, and what is said of it.
+CONFIGURATIONS = [
+    (b'{\n  "level": 12\n}', ["2:3: /level has to be 11", '    "level": 12', "    ^"]),
+    (b'{"order": 1}',
+     ["1:2: /order has to be a list of class names without repeats", '  {"order": 1}', "   ^"]),
+    (b'{"options": []}', ["1:2: /options has to be an object of texts", '  {"options": []}', "   ^"]),
+    (b'{"processors": []}',
+     ["1:2: /processors has to be an object with a row for each processor", '  {"processors": []}', "   ^"]),
+    (b'{"processors":\n {"a": 1}}',
+     ["2:3: /processors/a has to be an object with a command and a version", '   {"a": 1}}', "    ^"]),
+    (b'{"processors":\n {"b": {"command": ["m"], "version": "1"},\n  "a": {"version": "1",\n "command": []}}}',
+     ["4:2: /processors/a/command has to be a list of one or more texts", '   "command": []}}}', "   ^"]),
+    (b'{"processors":\n {"a": {"command": ["m"]},\n  "b": {"command": ["m"], "version": "1"}}}',
+     ["2:3: /processors/a/version has to be a text", '   {"a": {"command": ["m"]},', "    ^"]),
+    (b'{"level": 11,\n}', ["2:1: not JSON", "  }", "  ^"]),
+    (b'{"level": 11', ["1:13: the JSON text ends too early", '  {"level": 11', "              ^"]),
+    (b"[]", ["1:1: not a JSON object", "  []", "  ^"]),
+]
+
+# A file of the configuration with a bad line, and what is said of it.
+LINES = [
+    (SERVICES, b"maker\r\n# more\r\nnot a name\r\n",
+     ["3:1: not the name of a processor", "  not a name", "  ^"]),
+    (KINDS, b"builder,isolated",
+     ["1:1: not the name of a processor, a comma, and isolating, aggregating or dynamic", "  builder,isolated", "  ^"]),
+]
+
+# The origins of a creation that has one, which no host of today answers.
+ONE_ORIGIN = frames.number_field(1) + frames.text_field("p.C") + frames.number_field(0)
+
+# What a child says to Init and then to the first round, and what is said of it.
+TALKS = [
+    (["00000000"], "frame at offset 0: bad length, at byte 3 of it"),
+    (["00000001 77"], "frame at offset 0, tag 119: bad tag, at byte 4 of it"),
+    (["00000002 41 02"], "frame at offset 0, tag 65: bad field, at byte 5 of it"),
+    (["0000000f 40 00000001 00000001 31 00000000 02"], "frame at offset 0, tag 64: bad pattern, at byte 13 of it"),
+    (["00000002 41 01"], "frame at offset 0, tag 65: it may not stand there"),
+    ([HELLO.hex(), "00000003 41 01 00"], "frame at offset 21, tag 65: more than its fields, at byte 6 of it"),
+    ([HELLO.hex(), "00000001 73"], "frame at offset 21, tag 115: this host does not answer this yet"),
+    ([HELLO.hex(), frames.create_source("p.D", b"", ONE_ORIGIN).hex()],
+     "frame at offset 21, tag 66: this host does not answer this yet"),
+    ([HELLO.hex(), HELLO.hex()], "frame at offset 21, tag 64: it may not stand there"),
+    ([HELLO.hex(), "00000001 18"], "frame at offset 21, tag 24: it may not stand there"),
+    ([HELLO.hex(), "00010000 42 00000000 0000f000" + "00" * 8192],
+     "frame at offset 21, tag 66: end of stream after 8205 bytes of it"),
+]
+
+
+def says_of(run, path, lines):
+    """The run wrote these lines to its standard error, the first behind the path, and nothing else."""
+    expect("the messages", run.messages, "".join(line + "\n" for line in [f"{path}:{lines[0]}", *lines[1:]]).encode())
+
+
+@case
+def words_that_no_command_has(project):
+    for words in WORDS:
+        run = project.run(words)
+        expect("the status", run.status, BAD_WORDS)
+        expect(f"the messages for {words}", run.messages.decode().splitlines(), USAGE)
+
+
+@case
+def places_of_java_files(project):
+    for text, lines in FILES:
+        for folder, status in [("src", BAD_SOURCE), ("stubs", BAD_STUB)]:
+            project.write(folder + "/p/A.java", text)
+            run = project.run(["build"])
+            expect(f"the status for {text}", run.status, status)
+            says_of(run, folder + "/p/A.java", lines)
+        os.remove(project.path("stubs/p/A.java"))
+
+
+@case
+def places_of_the_configuration(project):
+    for path, text, lines in [("apt.json", *row) for row in CONFIGURATIONS] + LINES:
+        project.write(path, text)
+        run = project.run(["build"])
+        expect(f"the status for {text}", run.status, BAD_CONFIG)
+        says_of(run, path, lines)
+        os.remove(project.path(path))
+
+
+@case
+def an_item_that_is_none(project):
+    project.write("apt.json", b'{"level": 11,\n "ordre": {"level": [], "x": "\\" :"}}')
+    run = project.run(["build"])
+    expect("the output", run.output, REPORT_WITHOUT_PROCESSOR)
+    says_of(run, "apt.json", ["2:2: ordre is none of level, order, options and processors, and is passed over",
+                              '   "ordre": {"level": [], "x": "\\" :"}}', "   ^"])
+
+
+@case
+def children_that_leave_the_protocol(project):
+    for answers, line in TALKS:
+        steps = [step for answer in answers for step in ("read", "say:" + answer.replace(" ", ""))]
+        steps += [] if "end of stream" in line else ["rest"]
+        run = refused(project, project.scripted(steps), UNBUILT_TALK, "UnbuiltTalk(maker)")
+        says(run, "processor maker: " + line)
+
+
+@case
+def a_long_frame_that_has_no_answer(project):
+    project.write("frame", frames.create_resource("x", b"-" * 70_000, origins=ONE_ORIGIN))
+    steps = ["read", say(HELLO), "read", "make:" + project.path("frame"), "rest"]
+    run = refused(project, project.scripted(steps), UNBUILT_TALK, "UnbuiltTalk(maker)")
+    says(run, "processor maker: frame at offset 21, tag 67: what is wrong is not known of its first 65536 bytes")
+
+
+def says_of_created(project, line, place, lines):
+    """This is said of a created source that is no Java file. Others are created in the round before, and behind it."""
+    project.write("frame", frames.create_source("p.D", line))
+    first = [say(frames.create_source("p.C1", b"package p; class C1 {}")), "read", say(DONE), "read"]
+    others = [say(frames.create_source(name, b"class 1")) for name in ("p.D", "p.E")]
+    second = ["make:" + project.path("frame"), "read", others[0], "read", others[1], "read", say(DONE), "rest"]
+    steps = ["read", say(HELLO), "read", *first, *second]
+    run = refused(project, project.scripted(steps), BAD_GENERATED, f"BadGenerated(SOURCE_OUTPUT/p/D.java, {place})")
+    says_of(run, "SOURCE_OUTPUT/p/D.java", lines)
+
+
+@case
+def created_sources_that_are_no_java_files(project):
+    says_of_created(project, b"package p;\nclass {", 17, ["2:7: not Java of level 11", "  class {", "        ^"])
+    says_of_created(project, b"package p;\nrecord D(int x) {}", 11,
+                    ["2:1: records need level 17", "  record D(int x) {}", "  ^"])
+    says_of_created(project, b"package p;\n/*" + b"-" * 70_000 + b"*/\nclass {", 70_022,
+                    ["3:7: not Java of level 11", "  class {", "        ^"])
+
+
+@case
+def a_folder_without_a_project(project):
+    shutil.rmtree(project.path("src"))
+    says(project.run(["build"]), "neither src nor apt.json is in this folder")
+    project.write("apt.json", b"{}")
+    says(project.run(["build"]))
+
+
+@case
+def a_child_that_keeps_the_host_waiting(project):
+    run = project.run(project.scripted(["read", "wait:6", *CREATES_NOTHING[1:]]))
+    expect("the output", run.output, REPORT_OF_NO_FILE)
+    expect("the status", run.status, DONE_STATUS)
+    says(run, "processor maker has not answered for 5 seconds, and is waited for")
 
 
 # Files and streams that fail.

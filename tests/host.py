@@ -21,6 +21,7 @@ SERVICES = "res/META-INF/services/javax.annotation.processing.Processor"
 KINDS = "res/META-INF/gradle/incremental.annotation.processors"
 
 FORMER = {"CLASS_OUTPUT/former": (0, b"what stood before")}
+FORMER_FILES = {"CLASS_OUTPUT/former": b"what stood before"}
 
 DONE_STATUS, ERRORS, BAD_WORDS, TREE_FAULT, SINK_FAULT, CHILD_FAULT = 0, 1, 2, 4, 5, 7
 TOO_MANY_QUESTIONS, CLAIM_BROKEN, BAD_CONFIG, BAD_STUB, BAD_SOURCE, DUPLICATE_TYPE = 11, 12, 13, 14, 15, 16
@@ -207,7 +208,7 @@ def says(run, *lines):
 
 
 def former_stands(project):
-    expect("the published files", project.published(), {"CLASS_OUTPUT/former": b"what stood before"})
+    expect("the published files", project.published(), FORMER_FILES)
 
 
 class Cases:

@@ -6,7 +6,9 @@ use crate::faults::Faults;
 use crate::files::{Unstored, read_front, remove, replace, write_new};
 use crate::folders::files_below;
 use crate::messages::{Attempt, Failure};
+use crate::refusals::CONFIGURATION;
 use apt_outside::{Fault, Tree};
+use cli_messages::say_other_items;
 use std::io::Stderr;
 use std::rt::Files;
 
@@ -34,6 +36,15 @@ impl<R: Files + AllocGlobal + Drop> DiskTree<R> {
             faults: Faults::new(messages),
         }
     }
+
+    /// Says which items of `apt.json` no build reads, where this is what was found of it.
+    fn say_items(&self, path: &str, found: &Result<Option<Vec<u8>>, Failure>) {
+        if let Ok(Some(json)) = found {
+            if path == CONFIGURATION {
+                say_other_items(self.rt.alloc(), self.faults.messages, path, json);
+            }
+        }
+    }
 }
 
 impl<R: Files + AllocGlobal + Drop> Tree for DiskTree<R> {
@@ -51,6 +62,7 @@ impl<R: Files + AllocGlobal + Drop> Tree for DiskTree<R> {
 
     fn read(&mut self, path: &str, limit: usize) -> Result<Option<Vec<u8>>, Fault> {
         let found = read_front(&self.rt, path, limit);
+        self.say_items(path, &found);
         self.faults.count_failure(Attempt::new("read", path), found)
     }
 

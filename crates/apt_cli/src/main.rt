@@ -11,6 +11,7 @@ mod files;
 mod folders;
 mod messages;
 mod pipe_children;
+mod refusals;
 mod standard;
 mod words;
 
@@ -18,15 +19,16 @@ use apt_host::{Status, refuse_cut_words, run};
 use apt_outside::Sink;
 use disk_tree::DiskTree;
 use pipe_children::PipeChildren;
+use refusals::{say_ending, say_usage};
 use standard::{StdinSource, StdoutSink, fill_closed_streams};
 use std::alloc::Global;
 use std::io::Stderr;
-use std::process::{ExitCode, Processes};
+use std::process::{ExitCode, Processes, SystemProcess};
 use std::rt::Files;
 use words::{Words, read_words};
 
 /// Does what the words say in the current folder.
-fn call<R: Files + AllocGlobal + Input + Processes, W: Sink>(
+fn call<R: Files + AllocGlobal + Input + Processes<Started = SystemProcess>, W: Sink>(
     alloc: Global,
     rt: &R,
     messages: Stderr,
@@ -36,7 +38,21 @@ fn call<R: Files + AllocGlobal + Input + Processes, W: Sink>(
     let mut tree = DiskTree::new(rt, messages);
     let mut children = PipeChildren::new(alloc, rt, messages);
     let mut input = StdinSource::new(rt.reader(), messages);
-    run(alloc, words, &mut tree, &mut children, &mut input, output)
+    let status = run(alloc, words, &mut tree, &mut children, &mut input, output);
+    say_ending(rt, messages, &status, &children.talk);
+    status
+}
+
+/// The refusal of words of which the next one is no text.
+fn refuse_cut<W: Sink>(
+    alloc: Global,
+    messages: Stderr,
+    words: &[String],
+    output: &mut W,
+) -> Status {
+    let status = refuse_cut_words(alloc, words, output);
+    say_usage(messages);
+    status
 }
 
 /// The refusal where there is no memory for the words.
@@ -51,7 +67,7 @@ fn main(rt: HostRuntime) -> ExitCode {
     let mut output = StdoutSink::new(rt.stdout(), rt.stderr());
     let status = match read_words(alloc, &rt) {
         Ok(Words::Whole(words)) => call(alloc, &rt, rt.stderr(), &words, &mut output),
-        Ok(Words::Cut(words)) => refuse_cut_words(alloc, &words, &mut output),
+        Ok(Words::Cut(words)) => refuse_cut(alloc, rt.stderr(), &words, &mut output),
         Err(_) => refuse_memory(&mut output),
     };
     ExitCode::from(status.code())

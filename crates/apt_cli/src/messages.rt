@@ -3,12 +3,12 @@ ghost use Rattle.std.specs.Prelude.{◌≡◌};
 ghost use Rattle.std.specs.IoError.{error_kind};
 ghost use Rattle.apt_cli.specs.Failures.{IsFailureOf};
 
+use cli_messages::Shown;
 use std::alloc::{AllocError, AllocFailed, Global};
-use std::fmt::{Display, Formatter};
+use std::io;
 use std::io::{Error, ErrorKind, Stderr};
 use std::os::unix::process::ExitStatusExt;
 use std::process::ExitStatus;
-use std::{fmt, io};
 
 /// What was tried, as it is said: a verb, and the path, program or stream that it was tried with.
 #[derive(Clone, Copy)]
@@ -83,38 +83,6 @@ impl<T: Drop> From<AllocFailed<T>> for Failure {
     }
 }
 
-/// Bytes as a part of a line: text as it is, but for control characters and backslashes, which are escaped, as are
-/// bytes that are no UTF-8 text. No bytes are shown as two quotation marks.
-#[derive(Drop)]
-struct Shown<'a>(&'a [u8]);
-
-impl<'a> Display for Shown<'a> {
-    fn fmt<W: fmt::Write>(&self, f: &mut Formatter<W>) -> fmt::Result {
-        if self.0.is_empty() {
-            return f.write_str("\"\"");
-        }
-        for chunk in self.0.utf8_chunks() {
-            show_text(chunk.valid(), f)?;
-            for byte in chunk.invalid() {
-                write!(f, "\\x{byte:02x}")?;
-            }
-        }
-        Ok(())
-    }
-}
-
-fn show_text<W: fmt::Write>(text: &str, f: &mut Formatter<W>) -> fmt::Result {
-    for character in text.chars() {
-        if character.is_control() || character == '\\' {
-            let escaped = character.escape_default();
-            write!(f, "{escaped}")?;
-        } else {
-            f.write_char(character)?;
-        }
-    }
-    Ok(())
-}
-
 /// Says what failed, at which path, where that is another than the one that it was tried with, and why. Where the
 /// line can't be written nothing is said.
 pub fn say_failure(messages: Stderr, attempt: Attempt<'_>, failure: &Failure) {
@@ -128,6 +96,14 @@ pub fn say_failure(messages: Stderr, attempt: Attempt<'_>, failure: &Failure) {
         }
         _ => eprintln!(messages; "apt_cli: cannot {verb} {object}: {error}"),
     };
+}
+
+/// Says that a processor has not answered for this many seconds. Where the line can't be written nothing is said.
+pub fn say_silence(messages: Stderr, processor: &str, seconds: i32) {
+    let processor = Shown(processor.as_bytes());
+    let _ = eprintln!(messages;
+        "apt_cli: processor {processor} has not answered for {seconds} seconds, and is waited for"
+    );
 }
 
 /// Says how a processor ended, unless with status 0. Where the line can't be written nothing is said.

@@ -3,19 +3,28 @@ ghost use Rattle.std.specs.Prelude.{◌≡◌, ◌<◌, ◌≤◌, ◌^◌, ◌-
 ghost use Rattle.std.specs.List.{position};
 
 use crate::faults::Faults;
-use crate::messages::{Attempt, Failure, say_end};
+use crate::messages::{Attempt, Failure, say_end, say_silence};
 use crate::standard::{read_some, write_out};
 use apt_outside::{Children, Fault};
+use cli_messages::Talk;
+use libc::net::{POLLIN, poll};
+use libc::types::pollfd;
 use std::alloc::Global;
 use std::io;
 use std::io::{Error, ErrorKind, Stderr};
-use std::process::{Child, Command, OpenProcess, Processes, Stdio};
+use std::os::fd::AsRawFd;
+use std::process::{Child, ChildStdout, Command, OpenProcess, Processes, Stdio, SystemProcess};
+
+/// For how long a child may send nothing before that is said, in seconds.
+const PATIENCE: i32 = 5;
 
 /// A program that runs, with this end of its pipes. Where it is let go, its pipes are closed, and its end is waited for
 /// and said, unless it ends with status 0.
 pub struct Running<P: OpenProcess + Drop> {
     /// The child's number.
     pub number: u32,
+    /// The name of its processor.
+    pub processor: String,
     /// The word that the program was started by.
     pub name: String,
     /// What the program reads.
@@ -23,6 +32,8 @@ pub struct Running<P: OpenProcess + Drop> {
     /// What the program writes.
     pub output: P::Stdout,
     pub program: Child<P>,
+    /// How many bytes it has sent.
+    pub received: u64,
     pub messages: Stderr,
 }
 
@@ -30,12 +41,15 @@ impl<P: OpenProcess + Drop> Drop for Running<P> {
     fn drop(self) {
         let Running {
             number: _,
+            processor,
             name,
             input,
             output,
             mut program,
+            received: _,
             messages,
         } = self;
+        drop(processor);
         drop(input);
         drop(output);
         if let Ok(status) = program.wait() {
@@ -55,7 +69,9 @@ impl<P: OpenProcess + Drop> Running<P> {
         ensures number { self.new.number ≡ self.old.number }
         ensures fits { IfOk result (λ n. n ≤ length room.new) }
     {
-        read_some(&mut self.output, room)
+        let count = read_some(&mut self.output, room)?;
+        self.received = self.received.saturating_add(count as u64);
+        Ok(count)
     }
 }
 
@@ -65,6 +81,7 @@ fn start_program<R: Processes>(
     processes: &R,
     messages: Stderr,
     number: u32,
+    processor: &str,
     command: &[String],
 ) -> io::Result<Running<R::Started>>
     ensures number { IfOk result (λ running. running.number ≡ number) }
@@ -76,6 +93,7 @@ fn start_program<R: Processes>(
     let Some((program, arguments)) = command.split_first() else {
         return Err(Error::new(ErrorKind::InvalidInput, "a command without words"));
     };
+    let processor = String::from_str(alloc, processor)?;
     let name = String::from_str(alloc, program.as_str())?;
     let mut call = Command::new(alloc, program.as_str())?;
     for argument in arguments {
@@ -88,15 +106,37 @@ fn start_program<R: Processes>(
     match (program.stdin.take(), program.stdout.take()) {
         (Some(input), Some(output)) => Ok(Running {
             number,
+            processor,
             name,
             input,
             output,
             program,
+            received: 0,
             messages,
         }),
         _ => {
             program.wait()?;
             Err(Error::new(ErrorKind::BrokenPipe, "a program without pipes"))
+        }
+    }
+}
+
+/// Whether a read has not to wait for longer than the seconds of patience.
+fn is_ready(output: &ChildStdout) -> bool {
+    let mut waited_for = [pollfd {
+        fd: output.as_raw_fd(),
+        events: POLLIN,
+        revents: 0,
+    }];
+    poll(&mut waited_for, PATIENCE * 1000) != 0
+}
+
+impl Running<SystemProcess> {
+    /// Waits until there is something to read, or the child's output has ended, and says whom it waits for where that
+    /// takes longer than the seconds of patience.
+    fn await_answer(&self) {
+        if !is_ready(&self.output) {
+            say_silence(self.messages, self.processor.as_str(), PATIENCE);
         }
     }
 }
@@ -113,7 +153,7 @@ fn first_word(command: &[String]) -> &str {
 /// many were started and which run, and not what they say.
 ///
 /// A send to a program that has ended, or closed its input, is a failure and no signal. A program that neither answers
-/// nor ends keeps the host waiting: nothing here has a limit of time.
+/// nor ends keeps the host waiting: nothing here has a limit of time. It is said who has sent nothing for some seconds.
 #[derive(Drop)]
 pub struct PipeChildren<R: Processes> {
     pub alloc: Global,
@@ -122,6 +162,8 @@ pub struct PipeChildren<R: Processes> {
     pub running: Vec<Running<R::Started>>,
     /// How many were started.
     pub starts: u32,
+    /// What the child sends that was sent the last frame.
+    pub talk: Talk,
     pub faults: Faults,
     ghost numbered: { All (λ running. running.number < starts) running.items },
 }
@@ -138,6 +180,7 @@ impl<R: Processes + Drop> PipeChildren<R> {
             processes,
             running: Vec::new(alloc),
             starts: 0,
+            talk: Talk::new(alloc),
             faults: Faults::new(messages),
         }
     }
@@ -154,7 +197,7 @@ impl<R: Processes + Drop> PipeChildren<R> {
     }
 }
 
-impl<R: Processes + Drop> Children for PipeChildren<R> {
+impl<R: Processes<Started = SystemProcess> + Drop> Children for PipeChildren<R> {
     ghost tells = { false };
 
     ghost faults = { λ c. c.faults.count };
@@ -169,10 +212,10 @@ impl<R: Processes + Drop> Children for PipeChildren<R> {
 
     ghost sound = { λ _ _ _. tt };
 
-    fn start(&mut self, _name: &str, command: &[String]) -> Result<u32, Fault> {
+    fn start(&mut self, name: &str, command: &[String]) -> Result<u32, Fault> {
         let number = self.starts;
         let messages = self.faults.messages;
-        let started = start_program(self.alloc, &self.processes, messages, number, command);
+        let started = start_program(self.alloc, &self.processes, messages, number, name, command);
         let attempt = Attempt::new("start", first_word(command));
         let running = self.faults.count_failure(attempt, Failure::of(started))?;
         self.running.push(running)?;
@@ -182,6 +225,8 @@ impl<R: Processes + Drop> Children for PipeChildren<R> {
 
     fn send(&mut self, child: u32, frame: &[u8]) -> Result<(), Fault> {
         let place = self.place_of(child);
+        let received = self.running[place].received;
+        self.talk.begin_answer(frame, received);
         let sent = self.running[place].send(frame);
         let attempt = Attempt::new("send to", self.running[place].name.as_str());
         self.faults.count_failure(attempt, Failure::of(sent))
@@ -189,7 +234,9 @@ impl<R: Processes + Drop> Children for PipeChildren<R> {
 
     fn receive(&mut self, child: u32, room: &mut [u8]) -> Result<usize, Fault> {
         let place = self.place_of(child);
+        self.running[place].await_answer();
         let received = self.running[place].receive(room);
+        self.talk.take(room, &received);
         let attempt = Attempt::new("receive from", self.running[place].name.as_str());
         self.faults.count_failure(attempt, Failure::of(received))
     }

@@ -337,7 +337,10 @@ pub fn parse_shape(alloc: Global, bytes: &[u8]) -> Result<Unit, FormFault>
     ensures bad { result ≡ Err Bad → IsNoShape bytes.now }
 {
     match whole(alloc, bytes) {
-        Ok(text) => Ok(Unit::new(alloc, text)?),
+        Ok(text) => {
+            let unit = Unit::new(alloc, text)?;
+            Ok(unit)
+        }
         Err(fault) => Err(fault),
     }
 }
