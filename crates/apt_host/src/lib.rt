@@ -14,3 +14,4 @@ mod words;
 
 pub use call::{refuse_cut_words, run};
 pub use project_reading::{Place, Status, least_path_is_refused};
+pub use project_units::Refusal;

@@ -4,11 +4,13 @@ ghost use Rattle.std.specs.List.{flat_map};
 ghost use Rattle.apt_host.specs.Report.{kind_text, escaped, message_text, message_line, message_lines, unread_line, first_lines, file_line, file_lines, errors_report};
 ghost use Rattle.project_units.specs.Refusals.{BadConfig, BadStub, BadSource, DuplicateType, BadGenerated, ClaimBroken};
 ghost use Rattle.apt_host.specs.RefusalLines.{IsLineOf, what_text, claim_text, place_text, line_of, refusal_of};
-ghost use Rattle.project_reading.specs.Verdicts.{verdict, shown_place};
+ghost use Rattle.project_units.specs.Faults.{stop_of};
+ghost use Rattle.project_reading.specs.Verdicts.{verdict, stopped, shown_place};
 ghost use Rattle.apt_host.specs.Listed.{listed, summary_of, report_for};
 
 use apt_base::{Claim, List, Name, NoMemory, What};
 use project_reading::{Place, Status};
+use project_units::Refusal;
 use round_engine::Placed;
 use std::alloc::{AllocError, Global};
 use tree_store::StoredFile;
@@ -305,6 +307,42 @@ fn duplicate_line(
     format!(in alloc; "refused: DuplicateType({name}, {first}, {second})\n")
 }
 
+// The line of what a run may come to.
+fn run_line(alloc: Global, refusal: &Refusal) -> Result<String, AllocError>
+    ensures { IfOk result (λ text. string_bytes text ≡ refusal_of (stopped (stop_of refusal.now))) }
+{
+    match refusal {
+        Refusal::ChildFault { processor } => {
+            let processor = processor.as_str();
+            format!(in alloc; "refused: ChildFault({processor})\n")
+        }
+        Refusal::UnbuiltTalk { processor } => {
+            let processor = processor.as_str();
+            format!(in alloc; "refused: UnbuiltTalk({processor})\n")
+        }
+        Refusal::TooManyQuestions { processor, limit } => {
+            let processor = processor.as_str();
+            format!(in alloc; "refused: TooManyQuestions({processor}, {limit})\n")
+        }
+        Refusal::ClaimBroken {
+            processor,
+            declared,
+            said,
+        } => claim_line(alloc, processor.as_str(), *declared, *said),
+        Refusal::BadGenerated { path, place } => bad_generated_line(alloc, path.as_str(), *place),
+        Refusal::GeneratedDuplicate { name } => {
+            let name = name.as_str();
+            format!(in alloc; "refused: GeneratedDuplicate({name})\n")
+        }
+        Refusal::TooManyRounds => String::from_str(alloc, "refused: TooManyRounds(64)\n"),
+        Refusal::TooLarge { what, limit } => {
+            let what = what_text(*what);
+            format!(in alloc; "refused: TooLarge({what}, {limit})\n")
+        }
+        Refusal::Memory => String::from_str(alloc, "refused: Memory\n"),
+    }
+}
+
 /// The line of a refusal. A build that ended with a report has none.
 pub fn refusal(alloc: Global, status: &Status) -> Result<String, AllocError>
     ensures { IfOk result (λ text. string_bytes text ≡ refusal_of (verdict status.now)) }
@@ -324,35 +362,9 @@ pub fn refusal(alloc: Global, status: &Status) -> Result<String, AllocError>
             first,
             second,
         } => duplicate_line(alloc, name.as_str(), first.as_str(), second.as_str()),
-        Status::BadGenerated { path, place } => bad_generated_line(alloc, path.as_str(), *place),
-        Status::UnbuiltTalk { processor } => {
-            let processor = processor.as_str();
-            format!(in alloc; "refused: UnbuiltTalk({processor})\n")
-        }
-        Status::TooManyQuestions { processor, limit } => {
-            let processor = processor.as_str();
-            format!(in alloc; "refused: TooManyQuestions({processor}, {limit})\n")
-        }
-        Status::ClaimBroken {
-            processor,
-            declared,
-            said,
-        } => claim_line(alloc, processor.as_str(), *declared, *said),
-        Status::GeneratedDuplicate { name } => {
-            let name = name.as_str();
-            format!(in alloc; "refused: GeneratedDuplicate({name})\n")
-        }
-        Status::TooManyRounds => String::from_str(alloc, "refused: TooManyRounds(64)\n"),
-        Status::TooLarge { what, limit } => {
-            let what = what_text(*what);
-            format!(in alloc; "refused: TooLarge({what}, {limit})\n")
-        }
+        Status::Refused(refusal) => run_line(alloc, refusal),
         Status::TreeFault => String::from_str(alloc, "refused: TreeFault\n"),
         Status::SinkFault => String::from_str(alloc, "refused: SinkFault\n"),
-        Status::ChildFault { processor } => {
-            let processor = processor.as_str();
-            format!(in alloc; "refused: ChildFault({processor})\n")
-        }
         Status::Memory => String::from_str(alloc, "refused: Memory\n"),
     }
 }

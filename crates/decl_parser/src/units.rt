@@ -8,9 +8,9 @@ ghost use Rattle.decl_parser.specs.Parsed.{UnitsLegal, UnitLegal};
 
 use crate::file::OrdinaryFile;
 use crate::info_file::{InfoFile, PackageText};
-use apt_base::{List, Name, NoMemory, copy_names};
+use apt_base::{List, Name, NoMemory};
 use decl_grammar::{Lines, NameAt, TypeAt};
-use decl_tree::{Body, Import, TypeDecl, Unit, UnitText};
+use decl_tree::{Body, Import, Shared, TypeDecl, Unit, UnitText};
 use std::alloc::Global;
 
 // The simple names of the types.
@@ -23,19 +23,6 @@ fn names_of(alloc: Global, types: &[Option<TypeAt>]) -> Result<Vec<Name>, NoMemo
         if let Some(declaration) = next {
             all.push(declaration.declaration.name.copy()?)?;
         }
-        rest = after;
-    }
-    Ok(all)
-}
-
-// A copy of imports.
-fn copy_imports(alloc: Global, imports: &[Import]) -> Result<List<Import>, NoMemory>
-    ensures { IfOk result (λ list. list ≡ imports.now) }
-{
-    let mut all = List::new(alloc);
-    let mut rest = imports;
-    'row: while let [next, after @ ..] = rest {
-        all.push(next.copy()?)?;
         rest = after;
     }
     Ok(all)
@@ -55,19 +42,20 @@ fn package_of_name(alloc: Global, name: &Option<NameAt>) -> Result<Name, NoMemor
 fn unit(
     alloc: Global,
     package: &Name,
-    imports: &List<Import>,
-    siblings: &List<Name>,
+    imports: &Shared<List<Import>>,
+    siblings: &Shared<List<Name>>,
     declaration: TypeDecl,
 ) -> Result<Unit, NoMemory>
     requires { is_legal (unit_of «package».now imports.now siblings.now declaration) ≡ true }
     ensures { IfOk result (λ u. u ≡ unit_of «package».now imports.now siblings.now declaration) }
 {
-    Ok(Unit::new(UnitText {
+    let text = UnitText {
         package: package.copy()?,
-        imports: copy_imports(alloc, imports.as_slice())?,
-        siblings: copy_names(alloc, siblings.as_slice())?,
+        imports: imports.share()?,
+        siblings: siblings.share()?,
         body: Body::Declared(declaration),
-    }))
+    };
+    Unit::new(alloc, text)
 }
 
 // Puts the unit of a type of this package and its lines behind others, and nothing for a `;`.
@@ -76,8 +64,8 @@ fn add_unit(
     all: &mut List<Unit>,
     lines: &mut List<Lines>,
     home: &Name,
-    imports: &List<Import>,
-    siblings: &List<Name>,
+    imports: &Shared<List<Import>>,
+    siblings: &Shared<List<Name>>,
     item: Option<TypeAt>,
 ) -> Result<(), NoMemory>
     requires { UnitLegal home.now imports.now siblings.now item }
@@ -102,8 +90,8 @@ fn add_unit(
 fn units_in(
     alloc: Global,
     package: &Name,
-    imports: &List<Import>,
-    siblings: &List<Name>,
+    imports: &Shared<List<Import>>,
+    siblings: &Shared<List<Name>>,
     types: List<Option<TypeAt>>,
 ) -> Result<(List<Unit>, List<Lines>), NoMemory>
     requires { UnitsLegal «package».now imports.now siblings.now types }
@@ -134,7 +122,8 @@ pub fn ordinary_declared(
         types,
     } = file;
     let package = package_of_name(alloc, &package)?;
-    let siblings = List::from_vec(names_of(alloc, types.as_slice())?);
+    let imports = Shared::new(alloc, imports)?;
+    let siblings = Shared::new(alloc, List::from_vec(names_of(alloc, types.as_slice())?))?;
     units_in(alloc, &package, &imports, &siblings, types)
 }
 
@@ -144,6 +133,8 @@ fn info_unit(alloc: Global, file: InfoFile) -> Result<Unit, NoMemory>
     ensures { IfOk result (λ u. u ≡ info_of (package_seen file.«package») file.imports) }
 {
     let InfoFile { package, imports } = file;
+    let imports = Shared::new(alloc, imports)?;
+    let siblings = Shared::new(alloc, List::new(alloc))?;
     match package {
         Some(text) => {
             let PackageText {
@@ -152,19 +143,23 @@ fn info_unit(alloc: Global, file: InfoFile) -> Result<Unit, NoMemory>
                 name,
             } = text;
             let NameAt { name, .. } = name;
-            Ok(Unit::new(UnitText {
+            let text = UnitText {
                 package: name,
                 imports,
-                siblings: List::new(alloc),
+                siblings,
                 body: Body::Info(annotations, doc),
-            }))
+            };
+            Unit::new(alloc, text)
         }
-        None => Ok(Unit::new(UnitText {
-            package: Name::new(alloc, "")?,
-            imports,
-            siblings: List::new(alloc),
-            body: Body::Info(List::new(alloc), None),
-        })),
+        None => {
+            let text = UnitText {
+                package: Name::new(alloc, "")?,
+                imports,
+                siblings,
+                body: Body::Info(List::new(alloc), None),
+            };
+            Unit::new(alloc, text)
+        }
     }
 }
 

@@ -19,7 +19,7 @@ use apt_base::{
     read_count, read_optional_text, read_text, read_texts,
 };
 use decl_tree::{
-    AnnotationText, Body, Member, TypeDecl, TypeKind, TypeParam, TypeText, Unit, UnitText,
+    AnnotationText, Body, Member, Shared, TypeDecl, TypeKind, TypeParam, TypeText, Unit, UnitText,
 };
 use std::alloc::Global;
 
@@ -304,11 +304,11 @@ fn unit(alloc: Global, reader: &mut FieldReader) -> Result<UnitText, FormFault>
     let imports = list_of(alloc, reader, 0)?;
     let siblings = read_texts(alloc, reader)?;
     let start = package_start(package.as_str());
-    let body = body(alloc, reader, MAX_DEPTH, start)?;
+    let body = body(alloc, reader, MAX_DEPTH as u32, start)?;
     Ok(UnitText {
         package,
-        imports,
-        siblings,
+        imports: Shared::new(alloc, imports)?,
+        siblings: Shared::new(alloc, siblings)?,
         body,
     })
 }
@@ -337,7 +337,7 @@ pub fn parse_shape(alloc: Global, bytes: &[u8]) -> Result<Unit, FormFault>
     ensures bad { result ≡ Err Bad → IsNoShape bytes.now }
 {
     match whole(alloc, bytes) {
-        Ok(text) => Ok(Unit::new(text)),
+        Ok(text) => Ok(Unit::new(alloc, text)?),
         Err(fault) => Err(fault),
     }
 }

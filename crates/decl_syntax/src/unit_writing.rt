@@ -109,8 +109,8 @@ fn unit(writer: &mut FieldWriter, unit: &UnitText) -> Result<(), NoMemory>
     ensures { OnOk result (writer.new ≡ writer.old ++ unit_form unit.now) }
 {
     write_text(writer, &unit.package)?;
-    write_list(writer, unit.imports.as_slice())?;
-    write_texts(writer, unit.siblings.as_slice())?;
+    write_list(writer, unit.imports.get().as_slice())?;
+    write_texts(writer, unit.siblings.get().as_slice())?;
     body(writer, &unit.body)
 }
 

@@ -4,7 +4,8 @@ ghost use Rattle.decl_tree.specs.Legal.{is_legal};
 
 use crate::annotation::{AnnotationText, copy_annotations};
 use crate::declaration::TypeDecl;
-use apt_base::{List, Name, NoMemory, copy_names, copy_optional_name};
+use crate::shared::Shared;
+use apt_base::{List, Name, NoMemory, copy_optional_name};
 use std::alloc::Global;
 use std::marker::Model;
 
@@ -25,15 +26,15 @@ pub struct Import {
     pub name: Name,
 }
 
-/// One top-level type of a file with what its file says around it, or a file `package-info.java`. It need not be legal: a `Unit` is.
+/// One top-level type of a file with what its file says around it, or a file `package-info.java`. It need not be legal: a `Unit` is. The units of one file share its imports and the names of its types.
 #[derive(Drop)]
 pub struct UnitText {
     /// The package's name, empty for the unnamed package (JLS 7.4).
     pub package: Name,
     /// The imports of the file, in their order.
-    pub imports: List<Import>,
+    pub imports: Shared<List<Import>>,
     /// The simple names of all top-level types of the file, its own among them; none for a package.
-    pub siblings: List<Name>,
+    pub siblings: Shared<List<Name>>,
     pub body: Body,
 }
 
@@ -44,16 +45,6 @@ pub enum Body {
     Declared(TypeDecl),
     /// The annotations and the text of the doc comment of a package (JLS 7.4.1).
     Info(List<AnnotationText>, Option<Name>),
-}
-
-fn copy_imports(alloc: Global, items: &[Import]) -> Result<List<Import>, NoMemory>
-    ensures { IfOk result (λ list. list ≡ items.now) }
-{
-    let mut copies = List::new(alloc);
-    for each in items {
-        copies.push(each.copy()?)?;
-    }
-    Ok(copies)
 }
 
 impl Import {
@@ -75,8 +66,8 @@ impl UnitText {
     {
         Ok(UnitText {
             package: self.package.copy()?,
-            imports: copy_imports(alloc, self.imports.as_slice())?,
-            siblings: copy_names(alloc, self.siblings.as_slice())?,
+            imports: self.imports.share()?,
+            siblings: self.siblings.share()?,
             body: self.body.copy(alloc)?,
         })
     }
@@ -97,10 +88,10 @@ impl Body {
     }
 }
 
-/// A unit that is legal: its names, child lists and texts and what nests in it are within their limits, its modifiers are of the twelve, and what `+` joins are two or more literals or chains. Contracts see it as its text; each value of this type is legal.
+/// A unit that is legal: its names, child lists and texts and what nests in it are within their limits, its modifiers are of the twelve, and what `+` joins are two or more literals or chains. Contracts see it as its text; each value of this type is legal, and equal ones may share their text.
 #[derive(Drop)]
 pub struct Unit {
-    text: UnitText,
+    text: Shared<UnitText>,
 }
 
 impl Model for Unit {
@@ -121,12 +112,14 @@ impl Model for Unit {
 }
 
 impl Unit {
-    /// The unit with this text, which is legal, as a condition. It takes no memory.
-    pub fn new(text: UnitText) -> Unit
+    /// The unit with this text, which is legal, as a condition.
+    pub fn new(alloc: Global, text: UnitText) -> Result<Unit, NoMemory>
         requires { is_legal text ≡ true }
-        ensures { result ≡ text }
+        ensures { IfOk result (λ unit. unit ≡ text) }
     {
-        Unit { text }
+        Ok(Unit {
+            text: Shared::new(alloc, text)?,
+        })
     }
 
     /// Its text.
@@ -134,13 +127,15 @@ impl Unit {
         ensures value { result.now ≡ self.now }
         ensures legal { is_legal result.now ≡ true }
     {
-        &self.text
+        self.text.get()
     }
 
-    /// An equal unit.
-    pub fn copy(&self, alloc: Global) -> Result<Unit, NoMemory>
+    /// An equal unit, which shares the text. It takes no memory, and fails only where more share it than are counted.
+    pub fn copy(&self) -> Result<Unit, NoMemory>
         ensures { IfOk result (λ unit. unit ≡ self.now) }
     {
-        Ok(Unit::new(self.text().copy(alloc)?))
+        Ok(Unit {
+            text: self.text.share()?,
+        })
     }
 }

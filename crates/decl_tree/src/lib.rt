@@ -9,6 +9,7 @@ mod annotation;
 mod compilation;
 mod declaration;
 mod member;
+mod shared;
 mod type_text;
 
 pub use annotation::{AnnotationText, ElementValuePair, ValueText};
@@ -16,4 +17,5 @@ pub use apt_base::Around;
 pub use compilation::{Body, Import, ImportKind, Unit, UnitText};
 pub use declaration::{Member, TypeDecl, TypeKind};
 pub use member::{ConstantDecl, ConstructorDecl, FieldDecl, MethodDecl, Param, TypeParam};
+pub use shared::Shared;
 pub use type_text::{BaseType, NamedPart, PrimitiveKind, TypeText};

@@ -110,7 +110,7 @@ impl Units {
     {
         let mut units = Units::new(alloc);
         for (name, unit) in &self.held {
-            units.add(String::from_str(alloc, name.as_str())?, unit.copy(alloc)?)?;
+            units.add(String::from_str(alloc, name.as_str())?, unit.copy()?)?;
         }
         Ok(units)
     }

@@ -1,5 +1,5 @@
 -- The first place that finds anything: where one finds something, none behind it is asked.
-use Rattle.std.proofs.Common.{◌≡◌, ℕ, zero, suc, ◌-◌, ◌<◌, Bool, false, List, [], ◌∷◌, if◌then◌else◌, refl, sym, ap, ◌∙◌, arith}
+use Rattle.std.proofs.Common.{◌≡◌, ℕ, zero, suc, ◌-◌, ◌<◌, List, [], ◌∷◌, refl, sym, ap, ◌∙◌, arith}
 use Rattle.name_resolve.specs.Finds.{Find, Finds, Nothing, One, Several, first_of, declared_types}
 use Rattle.name_resolve.specs.Meaning.{Tops, Members, inherited, members_within, along, along_or}
 
@@ -27,10 +27,6 @@ third_of x y z e f = first_skipped x (y ∷ z ∷ []) e ∙ second_of y z f
 
 pub fourth_of : (x y z w : Finds) → x ≡ Nothing → y ≡ Nothing → z ≡ Nothing → first_of (x ∷ y ∷ z ∷ w ∷ []) ≡ w
 fourth_of x y z w e f g = first_skipped x (y ∷ z ∷ w ∷ []) e ∙ third_of y z w f g
-
--- the file's place where the name is of no type of the file
-pub not_of_file : (b : Bool) (x : Finds) → b ≡ false → (if b then x else Nothing) ≡ Nothing
-not_of_file b x e = ap (λ (c : Bool). if c then x else Nothing) e
 
 -- ---- names behind one that means nothing or several things
 

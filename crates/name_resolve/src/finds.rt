@@ -82,7 +82,7 @@ pub(crate) fn is_nothing(finds: &Finds<'_>) -> bool
 pub(crate) fn is_sibling(unit: &Unit, name: &str) -> bool
     ensures { result ≡ list_any (bytes_eq name.now) unit.now.siblings }
 {
-    for each in unit.text().siblings.as_slice() {
+    for each in unit.text().siblings.get().as_slice() {
         if name == each.as_str() {
             return true;
         }

@@ -231,7 +231,7 @@ impl<'a> Looks<'a> {
         ensures value { Gives result (single_within self.now levels at.now.part at.now.unit.now name.now) }
         ensures wanted { IfErr result (IsWanted self.now levels) }
     {
-        let imports = at.unit.text().imports.as_slice();
+        let imports = at.unit.text().imports.get().as_slice();
         let finds = self.single_among(levels, at.part, name, imports)?;
         Ok(finds)
     }
@@ -267,7 +267,7 @@ impl<'a> Looks<'a> {
         ensures wanted { IfErr result (IsWanted self.now levels) }
     {
         let lang = top_of_package(self.alloc, self.table, at.part, "java.lang", name)?;
-        let imports = at.unit.text().imports.as_slice();
+        let imports = at.unit.text().imports.get().as_slice();
         let finds = self.on_demand_among(levels, at.part, name, imports, lang)?;
         Ok(finds)
     }

@@ -26,6 +26,10 @@ use Rattle.project_reading.specs.Configuration.{Options, Configuration, files_of
 
 -- ---- the files are read
 
+-- the stub files and the source files
+abbrev pub raw_files : List RawSource → List RawSource → RawSources
+raw_files stubs sources = record { sources = sources; stubs = stubs }
+
 -- the refusal of a project whose file at this path has no reading: a source, or a stub
 abbrev pub bad_at : Part → List ℕ → ℕ → Refusal
 bad_at Source path place = BadSource path place
@@ -167,14 +171,13 @@ pub record LeastIsRefused : Type 0 where
 abbrev pub named : RawSource → List ℕ × List ℕ
 named source = (source.path, source.bytes)
 
--- A project has the key of its configuration, with these options of the words, and of its stubs; it keeps the sources and the stubs that were read, and has the units of the stubs alone
--- beside all of them. The files are those of its tree, where that tells what it holds.
+-- A project has the key of its configuration, with these options of the words, and of its stubs; it keeps the stubs that were read, and has the units of the stubs alone
+-- beside those of all files. The files are those of its tree, where that tells what it holds.
 pub record KeepsAll (tells : Bool) (options : Options) (files : Files) (project : Project) : Type 0 where
   pub configuration : Configuration
   pub is_configuration : Told tells (files_of files ≡ Ok configuration)
   pub given : RawSources
   pub are_given : Told tells (sources_of files ≡ Ok given)
-  pub sources : project.sources ≡ map named given.sources
   pub key : IsKeyOf options configuration (map named given.stubs) project.key
   pub tables : tables_of given ≡ Ok (record { stubs = project.stubs; initial = project.initial })
 

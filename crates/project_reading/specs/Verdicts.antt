@@ -3,6 +3,7 @@ use Rattle.std.specs.Prelude.{◌≡◌, ◌⊎◌, ℕ, ◌≤◌, Bool, true, 
 use Rattle.apt_outside.specs.Count.{Rose}
 use Rattle.project_units.specs.Refusals as stop
 use Rattle.project_units.specs.Refusals.{Refusal, BadWords, BadConfig, UnknownProcessor, BadStub, BadSource, DuplicateType, BadGenerated, UnbuiltTalk, TooManyQuestions, ClaimBroken, GeneratedDuplicate, TooManyRounds, TooLarge, Place, Object, Tree, Sink, Children, Stop, processor_of}
+use Rattle.project_units.specs.Faults.{stop_of}
 use Rattle.project_reading.specs.declared.status.Place as status
 use Rattle.project_reading.specs.declared.status.Place.TheVariants as code_place
 use Rattle.project_reading.specs.declared.status.Status.{Status}
@@ -24,6 +25,12 @@ shown_place code_place.Json = stop.Json
 shown_place (code_place.Item item) = stop.Item item
 shown_place (code_place.Line line) = stop.Line line
 
+-- a run that ended early
+abbrev pub stopped : Stop → Verdict
+stopped (stop.Refused refusal) = Refused refusal
+stopped (stop.Failed object) = Failed object
+stopped stop.Memory = Memory
+
 abbrev pub verdict : Status → Verdict
 verdict code.Done = Done
 verdict (code.Errors count) = Errors count
@@ -33,23 +40,10 @@ verdict (code.UnknownProcessor name) = Refused (UnknownProcessor name)
 verdict (code.BadStub path place) = Refused (BadStub path place)
 verdict (code.BadSource path place) = Refused (BadSource path place)
 verdict (code.DuplicateType name first second) = Refused (DuplicateType name first second)
-verdict (code.BadGenerated path place) = Refused (BadGenerated path place)
-verdict (code.UnbuiltTalk processor) = Refused (UnbuiltTalk processor)
-verdict (code.TooManyQuestions processor most) = Refused (TooManyQuestions processor most)
-verdict (code.ClaimBroken processor declared said) = Refused (ClaimBroken processor declared said)
-verdict (code.GeneratedDuplicate name) = Refused (GeneratedDuplicate name)
-verdict code.TooManyRounds = Refused TooManyRounds
-verdict (code.TooLarge what limit) = Refused (TooLarge what limit)
+verdict (code.Refused refusal) = stopped (stop_of refusal)
 verdict code.TreeFault = Failed Tree
 verdict code.SinkFault = Failed Sink
-verdict (code.ChildFault processor) = Failed (Children processor)
 verdict code.Memory = Memory
-
--- a run that ended early
-abbrev pub stopped : Stop → Verdict
-stopped (stop.Refused refusal) = Refused refusal
-stopped (stop.Failed object) = Failed object
-stopped stop.Memory = Memory
 
 -- ---- its kinds
 

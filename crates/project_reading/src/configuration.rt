@@ -3,7 +3,7 @@ ghost use Rattle.std.specs.Prelude.{◌≡◌, ◌≤◌, [], length, map, IfOk,
 ghost use Rattle.apt_outside.specs.Count.{Told};
 ghost use Rattle.tree_store.specs.Config.{path_of};
 ghost use Rattle.project_config.specs.Settled.{IsSettled};
-ghost use Rattle.project_units.specs.Refusals.{BadConfig, past};
+ghost use Rattle.project_units.specs.Refusals.{BadConfig};
 ghost use Rattle.project_units.specs.Plans.{plan_of};
 ghost use Rattle.project_reading.specs.Configuration.{files_of, said, settings_in, plan_in, fitting, plan_by, key_processor, key_in, IsKeyOf};
 ghost use Rattle.project_reading.specs.Verdicts.{verdict, shown_place, named_in, Refused, OrMemory, is_tree, HasCause};
@@ -11,11 +11,11 @@ ghost use Rattle.project_reading.specs.Endings.{ended, EndsEarly};
 ghost use Rattle.project_reading.specs.Entering.{of_read, of_config, IsDueRead, ComesAs, ComesTo, shown_configuration, IsWithin};
 
 use crate::Status;
-use crate::status::Place;
+use crate::status::{Place, past_limit};
 use apt_base::{List, Name, NoMemory, What};
 use apt_outside::Tree;
 use project_config::{ConfigFault, Processor, Settings, has_order, read_settings};
-use project_units::{Key, KeyProcessor, inits_fit, limit_of};
+use project_units::{Key, KeyProcessor, inits_fit};
 use std::alloc::Global;
 use tree_store::{ConfigFile, ConfigReadFault, RawLists, read_config, read_lists};
 
@@ -29,17 +29,6 @@ pub struct RawConfiguration {
 }
 
 // ---- refusals
-
-fn past_limit(what: What) -> Status
-    ensures is { verdict result ≡ Refused (past what) }
-    ensures early { EndsEarly (λ _. false) (verdict result) }
-    ensures unnamed { named_in (verdict result) ≡ None }
-{
-    Status::TooLarge {
-        what,
-        limit: limit_of(what),
-    }
-}
 
 impl From<ConfigReadFault> for Status {
     ghost from_gives = { λ fault e. verdict e ≡ of_read fault };

@@ -10,11 +10,12 @@ ghost use Rattle.project_reading.specs.Entering.{of_sources, IsDueRead, ComesAs}
 use crate::Status;
 use crate::configuration::{key_of, read_files};
 use crate::sources::{Tables, named_files, tables_of};
+use crate::status::past_limit;
 use apt_base::{List, Name, NoMemory};
 use apt_outside::Tree;
-use project_units::{Key, Project, limit_of};
+use project_units::{Key, Project};
 use std::alloc::Global;
-use tree_store::{RawSources, SourceReadFault, read_sources};
+use tree_store::{RawSource, RawSources, SourceReadFault, read_sources};
 
 impl From<SourceReadFault> for Status {
     ghost from_gives = { λ fault e. verdict e ≡ of_sources fault };
@@ -22,10 +23,7 @@ impl From<SourceReadFault> for Status {
     fn from(fault: SourceReadFault) -> Status {
         match fault {
             SourceReadFault::Failed => Status::TreeFault,
-            SourceReadFault::TooLarge { what } => Status::TooLarge {
-                what,
-                limit: limit_of(what),
-            },
+            SourceReadFault::TooLarge { what } => past_limit(what),
             SourceReadFault::Memory => Status::Memory,
         }
     }
@@ -49,20 +47,21 @@ fn with_stubs(key: Key, stubs: List<(Name, List<u8>)>) -> Key
     }
 }
 
-// The project with this key, these files and the tables of their units.
-fn kept(alloc: Global, key: Key, files: RawSources, tables: Tables) -> Result<Project, NoMemory>
-    ensures key { IfOk result (λ project. project.key ≡ with_stubs key (map named files.stubs)) }
-    ensures sources { IfOk result (λ project. project.sources ≡ map named files.sources) }
+// The project with this key, these stub files and the tables of its units.
+fn kept(
+    alloc: Global,
+    key: Key,
+    stubs: List<RawSource>,
+    tables: Tables,
+) -> Result<Project, NoMemory>
+    ensures key { IfOk result (λ project. project.key ≡ with_stubs key (map named stubs)) }
     ensures stubs { IfOk result (λ project. project.stubs ≡ tables.stubs) }
     ensures initial { IfOk result (λ project. project.initial ≡ tables.initial) }
 {
-    let RawSources { sources, stubs } = files;
-    let sources = named_files(alloc, sources)?;
     let key = with_stubs(key, named_files(alloc, stubs)?);
     let Tables { stubs, initial } = tables;
     Ok(Project {
         key,
-        sources,
         stubs,
         initial,
     })
@@ -70,7 +69,7 @@ fn kept(alloc: Global, key: Key, files: RawSources, tables: Tables) -> Result<Pr
 
 /// Reads a project, with these options of the words over those of its configuration: first all of its files, those of the
 /// configuration, the sources, and the stubs; then what they say, the configuration before the stubs and the stubs before the sources;
-/// and then their units enter the type table, in this order.
+/// and then their units enter the type table, in this order. Of the files it keeps the bytes of the stubs alone.
 pub fn read_project<T: Tree>(
     alloc: Global,
     options: &List<(Name, Name)>,
@@ -88,6 +87,7 @@ pub fn read_project<T: Tree>(
     let raw = read_files(alloc, tree)?;
     let files = read_sources(alloc, tree)?;
     let key = key_of(alloc, &raw, options)?;
-    let tables = tables_of(alloc, &files)?;
-    Ok(kept(alloc, key, files, tables)?)
+    let RawSources { sources, stubs } = files;
+    let tables = tables_of(alloc, stubs.as_slice(), sources)?;
+    Ok(kept(alloc, key, stubs, tables)?)
 }

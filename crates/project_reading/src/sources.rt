@@ -4,18 +4,19 @@ ghost use Rattle.apt_base.specs.Limits.{max_file_bytes};
 ghost use Rattle.tree_store.specs.Sources.{AreShort, AreAllShort};
 ghost use Rattle.project_reading.specs.Verdicts.{verdict, named_in, Refused, OrMemory};
 ghost use Rattle.project_reading.specs.Endings.{EndsEarly};
-ghost use Rattle.project_reading.specs.Project.{bad_at, read_source, read_all, read_both, gives, first_with, enter_next, enter_all, enter_both, tables_of, named};
+ghost use Rattle.project_reading.specs.Project.{bad_at, read_source, read_all, read_both, gives, first_with, enter_next, enter_all, enter_both, tables_of, named, raw_files};
 ghost use Rattle.project_reading.specs.Entering.{of_unread, given_again, of_units, filled, IsDueRead, ComesTo, Fills, StopsLeast};
 
 use crate::Status;
+use crate::status::past_limit;
 use apt_base::{List, Name, NoMemory, What};
 use decl_parser::ParseFault;
 use decl_tree::Unit;
 use element_table::{Part, Table};
 use file_readings::read_declarations;
-use project_units::{UnitFault, enter_units, limit_of};
+use project_units::{UnitFault, enter_units};
 use std::alloc::Global;
-use tree_store::{RawSource, RawSources};
+use tree_store::RawSource;
 
 /// A file that was read, a source or a stub.
 #[derive(Drop)]
@@ -75,10 +76,7 @@ fn unread(part: Part, path: Name, fault: ParseFault) -> Status
 {
     match fault {
         ParseFault::Bad { place } => bad(part, path, place),
-        ParseFault::TooLarge { what } => Status::TooLarge {
-            what,
-            limit: limit_of(what),
-        },
+        ParseFault::TooLarge { what } => past_limit(what),
         ParseFault::Memory => Status::Memory,
     }
 }
@@ -125,16 +123,64 @@ fn read_all(alloc: Global, part: Part, sources: &[RawSource]) -> Result<List<Rea
     read_each(alloc, part, sources)
 }
 
-// Reads all stubs and then all sources, up to the first that is refused.
-fn read_both(alloc: Global, files: &RawSources) -> Result<ReadSources, Status>
-    requires { AreAllShort files.now }
-    ensures read { ComesTo (read_both files.now) result }
+// Reads a file, whose bytes are let go then.
+fn read_once(alloc: Global, part: Part, source: RawSource) -> Result<ReadSource, Status>
+    requires { length source.bytes ≤ max_file_bytes }
+    ensures read { ComesTo (read_source part source) result }
+    ensures early { IfErr result (λ status. EndsEarly (λ _. false) (verdict status)) }
+    ensures unnamed { IfErr result (λ status. named_in (verdict status) ≡ None) }
+{
+    read_source(alloc, part, &source)
+}
+
+// The same as `read_each`, where the bytes of each file are let go once it is read.
+fn read_each_once(
+    alloc: Global,
+    part: Part,
+    sources: List<RawSource>,
+) -> Result<List<ReadSource>, Status>
+    requires { AreShort sources }
+    ensures read { ComesTo (read_all part sources) result }
+    ensures early { IfErr result (λ status. EndsEarly (λ _. false) (verdict status)) }
+    ensures unnamed { IfErr result (λ status. named_in (verdict status) ≡ None) }
+{
+    let mut read = List::new(alloc);
+    for source in sources.into_vec() {
+        read.push(read_once(alloc, part, source)?)?;
+    }
+    Ok(read)
+}
+
+// The same as `read_all`, where the bytes of each file are let go once it is read.
+fn read_all_once(
+    alloc: Global,
+    part: Part,
+    sources: List<RawSource>,
+) -> Result<List<ReadSource>, Status>
+    requires { AreShort sources }
+    ensures read { ComesTo (read_all part sources) result }
+    ensures early { IfErr result (λ status. EndsEarly (λ _. false) (verdict status)) }
+    ensures unnamed { IfErr result (λ status. named_in (verdict status) ≡ None) }
+    ensures due { IfErr result (λ status. IsDueRead (verdict status)) }
+    ensures least { StopsLeast part sources result }
+{
+    read_each_once(alloc, part, sources)
+}
+
+// Reads all stubs and then all sources, up to the first that is refused. The bytes of the stubs stay, and those of the sources are let go.
+fn read_both(
+    alloc: Global,
+    stubs: &[RawSource],
+    sources: List<RawSource>,
+) -> Result<ReadSources, Status>
+    requires { AreAllShort (raw_files stubs.now sources) }
+    ensures read { ComesTo (read_both (raw_files stubs.now sources)) result }
     ensures early { IfErr result (λ status. EndsEarly (λ _. false) (verdict status)) }
     ensures unnamed { IfErr result (λ status. named_in (verdict status) ≡ None) }
     ensures due { IfErr result (λ status. IsDueRead (verdict status)) }
 {
-    let stubs = read_all(alloc, Part::Stub, files.stubs.as_slice())?;
-    let sources = read_all(alloc, Part::Source, files.sources.as_slice())?;
+    let stubs = read_all(alloc, Part::Stub, stubs)?;
+    let sources = read_all_once(alloc, Part::Source, sources)?;
     Ok(ReadSources { stubs, sources })
 }
 
@@ -187,10 +233,7 @@ fn unentered(before: &[EnteredSource], path: Name, fault: UnitFault) -> Status
 {
     match fault {
         UnitFault::Duplicate { name } => given_again(before, name, path),
-        UnitFault::TooMany => Status::TooLarge {
-            what: What::Types,
-            limit: limit_of(What::Types),
-        },
+        UnitFault::TooMany => past_limit(What::Types),
         UnitFault::Memory => Status::Memory,
     }
 }
@@ -254,15 +297,19 @@ fn enter_both(alloc: Global, read: ReadSources) -> Result<Tables, Status>
 }
 
 /// The type tables of these files, or the first refusal: all files are read before the units of the first are entered, each time the
-/// stubs before the sources and each part in order of path.
-pub fn tables_of(alloc: Global, files: &RawSources) -> Result<Tables, Status>
-    requires { AreAllShort files.now }
-    ensures tables { ComesTo (tables_of files.now) result }
+/// stubs before the sources and each part in order of path. The bytes of the sources are let go as they are read.
+pub fn tables_of(
+    alloc: Global,
+    stubs: &[RawSource],
+    sources: List<RawSource>,
+) -> Result<Tables, Status>
+    requires { AreAllShort (raw_files stubs.now sources) }
+    ensures tables { ComesTo (tables_of (raw_files stubs.now sources)) result }
     ensures early { IfErr result (λ status. EndsEarly (λ _. false) (verdict status)) }
     ensures unnamed { IfErr result (λ status. named_in (verdict status) ≡ None) }
     ensures due { IfErr result (λ status. IsDueRead (verdict status)) }
 {
-    let read = read_both(alloc, files)?;
+    let read = read_both(alloc, stubs, sources)?;
     enter_both(alloc, read)
 }
 

@@ -1,11 +1,13 @@
 // How a call of `run` ends.
-ghost use Rattle.std.specs.Prelude.{◌≡◌, IfOk};
+ghost use Rattle.std.specs.Prelude.{◌≡◌, IfOk, None, false};
 ghost use Rattle.project_units.specs.Faults.{stop_of};
+ghost use Rattle.project_units.specs.Refusals.{past};
 ghost use Rattle.project_reading.specs.declared.status.Status.TheVariants as code;
-ghost use Rattle.project_reading.specs.Verdicts.{verdict, stopped, code_of};
-ghost use Rattle.project_reading.specs.Endings.{of_store};
+ghost use Rattle.project_reading.specs.Verdicts.{verdict, stopped, code_of, named_in, Refused};
+ghost use Rattle.project_reading.specs.Endings.{of_store, EndsEarly};
 
-use apt_base::{Claim, Name, NoMemory, What};
+use apt_base::{Name, NoMemory, What};
+use project_units::{Refusal, limit_of};
 use tree_store::StoreFault;
 
 /// Where a file of the configuration is off its form.
@@ -83,94 +85,40 @@ pub enum Status {
         /// The path of the one that gave it again.
         second: Name,
     },
-    /// A created source that is to be read has no reading.
-    BadGenerated {
-        /// Its path in the output.
-        path: Name,
-        /// The offset of its first fault, in bytes.
-        place: u32,
-    },
-    /// A child's bytes are not the frames that can be read so far, in their order, or it ended inside a frame.
-    UnbuiltTalk {
-        /// The processor's name.
-        processor: Name,
-    },
-    /// A child asked more often in one round than it may.
-    TooManyQuestions {
-        /// The processor's name.
-        processor: Name,
-        /// How often it may.
-        limit: u32,
-    },
-    /// A child was done with a round, and said another thing of the claim than its processor had declared (JSR 269,
-    /// `Processor.process`).
-    ClaimBroken {
-        /// The processor's name.
-        processor: Name,
-        /// What it declared: `Always` or `Never`.
-        declared: Claim,
-        /// What the child said.
-        said: bool,
-    },
-    /// A created source gives a type that is there (JSR 269, `Filer`).
-    GeneratedDuplicate {
-        /// The canonical name of the type.
-        name: Name,
-    },
-    /// Round 64 would not be the last.
-    TooManyRounds,
-    /// What is counted passes its limit: the bytes of a file of the configuration, the sources or the stubs, the bytes of one of them or
-    /// of all sources or all stubs, the processors, the bytes of a first frame to a processor, what is nested in a Java file, the children
-    /// of an element, the bytes of a canonical name, or the types of the table.
-    TooLarge {
-        /// Which limit.
-        what: What,
-        /// How much there may be.
-        limit: u32,
-    },
+    /// What a run may come to: a fault of a child or of what it said or made, or a limit that was passed (JSR 269, `Processor` and
+    /// `Filer`). Reading a project too may pass a limit: the bytes of a file of the configuration, the sources or the stubs, the bytes of
+    /// one of them or of all sources or all stubs, the processors, what is nested in a Java file, the children of an element, the bytes of
+    /// a canonical name, or the types of the table.
+    Refused(Refusal),
     /// A call of the tree failed.
     TreeFault,
     /// A call of the sink failed.
     SinkFault,
-    /// A call of the children failed.
-    ChildFault {
-        /// The processor's name.
-        processor: Name,
-    },
     /// Out of memory.
     Memory,
 }
 
-impl From<project_units::Refusal> for Status {
+impl From<Refusal> for Status {
     ghost from_gives = { λ refusal e. verdict e ≡ stopped (stop_of refusal) };
 
-    fn from(refusal: project_units::Refusal) -> Status {
+    fn from(refusal: Refusal) -> Status {
         match refusal {
-            project_units::Refusal::ChildFault { processor } => Status::ChildFault { processor },
-            project_units::Refusal::UnbuiltTalk { processor } => Status::UnbuiltTalk { processor },
-            project_units::Refusal::TooManyQuestions { processor, limit } => {
-                Status::TooManyQuestions { processor, limit }
-            }
-            project_units::Refusal::ClaimBroken {
-                processor,
-                declared,
-                said,
-            } => Status::ClaimBroken {
-                processor,
-                declared,
-                said,
-            },
-            project_units::Refusal::BadGenerated { path, place } => {
-                Status::BadGenerated { path, place }
-            }
-            project_units::Refusal::GeneratedDuplicate { name } => {
-                Status::GeneratedDuplicate { name }
-            }
-            project_units::Refusal::TooManyRounds => Status::TooManyRounds,
-            project_units::Refusal::TooLarge { what, limit } => Status::TooLarge { what, limit },
-            project_units::Refusal::Memory => Status::Memory,
+            Refusal::Memory => Status::Memory,
+            refusal => Status::Refused(refusal),
         }
     }
+}
+
+/// The end of a call that passes a limit.
+pub(crate) fn past_limit(what: What) -> Status
+    ensures is { verdict result ≡ Refused (past what) }
+    ensures early { EndsEarly (λ _. false) (verdict result) }
+    ensures unnamed { named_in (verdict result) ≡ None }
+{
+    Status::Refused(Refusal::TooLarge {
+        what,
+        limit: limit_of(what),
+    })
 }
 
 impl From<StoreFault> for Status {
@@ -225,39 +173,9 @@ impl Status {
                 first: first.copy()?,
                 second: second.copy()?,
             }),
-            Status::BadGenerated { path, place } => Ok(Status::BadGenerated {
-                path: path.copy()?,
-                place: *place,
-            }),
-            Status::UnbuiltTalk { processor } => Ok(Status::UnbuiltTalk {
-                processor: processor.copy()?,
-            }),
-            Status::TooManyQuestions { processor, limit } => Ok(Status::TooManyQuestions {
-                processor: processor.copy()?,
-                limit: *limit,
-            }),
-            Status::ClaimBroken {
-                processor,
-                declared,
-                said,
-            } => Ok(Status::ClaimBroken {
-                processor: processor.copy()?,
-                declared: *declared,
-                said: *said,
-            }),
-            Status::GeneratedDuplicate { name } => {
-                Ok(Status::GeneratedDuplicate { name: name.copy()? })
-            }
-            Status::TooManyRounds => Ok(Status::TooManyRounds),
-            Status::TooLarge { what, limit } => Ok(Status::TooLarge {
-                what: *what,
-                limit: *limit,
-            }),
+            Status::Refused(refusal) => Ok(Status::Refused(refusal.copy()?)),
             Status::TreeFault => Ok(Status::TreeFault),
             Status::SinkFault => Ok(Status::SinkFault),
-            Status::ChildFault { processor } => Ok(Status::ChildFault {
-                processor: processor.copy()?,
-            }),
             Status::Memory => Ok(Status::Memory),
         }
     }
@@ -273,19 +191,29 @@ impl Status {
             Status::Memory => 3,
             Status::TreeFault => 4,
             Status::SinkFault => 5,
-            Status::ChildFault { .. } => 7,
-            Status::TooManyQuestions { .. } => 11,
-            Status::ClaimBroken { .. } => 12,
             Status::BadConfig { .. } => 13,
             Status::BadStub { .. } => 14,
             Status::BadSource { .. } => 15,
             Status::DuplicateType { .. } => 16,
             Status::UnknownProcessor { .. } => 17,
-            Status::BadGenerated { .. } => 18,
-            Status::GeneratedDuplicate { .. } => 19,
-            Status::TooManyRounds => 20,
-            Status::TooLarge { .. } => 21,
-            Status::UnbuiltTalk { .. } => 26,
+            Status::Refused(refusal) => code_of_run(refusal),
         }
+    }
+}
+
+// The exit status of a program whose run came to this.
+fn code_of_run(refusal: &Refusal) -> u8
+    ensures { result ≡ code_of (stopped (stop_of refusal.now)) }
+{
+    match refusal {
+        Refusal::Memory => 3,
+        Refusal::ChildFault { .. } => 7,
+        Refusal::TooManyQuestions { .. } => 11,
+        Refusal::ClaimBroken { .. } => 12,
+        Refusal::BadGenerated { .. } => 18,
+        Refusal::GeneratedDuplicate { .. } => 19,
+        Refusal::TooManyRounds => 20,
+        Refusal::TooLarge { .. } => 21,
+        Refusal::UnbuiltTalk { .. } => 26,
     }
 }

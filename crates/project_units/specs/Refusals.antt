@@ -90,6 +90,12 @@ named_by (Refused refusal) = processor_of refusal
 named_by (Failed (Children processor)) = Some processor
 named_by other = None
 
+-- The processor whose child is exempt from what is said of the frames that children were sent: the one that a fault of the children names. What became of
+-- a frame whose sending failed, the children do not say.
+abbrev pub exempt_by : Stop → Option (List ℕ)
+exempt_by (Failed (Children processor)) = Some processor
+exempt_by other = None
+
 -- where a stop names a processor, it names this one
 abbrev pub Names : List ℕ → Stop → Type 0
 Names processor stop = IfSome (named_by stop) (λ name. name ≡ processor)

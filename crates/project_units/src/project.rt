@@ -99,8 +99,6 @@ impl Key {
 pub struct Project {
     /// All on which its build depends, but for its sources.
     pub key: Key,
-    /// The source files, as paths and their bytes, ascending by path.
-    pub sources: List<(Name, List<u8>)>,
     /// The units of the stub files of its key, all among the stubs.
     pub stubs: Table,
     /// The same units, and among the sources those of its source files.
@@ -114,7 +112,6 @@ impl Project {
     {
         Ok(Project {
             key: self.key.copy(alloc)?,
-            sources: copy_java_files(alloc, self.sources.as_slice())?,
             stubs: self.stubs.copy(alloc)?,
             initial: self.initial.copy(alloc)?,
         })

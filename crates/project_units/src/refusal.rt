@@ -13,7 +13,7 @@ pub enum Refusal {
         /// The processor's name.
         processor: Name,
     },
-    /// A child's bytes are not the frames of this order and form, or it ended inside a frame that was wanted.
+    /// A child's bytes are not the frames that can be read so far, in their order, or it ended inside a frame.
     UnbuiltTalk {
         /// The processor's name.
         processor: Name,
@@ -25,7 +25,8 @@ pub enum Refusal {
         /// How often it may.
         limit: u32,
     },
-    /// A child said another thing of a claim than its processor had declared.
+    /// A child was done with a round, and said another thing of the claim than its processor had declared (JSR 269,
+    /// `Processor.process`).
     ClaimBroken {
         /// The processor's name.
         processor: Name,
@@ -34,14 +35,14 @@ pub enum Refusal {
         /// What the child said.
         said: bool,
     },
-    /// A created source has no reading.
+    /// A created source that is to be read has no reading.
     BadGenerated {
         /// Its path in the output.
         path: Name,
-        /// The place of its first fault.
+        /// The offset of its first fault, in bytes.
         place: u32,
     },
-    /// A created source gives a type that is there.
+    /// A created source gives a type that is there (JSR 269, `Filer`).
     GeneratedDuplicate {
         /// The canonical name of the type.
         name: Name,

@@ -73,7 +73,7 @@ fn add_first(alloc: Global, unit: &UnitText, first: &str, names: &mut Names) -> 
 {
     add_in_package(alloc, unit.package.as_str(), first, names)?;
     add_in_package(alloc, "java.lang", first, names)?;
-    add_all_imported(alloc, unit.imports.as_slice(), first, names)
+    add_all_imported(alloc, unit.imports.get().as_slice(), first, names)
 }
 
 /// A name chain: each prefix, and its first name by `add_first`.

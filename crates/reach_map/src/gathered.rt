@@ -68,7 +68,7 @@ fn gathered(alloc: Global, unit: &Unit) -> Result<Names, NoMemory>
     add_own(alloc, unit, &mut names)?;
     let text = unit.text();
     add_body(alloc, text, &text.body, &mut names)?;
-    add_imports(alloc, text.imports.as_slice(), &mut names)?;
+    add_imports(alloc, text.imports.get().as_slice(), &mut names)?;
     add_texts(alloc, &IMPLIED, &mut names)?;
     Ok(names)
 }

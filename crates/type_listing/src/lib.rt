@@ -4,7 +4,7 @@
 //!
 //! Each type is listed once, and a member that is inherited is looked up by its name and compared with the members of that name alone. So the work is that of the lists of all supertypes, and of the questions on overriding between members of one name.
 //!
-//! Not promised: that memory is there, which is also said to be wanted where more than 1,048,576 pairs of members of one name would be compared.
+//! Not promised: that memory is there. Out of memory comes also where more than 1,048,576 pairs of members of one name are to be compared.
 #![tactic(auto)]
 
 mod budget;

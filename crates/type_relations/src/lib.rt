@@ -27,4 +27,5 @@ pub use places::{
     around_of, canonical_name, child, has_type_parameters, is_there, parameter_count,
     parameter_name, place_of, type_name, type_parameters,
 };
+pub use replacing::has_entry;
 pub use supertypes::direct;

@@ -12,7 +12,8 @@ use element_table::Table;
 use std::alloc::Global;
 use type_mirror::{BaseMirror, DeclaredMirror, Mirror, substitute};
 
-fn has_entry(by: &[(ElementRef, Mirror)], at: &ElementRef) -> bool
+/// Whether a variable is among those that are replaced. It takes no memory.
+pub fn has_entry(by: &[(ElementRef, Mirror)], at: &ElementRef) -> bool
     ensures { result ≡ raw.has_entry by.now at.now }
 {
     for pair in by {

@@ -1,3 +1,4 @@
+mod BarePackages
 mod HeaderLemmas
 mod MirrorLemmas
 mod ScopesLemmas

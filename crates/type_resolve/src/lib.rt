@@ -11,7 +11,6 @@ mod annotations;
 mod calls;
 mod mirrors;
 mod packages;
-mod pairs;
 mod scopes;
 mod spelling;
 

@@ -4,7 +4,7 @@ ghost use Rattle.element_table.specs.TypeTable.{unit_of, part_of, IsTable};
 ghost use Rattle.element_table.specs.UnitNames.{unit_name};
 ghost use Rattle.name_resolve.specs.Placed.{IsPlaced};
 ghost use Rattle.name_resolve.specs.Shown.{find_of};
-ghost use Rattle.type_resolve.specs.Scopes.{or_stub, package_part, package_at, IsBareUnit, find_in};
+ghost use Rattle.type_resolve.specs.Scopes.{or_stub, package_part, package_at, IsBareUnit, IsElement, find_in};
 
 use crate::packages::{Bare, bare_package};
 use apt_base::{ElementRef, NoMemory};
@@ -54,7 +54,11 @@ pub(crate) fn found_in<'a>(
 }
 
 /// The package that stands there without a unit.
+#[tactic(auto, using(crate::proofs::BarePackages::bare))]
 pub(crate) fn bare_at(alloc: Global, table: &Table, at: &ElementRef) -> Result<Bare, NoMemory>
+    requires none { unit_of table.now at.now.unit ≡ None }
+    requires stands { IsElement table.now at.now }
+    requires table { IsTable table.now }
     ensures part { IfOk result (λ bare. bare.part ≡ package_part table.now (package_at table.now at.now)) }
     ensures stands { IfOk result (λ bare. IsBareUnit table.now (package_at table.now at.now) bare.unit) }
 {
@@ -63,10 +67,7 @@ pub(crate) fn bare_at(alloc: Global, table: &Table, at: &ElementRef) -> Result<B
             let bare = bare_package(alloc, table, package.as_str())?;
             Ok(bare)
         }
-        None => {
-            let bare = bare_package(alloc, table, "")?;
-            Ok(bare)
-        }
+        None => unreachable!(),
     }
 }
 

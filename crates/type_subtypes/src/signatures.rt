@@ -6,7 +6,6 @@ ghost use Rattle.type_mirror.specs.Substitution.{substituted, AreDistinct};
 ghost use Rattle.type_layers.specs.Layers as layers;
 ghost use Rattle.type_layers.specs.Layers.{executable_layer, layer, layer_in, mirror_of};
 ghost use Rattle.type_relations.specs.Erasure.{erasure};
-ghost use Rattle.type_relations.specs.RawTypes as raw;
 ghost use Rattle.type_relations.specs.RawTypes.{added};
 ghost use Rattle.type_subtypes.specs.Subsignature as signatures;
 ghost use Rattle.type_subtypes.specs.Subsignature.{all_same, executable_in, is_erased, of_signatures, signature_beside};
@@ -17,20 +16,9 @@ use std::alloc::Global;
 use type_layers::is_same;
 use type_levels::Answer;
 use type_mirror::{Around, BaseMirror, ExecutableMirror, Mirror, substitute};
-use type_relations::erasure_within;
+use type_relations::{erasure_within, has_entry};
 
 // ---- variables renamed
-
-fn has_entry(by: &[(ElementRef, Mirror)], at: &ElementRef) -> bool
-    ensures { result ≡ raw.has_entry by.now at.now }
-{
-    for pair in by {
-        if pair.0.is_equal(at) {
-            return true;
-        }
-    }
-    false
-}
 
 #[tactic(auto, unfolding(type_layers::specs::Layers::mirror_of))]
 fn variable(alloc: Global, at: &ElementRef) -> Result<Mirror, NoMemory>

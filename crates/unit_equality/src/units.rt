@@ -143,8 +143,11 @@ fn is_same_text(one: &UnitText, other: &UnitText) -> bool
     ensures { IsTrue result ↔ one.now ≡ other.now }
 {
     is_same_name(&one.package, &other.package)
-        && are_same_imports(one.imports.as_slice(), other.imports.as_slice())
-        && are_same_names(one.siblings.as_slice(), other.siblings.as_slice())
+        && are_same_imports(one.imports.get().as_slice(), other.imports.get().as_slice())
+        && are_same_names(
+            one.siblings.get().as_slice(),
+            other.siblings.get().as_slice(),
+        )
         && is_same_body(&one.body, &other.body)
 }
 

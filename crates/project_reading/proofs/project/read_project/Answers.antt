@@ -63,7 +63,6 @@ returns-clause-keeps g c =
       is_configuration = c.in_ok-raw.ensures.files;
       given = files;
       are_given = λ told. subst (λ (held : Files). sources_of held ≡ Ok files) (c.in_ok-raw.ensures.same told) (c.in_ok-files.ensures.sources told);
-      sources = c.in_ok-kept.ensures.sources;
       key = key-kept c.in_ok-key.key (map named files.stubs) c.in_ok-tables.tables c.in_ok-kept.field-0 c.in_ok-kept.ensures.key c.in_ok-kept.ensures.initial c.args.options.now (shown_configuration c.in_ok-raw.raw) c.in_ok-key.ensures.whole;
       tables = tables-kept c.in_ok-key.key (map named files.stubs) c.in_ok-tables.tables c.in_ok-kept.field-0 c.in_ok-kept.ensures.key c.in_ok-kept.ensures.initial (tables_of files) c.in_ok-kept.ensures.stubs c.in_ok-tables.ensures.tables;
     })

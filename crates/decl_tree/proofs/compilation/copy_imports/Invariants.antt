@@ -1,6 +1,0 @@
-use Rattle.std.proofs.Common.{◌≡◌, take}
-use Rattle.decl_tree.proofs.compilation.copy_imports.Given as goal
-
--- the copies so far are the items so far
-abbrev pub invariant-loop-each : goal.invariant-loop-each
-invariant-loop-each l = l.copies ≡ take l.each-index l.items
