@@ -1,9 +1,10 @@
-use Rattle.std.proofs.Common.{◌≡◌, Ok, Err, map, sym, ap, subst, ◌∙◌}
+use Rattle.std.proofs.Common.{◌≡◌, Ok, Err, List, map, sym, ap, subst, ◌∙◌}
 use Rattle.std.proofs.lemmas.Result.{err_from_is_err_and}
 use Rattle.apt_outside.specs.Files.{Files}
+use Rattle.tree_store.specs.declared.sources.RawSource.{RawSource}
 use Rattle.tree_store.specs.Sources.{sources_of, Gives}
 use Rattle.project_units.specs.Plans.{plan_of}
-use Rattle.project_reading.specs.Project.{shown_project, read_of, tables_of, named}
+use Rattle.project_reading.specs.Project.{shown_project, read_of, raw_files, tables_of, named}
 use Rattle.project_reading.specs.Verdicts.{verdict}
 use Rattle.project_reading.specs.Entering.{of_sources, ComesAs, RefusesAs, shown_configuration}
 use Rattle.project_reading.proofs.ProjectLemmas.{sources_as, refuses_files, refuses_sources, refuses_plan, refuses_tables, project_is, shown-kept, tables-kept, few-kept, key-kept, keeps-all}
@@ -43,28 +44,34 @@ returns-in_err-tables-clause-read g c = λ told.
     let read = read_of c.args.options.now project in
     let p = err_from_is_err_and c.from_residual-in_err-tables.result c.from_residual-in_err-tables.ensures.1 in
     let given : sources_of project ≡ Ok c.in_ok-files.files = subst (λ (files : Files). sources_of files ≡ Ok c.in_ok-files.files) (c.in_ok-raw.ensures.same told) (c.in_ok-files.ensures.sources told) in
+    let files = c.in_ok-files.files in
+    let refuses : RefusesAs (tables_of files) (verdict c.in_err-tables.field-0.0) =
+        subst (λ (stubs : List RawSource). RefusesAs (tables_of (raw_files stubs files.sources)) (verdict c.in_err-tables.field-0.0)) c.as_slice.ensures c.in_err-tables.ensures.tables in
     subst (ComesAs read shown_project) (sym p.1)
-    (subst (RefusesAs read) (sym (ap verdict p.2)) (refuses_tables c.args.options.now project (shown_configuration c.in_ok-raw.raw) (c.in_ok-raw.ensures.files told) c.in_ok-files.files given
-    (plan_of c.in_ok-key.key) c.in_ok-key.ensures.plan (verdict c.in_err-tables.field-0.0) c.in_err-tables.ensures.tables))
+    (subst (RefusesAs read) (sym (ap verdict p.2)) (refuses_tables c.args.options.now project (shown_configuration c.in_ok-raw.raw) (c.in_ok-raw.ensures.files told) files given
+    (plan_of c.in_ok-key.key) c.in_ok-key.ensures.plan (verdict c.in_err-tables.field-0.0) refuses))
 
 pub returns-clause-read : goal.returns-clause-read
 returns-clause-read g c = λ told.
     let project = g.T.Tree.files c.args.tree.now in
     let given : sources_of project ≡ Ok c.in_ok-files.files = subst (λ (files : Files). sources_of files ≡ Ok c.in_ok-files.files) (c.in_ok-raw.ensures.same told) (c.in_ok-files.ensures.sources told) in
-    project_is c.args.options.now project (shown_configuration c.in_ok-raw.raw) (c.in_ok-raw.ensures.files told) c.in_ok-files.files given (plan_of c.in_ok-key.key) c.in_ok-key.ensures.plan
-    c.in_ok-tables.tables c.in_ok-tables.ensures.tables
+    let files = c.in_ok-files.files in
+    let entered : tables_of files ≡ Ok c.in_ok-tables.tables = ap (λ (stubs : List RawSource). tables_of (raw_files stubs files.sources)) (sym c.as_slice.ensures) ∙ c.in_ok-tables.ensures.tables in
+    project_is c.args.options.now project (shown_configuration c.in_ok-raw.raw) (c.in_ok-raw.ensures.files told) files given (plan_of c.in_ok-key.key) c.in_ok-key.ensures.plan
+    c.in_ok-tables.tables entered
     ∙ ap Ok (sym (shown-kept c.in_ok-key.key (map named c.in_ok-files.files.stubs) c.in_ok-tables.tables c.in_ok-kept.field-0 c.in_ok-kept.ensures.key c.in_ok-kept.ensures.initial))
 
 pub returns-clause-keeps : goal.returns-clause-keeps
 returns-clause-keeps g c =
     let files = c.in_ok-files.files in
+    let entered : tables_of files ≡ Ok c.in_ok-tables.tables = ap (λ (stubs : List RawSource). tables_of (raw_files stubs files.sources)) (sym c.as_slice.ensures) ∙ c.in_ok-tables.ensures.tables in
     keeps-all g.T.Tree.tells c.args.options.now (g.T.Tree.files c.args.tree.now) c.in_ok-kept.field-0 (record {
       configuration = shown_configuration c.in_ok-raw.raw;
       is_configuration = c.in_ok-raw.ensures.files;
       given = files;
       are_given = λ told. subst (λ (held : Files). sources_of held ≡ Ok files) (c.in_ok-raw.ensures.same told) (c.in_ok-files.ensures.sources told);
       key = key-kept c.in_ok-key.key (map named files.stubs) c.in_ok-tables.tables c.in_ok-kept.field-0 c.in_ok-kept.ensures.key c.in_ok-kept.ensures.initial c.args.options.now (shown_configuration c.in_ok-raw.raw) c.in_ok-key.ensures.whole;
-      tables = tables-kept c.in_ok-key.key (map named files.stubs) c.in_ok-tables.tables c.in_ok-kept.field-0 c.in_ok-kept.ensures.key c.in_ok-kept.ensures.initial (tables_of files) c.in_ok-kept.ensures.stubs c.in_ok-tables.ensures.tables;
+      tables = tables-kept c.in_ok-key.key (map named files.stubs) c.in_ok-tables.tables c.in_ok-kept.field-0 c.in_ok-kept.ensures.key c.in_ok-kept.ensures.initial (tables_of files) c.in_ok-kept.ensures.stubs entered;
     })
 
 pub returns-clause-few : goal.returns-clause-few
