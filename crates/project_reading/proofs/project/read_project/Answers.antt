@@ -46,7 +46,7 @@ returns-in_err-tables-clause-read g c = λ told.
     let given : sources_of project ≡ Ok c.in_ok-files.files = subst (λ (files : Files). sources_of files ≡ Ok c.in_ok-files.files) (c.in_ok-raw.ensures.same told) (c.in_ok-files.ensures.sources told) in
     let files = c.in_ok-files.files in
     let refuses : RefusesAs (tables_of files) (verdict c.in_err-tables.field-0.0) =
-        subst (λ (stubs : List RawSource). RefusesAs (tables_of (raw_files stubs files.sources)) (verdict c.in_err-tables.field-0.0)) c.as_slice.ensures c.in_err-tables.ensures.tables in
+    subst (λ (stubs : List RawSource). RefusesAs (tables_of (raw_files stubs files.sources)) (verdict c.in_err-tables.field-0.0)) c.as_slice.ensures c.in_err-tables.ensures.tables in
     subst (ComesAs read shown_project) (sym p.1)
     (subst (RefusesAs read) (sym (ap verdict p.2)) (refuses_tables c.args.options.now project (shown_configuration c.in_ok-raw.raw) (c.in_ok-raw.ensures.files told) files given
     (plan_of c.in_ok-key.key) c.in_ok-key.ensures.plan (verdict c.in_err-tables.field-0.0) refuses))
