@@ -61,9 +61,9 @@ class Build:
             project.remove()
 
     def is_as(self, other):
-        """Whether it answered and published as another one did, and said no more."""
+        """Whether it answered and published as another one did, and said no more lines."""
         alike = (self.status, self.output, self.published) == (other.status, other.output, other.published)
-        return alike and set(self.messages.splitlines()) <= set(other.messages.splitlines())
+        return alike and self.messages.count(b"\n") <= other.messages.count(b"\n")
 
     def expect_memory(self, report):
         """It was out of memory, and the former output stands."""
