@@ -993,6 +993,10 @@ def a_folder_with_the_name_of_a_source(project):
     refused(project, project.scripted(CREATES), BAD_SOURCE, "BadSource(src/p/D.java/E.java, 6)")
 
 
+# What units of one file say together is held once, so that memory grows with the file alone.
+WITH_300_MEGABYTES = ["/bin/sh", "-c", 'ulimit -v 300000; exec "$@"', "sh"]
+
+
 @case
 def a_source_of_a_gigabyte(project):
     with open(project.path("src/p/Big.java"), "wb") as file:
@@ -1026,6 +1030,28 @@ def more_sources_than_may_be(project):
     refused(project, ["build"], PAST_A_LIMIT, "TooLarge(Files, 20000)")
     os.remove(project.path("src/p/C.java"))
     run = project.run(["build"])
+    expect("the output", run.output, REPORT_WITHOUT_PROCESSOR)
+    expect("the status", run.status, DONE_STATUS)
+
+
+@case
+def as_many_types_in_one_file_as_may_be(project):
+    # the project has another file with one type
+    types = "".join(f"class T{number} {{}}\n" for number in range(49_999))
+    project.write("src/p/Types.java", f"package p;\n{types}".encode())
+    run = project.run(["build"], before=WITH_300_MEGABYTES)
+    expect("the output", run.output, REPORT_WITHOUT_PROCESSOR)
+    expect("the status", run.status, DONE_STATUS)
+    project.write("src/p/Types.java", f"package p;\n{types}class Last {{}}\n".encode())
+    refused(project, ["build"], PAST_A_LIMIT, "TooLarge(Types, 50000)", before=WITH_300_MEGABYTES)
+
+
+@case
+def many_types_that_share_many_imports(project):
+    imports = "".join(f"import b.D{number};\n" for number in range(4_000))
+    types = "".join(f"class T{number} {{}}\n" for number in range(4_000))
+    project.write("src/p/Types.java", f"package p;\n{imports}{types}".encode())
+    run = project.run(["build"], before=WITH_300_MEGABYTES)
     expect("the output", run.output, REPORT_WITHOUT_PROCESSOR)
     expect("the status", run.status, DONE_STATUS)
 
