@@ -191,11 +191,11 @@ class Project:
             lines = build.stdout.read().decode().splitlines()
         return (lines[-1] if lines else f"status {build.returncode}"), taken, most
 
-    def ends(self, program, stack):
-        """Whether a build with this much stack ends by itself."""
+    def is_built(self, program, stack):
+        """Whether this much stack is enough."""
         build = self.start(program, {resource.RLIMIT_STACK: stack})
         build.communicate()
-        return build.returncode >= 0
+        return build.returncode == 0
 
     def remove(self):
         shutil.rmtree(self.folder)
@@ -211,15 +211,14 @@ def measure(name, project, program, limit, goal=""):
 
 
 def least_stack(name, project, program):
-    """Prints the least stack with which the build ends, within a step."""
+    """Prints the least stack with which the project is built, within a step."""
     try:
         low, high = 0, USUAL_STACK
-        if not project.ends(program, high):
-            print(f"{name}: {high // KILOBYTE} kB of stack are too few", flush=True)
-            return
+        if not project.is_built(program, high):
+            sys.exit(f"{name}: the project is not built with {high // KILOBYTE} kB of stack")
         while high - low > STEP:
             middle = (low + high) // 2
-            if project.ends(program, middle):
+            if project.is_built(program, middle):
                 high = middle
             else:
                 low = middle
