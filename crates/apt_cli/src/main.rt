@@ -1,8 +1,8 @@
 //! The program: it gives `run` the files of the current folder, child programs over pipes, and the standard input and output.
 //!
-//! Here stands all of the host that touches the system. The objects keep the counts of their failures and the lists of
-//! their children, which is proved; what a file, a pipe or a stream gives or takes is not told by any contract, nor what
-//! is said of failures on the standard error. That is tested by the programs in `tests/`.
+//! This crate has all of the host that calls the system. It is proved that the objects keep the counts of their failures
+//! and the lists of their children. No contract says what a file, a pipe or a stream gives or takes, nor which lines are
+//! written to the standard error. That is tested by the programs in `tests/`.
 #![tactic(auto)]
 
 mod disk_tree;

@@ -18,7 +18,7 @@ use std::process::{Child, ChildStdout, Command, OpenProcess, Processes, Stdio, S
 /// For how long a child may send nothing before that is said, in seconds.
 const PATIENCE: i32 = 5;
 
-/// A program that runs, with this end of its pipes. Where it is let go, its pipes are closed, and its end is waited for
+/// A program that runs, with this end of its pipes. When it is dropped, its pipes are closed, and its end is waited for
 /// and said, unless it ends with status 0.
 pub struct Running<P: OpenProcess + Drop> {
     /// The child's number.

@@ -79,9 +79,9 @@ has_path-push [] creation q = refl
 has_path-push (other ∷ made) creation q = ap (λ (b : Bool). bytes_eq q (path_of other) || b) (has_path-push made creation q) ∙ or_swapped (bytes_eq q (path_of other)) (bytes_eq q (path_of creation)) (has_path made q)
 
 -- nothing was created yet
-pub IsIndex-none : (initial copies : List (List ℕ)) (made : List Creation) (names paths : NameSet) → copies ≡ initial → made ≡ [] → HasExactly names initial → paths ≡ empty → IsIndex copies made names paths 0
-IsIndex-none initial copies made names paths same none exact new = record {
-  named = λ text. exact text ∙ ap (list_any (bytes_eq text)) (sym same);
+pub IsIndex-none : (initial : List (List ℕ)) (made : List Creation) (names paths : NameSet) → made ≡ [] → HasExactly names initial → paths ≡ empty → IsIndex initial made names paths 0
+IsIndex-none initial made names paths none exact new = record {
+  named = exact;
   placed = λ q. ap (λ set. contains_key set q) new ∙ contains-empty q ∙ ap (λ list. has_path list q) (sym none);
   summed = ap total_of (sym none);
   fits = omega arith;

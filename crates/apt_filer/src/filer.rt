@@ -6,7 +6,7 @@ ghost use Rattle.wire_frames.specs.declared.reply.Created.TheVariants.{Accepted}
 
 use crate::names::is_well_named;
 use crate::paths::path_of;
-use apt_base::{List, Name, Names, NoMemory, copy_names};
+use apt_base::{List, Name, Names, NoMemory};
 use std::alloc::Global;
 use std::marker::Model;
 use wire_frames::{Created, Creation};
@@ -72,16 +72,17 @@ fn is_class(creation: &Creation) -> bool
 }
 
 impl Filer {
-    /// A filer that has accepted nothing yet. `initial` names the initial units and the stubs. It
-    /// fails only when memory runs out.
-    pub fn new(alloc: Global, initial: &List<Name>) -> Result<Filer, NoMemory>
-        ensures { IfOk result (λ filer. filer ≡ record { initial = initial.now; made = [] }) }
+    /// A filer that has accepted nothing yet. `initial`, which it takes over, names the initial units
+    /// and the stubs. It fails only when memory runs out.
+    pub fn new(alloc: Global, initial: List<Name>) -> Result<Filer, NoMemory>
+        ensures { IfOk result (λ filer. filer ≡ record { initial = initial; made = [] }) }
     {
+        let names = set_of(alloc, &initial)?;
         Ok(Filer {
             alloc,
-            initial: copy_names(alloc, initial.as_slice())?,
+            initial,
             made: List::new(alloc),
-            names: set_of(alloc, initial)?,
+            names,
             paths: Names::new(alloc),
             total: 0,
         })

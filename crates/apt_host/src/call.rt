@@ -134,8 +134,8 @@ pub fn run<T: Tree, C: Children, R: Source, W: Sink>(
     ensures stand { Told T.tells (StoresStand (T.files tree.old) → StoresStand (T.files tree.new)) }
     ensures outside { Told T.tells (SameOutside (T.files tree.old) (T.files tree.new)) }
 
-    // New children, one for each processor that is started, are shown exactly the run, and the front of it where it broke off; but
-    // for the child of the processor that a fault of the children names.
+    // Each processor that is started has a new child, which is shown exactly its frames of the run. Where the run stopped early,
+    // it is shown those up to that point; but for the child of the processor that a fault of the children names.
     ensures shown { Shows T.Tree C.Children words.now tree.old children.old children.new result }
 
     // What is written is the clean build's report, or ends in the refusal's line. A report begins with the number of starts.
@@ -147,8 +147,9 @@ pub fn run<T: Tree, C: Children, R: Source, W: Sink>(
     finish(alloc, status, output)
 }
 
-/// The refusal of words after which another word stands that is no text: the place is that of the first word that no
-/// command has there, counted from 0, which is the word after these at the latest.
+/// The refusal of a command line with a word that is not UTF-8, where `words` are the words before it. The place,
+/// counted from 0, is that of the first word that no command has there: one of `words`, or else the word that is not
+/// UTF-8.
 pub fn refuse_cut_words<W: Sink>(alloc: Global, words: &[String], output: &mut W) -> Status
     ensures answer { OrMemory (Refused (BadWords (cut_at (map string_bytes words.now)))) (verdict result) }
     ensures later { W.faults output.old ≤ W.faults output.new }

@@ -6,9 +6,10 @@
 //! tree by path (`Files`), what each child was sent and which of its bytes wait (`Child`), and bytes in order (`Stream`). An object
 //! may also tell which of its calls are to fail (`Plan`; of children, which starts), and then it fails exactly there.
 //!
-//! Nothing is promised of an object that doesn't tell its content but its counts, and of children their starts and which live.
-//! No file system, pipe or program is described here: that an implementation over real ones keeps the traits' clauses is its own
-//! proof, as far as it goes. Nor is it promised that a child answers, or that a call takes bounded time.
+//! Of an object that does not tell its content contracts say only how its count of faults changes; of children also how many
+//! were started and which live. No file system, pipe or program is described here: that an implementation over real ones keeps
+//! the traits' clauses is its own proof, as far as it goes. Nor is it promised that a child answers, or that a call takes
+//! bounded time.
 #![tactic(auto)]
 
 mod children;

@@ -46,7 +46,8 @@ fn feed_all(reader: &mut Reader, bytes: &[u8]) -> Result<Progress, NoMemory>
     }
 }
 
-/// Takes bytes that wait into the room, which has none for a byte behind the frame, and feeds them to the reader.
+/// Takes waiting bytes of the child, at most those that complete the frame, and feeds them to the reader. The buffer
+/// `room` is not longer than that.
 fn receive_more<C: Children>(
     children: &mut C,
     child: u32,

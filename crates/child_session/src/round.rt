@@ -191,7 +191,7 @@ fn take_turn<C: Children>(
     Ok(exchange(alloc, children, child, frame.as_slice())?)
 }
 
-// What a turn comes to that ends the round: a question is one too many there.
+// The result of a turn where no further question is allowed: a Done ends the round, and a question is one too many.
 fn end_of(
     declared: Claim,
     limit: u32,

@@ -1,6 +1,6 @@
 //! Whether a child list is too long in symbols that begin a file.
 //!
-//! Symbols of which few separate have no such list, by a law of `decl_limits`. Others are walked over, list by list, up to the first that is too long or to where the file ends or is faulty.
+//! Where few symbols within the same braces are separators, no child list is too long, by a law of `decl_limits`. Otherwise the code walks over the symbols, list by list, up to the first list that is too long, the end of the file or its first fault.
 #![tactic(auto)]
 
 mod file;

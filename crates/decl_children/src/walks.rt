@@ -1,7 +1,7 @@
-// What walks over types and their members come to.
+// The results of walks over types and their members.
 use decl_grammar::Symbol;
 
-/// What a walk over a type comes to.
+/// The result of a walk over a type.
 #[derive(Clone, Copy)]
 pub enum Walk<'a, 's> {
     /// A child list is too long.
@@ -12,7 +12,7 @@ pub enum Walk<'a, 's> {
     Behind(&'s [Symbol<'a>]),
 }
 
-/// How many members stand here, whether a constructor is among them, and what stands behind them.
+/// The members that were walked over: how many, whether a constructor is among them, and the symbols after them.
 #[derive(Clone, Copy)]
 pub struct Passed<'a, 's> {
     pub count: usize,
@@ -20,7 +20,7 @@ pub struct Passed<'a, 's> {
     pub rest: &'s [Symbol<'a>],
 }
 
-/// What a walk over one member comes to.
+/// The result of a walk over one member.
 #[derive(Clone, Copy)]
 pub enum Step<'a, 's> {
     /// A child list is too long.

@@ -1,4 +1,4 @@
-// Where a walk over the fields of a declaration stands, and what comes of one step of it.
+// The places in a walk over the fields of a declaration, and the result of one step.
 ghost use Rattle.decl_crossings.specs.Moves.{Moved};
 
 use decl_grammar::Symbol;
@@ -13,7 +13,7 @@ pub enum Spot {
     Row(Before),
 }
 
-/// What one step of a walk comes to.
+/// The result of one step.
 #[derive(Clone, Copy)]
 pub enum Step<'a, 's> {
     /// Too many fields begin.
@@ -22,11 +22,12 @@ pub enum Step<'a, 's> {
     Over,
     /// The walk goes on with these symbols, in which this many fields may still begin.
     On(usize, Spot, &'s [Symbol<'a>]),
-    /// The walk goes on behind a type with its `::`, and within it, where its `<` is the operator.
+    /// The symbols may be a type that is followed by `::`, or a comparison: the walk continues after the type, and
+    /// also inside it, where the `<` is then the operator.
     Type(&'s [Symbol<'a>], &'s [Symbol<'a>]),
 }
 
-/// What one step comes to, without the symbols that it leaves.
+/// The result of one step, without the symbols that are left after it.
 #[derive(Clone, Copy)]
 pub enum Kind {
     /// Too many fields begin.
@@ -35,7 +36,7 @@ pub enum Kind {
     Over,
     /// The walk goes on, and this many fields may still begin.
     On(usize, Spot),
-    /// The walk goes on behind a type with its `::`, and within it.
+    /// The walk continues after a type that is followed by `::`, and also inside it.
     Type,
 }
 

@@ -1,9 +1,9 @@
 //! Readers of members behind their modifiers (JLS 8.1.7, 9.1.5, 9.6.1), but nested types, of the constants of enums (JLS 8.9.1) and of the supertypes in the
 //! heading of a type (JLS 8.1.4, 8.1.5, 9.1.3); and what is made of what was read.
 //!
-//! Each function that reads says that what it returns is what reading its form gives (`Gives` of `decl_grammar`): the value and
-//! the symbols behind it, or the symbols from the first fault or from where too much is open on, or out of memory. `room`
-//! is how many lists of type arguments and values may be open at once.
+//! The contract of each function that reads names its form (`Gives` of `decl_grammar`). The function returns the value and the
+//! symbols after it; or the symbols from the first fault on; or those from the first symbol on at which the nesting is too
+//! deep; or it is out of memory. `room` is how many lists of type arguments and values may still be opened.
 #![tactic(auto)]
 
 mod enums;

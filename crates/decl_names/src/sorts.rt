@@ -46,7 +46,7 @@ fn is_plain_word(sort: u8) -> bool
     is_among(ABSTRACT, 25, sort) || is_later_word(sort)
 }
 
-// Whether an operator that tells nothing in an expression has this sort.
+// Whether an ordinary operator has this sort: one that does not decide how an expression continues.
 #[tactic(auto, using(decl_grammar::proofs::Ranges::has_one))]
 fn is_plain_operator(sort: u8) -> bool
     ensures { result ≡ has plain_operators sort }
@@ -54,7 +54,7 @@ fn is_plain_operator(sort: u8) -> bool
     sort == ELLIPSIS || sort == EXCLAMATION || sort == TILDE || is_among(DOUBLE_EQUALS, 30, sort)
 }
 
-// Whether a word or an operator that tells nothing in an expression has this sort.
+// Whether an ordinary word or operator of an expression has this sort.
 #[tactic(auto, using(decl_grammar::proofs::Ranges::has_then, decl_grammar::proofs::Ranges::has_else))]
 fn is_plain_word_or_operator(sort: u8) -> bool
     ensures { result ≡ has (plain_expression_words ++ plain_operators) sort }
@@ -62,7 +62,8 @@ fn is_plain_word_or_operator(sort: u8) -> bool
     is_plain_word(sort) || is_plain_operator(sort)
 }
 
-/// Whether a symbol of this sort tells nothing in an expression.
+/// Whether a symbol of this sort is an ordinary one in an expression: it does not decide how the expression
+/// continues.
 #[tactic(auto, using(decl_grammar::proofs::Ranges::has_then, decl_grammar::proofs::Ranges::has_else))]
 pub fn is_plain(sort: u8) -> bool
     ensures { result ≡ has plain_sorts sort }

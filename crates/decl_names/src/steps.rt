@@ -42,7 +42,8 @@ pub fn begin<'a, 's>(symbols: &'s [Symbol<'a>]) -> Result<&'s [Symbol<'a>], Read
     Ok(symbols)
 }
 
-/// Why a form that counts is not read without room: it begins here and is too deep, or it does not begin.
+/// The fault where a form that counts as nesting is to be read with no room left: too deep, if the form begins here,
+/// and otherwise a fault of the grammar.
 pub fn shut(begins: bool, symbols: &[Symbol<'_>]) -> ReadFault
     ensures { result ≡ shut_fault begins symbols.now }
 {

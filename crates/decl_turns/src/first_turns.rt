@@ -76,7 +76,7 @@ pub fn first_next(place: Place, symbols: &[Symbol<'_>]) -> Next
     }
 }
 
-/// How free a `=` is where an expression begins.
+/// Where a `=` is allowed where an expression begins.
 pub fn first_leave(place: Place) -> Leave
     ensures { result ≡ leave_first place }
 {

@@ -11,7 +11,8 @@ pub enum Place {
     Assigned,
 }
 
-/// Whether a `=` may stand here: where this many conditions are open, which is where there is one, or anywhere.
+/// Where a `=` is allowed: `Within(n)` has n conditions (`?` without its `:`) open, and allows it if n is not 0;
+/// `Anywhere` always allows it.
 #[derive(Clone, Copy, PartialEq, Eq)]
 pub enum Leave {
     Within(usize),
@@ -21,7 +22,7 @@ pub enum Leave {
 /// What stands before the next part of an expression.
 #[derive(Clone, Copy, PartialEq, Eq)]
 pub enum Before {
-    /// Nothing that tells.
+    /// Nothing that decides how the expression continues.
     Between,
     /// A name.
     Name,

@@ -396,7 +396,8 @@ pub fn next_of(place: Place, leave: Leave, before: Before, symbols: &[Symbol<'_>
     }
 }
 
-/// How free a `=` is behind a part. No more conditions are open than a number counts, since memory ends before.
+/// Where a `=` is allowed after a part. The number of open conditions could only overflow with more symbols than fit
+/// into memory, so an overflow is answered as out of memory.
 pub fn leave_behind(turn: Turn, leave: Leave) -> Result<Leave, ReadFault>
     ensures { UnlessMemory result (λ after. after ≡ leave_after turn leave) }
 {

@@ -1,8 +1,9 @@
 //! Readers of modifiers, of the headings of types, and of what stands behind the name of a member (JLS 8.3, 8.4, 8.8).
 //!
-//! Each function says that what it returns is what reading its form gives (`Gives` of `decl_grammar`): the value and
-//! the symbols behind it, or the symbols from the first fault or from where too much is open on, or out of memory. `room`
-//! is how many nested types, lists of type arguments and values may be open at once.
+//! The contract of each function names its form (`Gives` of `decl_grammar`). The function returns the value and the
+//! symbols after it; or the symbols from the first fault on; or those from the first symbol on at which the nesting is
+//! too deep; or it is out of memory. `room` is how many nested types, lists of type arguments and values may still be
+//! opened.
 //!
 //! The bodies of methods are passed over. Types and initialisers are read by `decl_values`.
 #![tactic(auto)]

@@ -1,4 +1,4 @@
-// What is read around values of any type: where a value is let go is proved here once, and not where its type is known.
+// What is read around values of any type. Here it is proved once that a value may be dropped, and not again for each type.
 ghost use Rattle.std.specs.Prelude.{◌≡◌, [], ◌∷◌, List};
 ghost use Rattle.decl_grammar.specs.Reading.{Gives, UnlessMemory};
 ghost use Rattle.decl_values.specs.Closings.{ended_by};

@@ -1,14 +1,14 @@
 //! Readers of types (JLS 4), annotations with their values (JLS 9.7) and initialisers of fields (JLS 8.3). Those of names, imports (JLS 7.5) and doc comments stand below, and
 //! are handed on.
 //!
-//! Each function says that what it returns is what reading its form gives (`Gives` of `decl_grammar`): the value and
-//! the symbols behind it, or the symbols from the first fault or from where too much is open on, or out of memory. `room`
-//! is how many lists of type arguments and values may be open at once. Values hold types and types hold annotations with values, so their readers are one cycle.
+//! The contract of each function names its form (`Gives` of `decl_grammar`). The function returns the value and the symbols after it; or the symbols from the
+//! first fault on; or those from the first symbol on at which the nesting is too deep; or it is out of memory. `room` is how many lists of type arguments and
+//! values may still be opened. Values hold types and types hold annotations with values, so their readers are one cycle.
 //!
 //! Annotations on the use of a type are read and passed over (JLS 9.7.4). An annotation's value that is no constant form is kept as the texts of its
-//! tokens, and an initialiser that is none is passed over. In an expression a `<` behind a name may begin the arguments of a type up to its `::`: that is
-//! tried, and where it fails it is the operator, and of two faults the further one counts. What is tried holds types alone, so each symbol is read
-//! once for each list of type arguments that may be open around it, of which there are at most 200.
+//! tokens, and an initialiser that is none is passed over. In an expression a `<` after a name is first read as the beginning of type arguments that end
+//! at a `::`. Where that fails, it is read as the operator; where both fail, the later of the two faults counts. The first reading holds only types. So
+//! each symbol is read once for each list of type arguments that may be open around it, at most 200 times.
 #![tactic(auto)]
 
 mod annotations;

@@ -80,7 +80,7 @@ impl Units {
         }
     }
 
-    // The same, where a unit that finds no memory is let go.
+    // The same, where a unit for which there is no memory is dropped.
     fn add(&mut self, name: String, unit: Unit) -> Result<(), NoMemory>
         ensures { OnOk result (self.new ≡ fin.insert self.old (string_bytes name) unit) }
     {

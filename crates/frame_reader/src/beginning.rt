@@ -1,4 +1,4 @@
-// What the first byte of a node leaves to come.
+// What has to follow the first byte of a node.
 ghost use Rattle.std.specs.Prelude.{◌≡◌, Option, None, Some, slice_get, map, List};
 ghost use Rattle.frame_reader.specs.Steps.{tag_choices, mirror_choices, value_choices, bound_choices, item_left, node_left, passes_if, part_left, maybe_left, gathers, chooses, IsLeft, IsChosen, AreChosen};
 ghost use Rattle.frame_forms.specs.Forms.{bool_at};
@@ -122,7 +122,7 @@ fn maybe_begun(item: Item, byte: u8) -> Option<Begun>
     }
 }
 
-/// What this first byte of a node leaves to come, with room for this many mirrors and values in each other. None where the byte is bad.
+/// What has to follow this first byte of a node, where at most `room` mirrors and values may still be nested. `None` where the byte is bad.
 #[tactic(auto, unfolding(crate::specs::Steps::node_left))]
 pub(crate) fn node_begun(node: Node, room: u16, byte: u8) -> Option<Begun>
     ensures { IsLeft result (node_left room node byte) }

@@ -1,8 +1,8 @@
 //! Finds frames in a stream of bytes that comes in pieces, and never reads a frame again from its beginning.
 //!
-//! `specs/Nodes` says which form of the grammar each node of the tables is, and `specs/Rests` what is still to come of a frame's fields, as the reading of the bytes from here on. `specs/Steps` has what the first byte of a node leaves to come, and `specs/Follows` what one byte does to what is kept.
+//! `specs/Nodes` says which form of the grammar each node of the tables is, and `specs/Rests` what is still to come of a frame's fields, as the reading of the bytes from here on. `specs/Steps` has what has to follow the first byte of a node, and `specs/Follows` how one byte changes what is kept.
 //!
-//! Not promised: what the fields of a frame are worth.
+//! Not promised: what the fields of a frame mean.
 #![tactic(auto)]
 
 mod beginning;

@@ -166,7 +166,7 @@ impl FrameScanner {
         self.bytes.len()
     }
 
-    /// How many bytes of the frame come next, as far as those that were taken tell: up to the end of its length, and behind that up to the end of the frame. There are none where a frame is whole or a byte is bad.
+    /// How many bytes to read next: the rest of the frame's length while the length is incomplete, and after it the rest of the frame. 0 where the frame is whole and after a bad byte.
     pub fn wanted(&self) -> usize
         ensures { result ≡ wanted_in self.now }
     {

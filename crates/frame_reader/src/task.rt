@@ -2,7 +2,7 @@
 use crate::node::{Item, ListRule, Node};
 use frame_forms::BadKind;
 
-/// What is asked of a text.
+/// What is required of a text.
 #[derive(Clone, Copy)]
 pub enum TextRule {
     /// Nothing: it may be any bytes.
@@ -16,7 +16,7 @@ pub enum TextRule {
 /// What becomes of gathered bytes when the last one is there.
 #[derive(Clone, Copy)]
 pub enum Then {
-    /// They are a number of which nothing is asked.
+    /// They are a number, and every number is allowed.
     Skip,
     /// They are the length of a text.
     Length(TextRule),
@@ -33,7 +33,7 @@ pub enum Then {
 pub struct Gather {
     /// The place of the first one.
     pub from: usize,
-    /// How many are to come behind the next one.
+    /// How many bytes follow the next one.
     pub more: u32,
     /// What becomes of them.
     pub then: Then,
@@ -55,11 +55,11 @@ pub struct TextList {
     pub rule: ListRule,
     /// Whether the value of the last text comes before the next one.
     pub value_next: bool,
-    /// How many texts are to come: behind the next one, or behind that value.
+    /// How many texts follow: after the next text, or after the value of the last text.
     pub more: u32,
 }
 
-/// What is to come behind the first byte of a node.
+/// What follows the first byte of a node.
 #[derive(Clone, Copy)]
 pub struct Begun {
     /// What the byte is the first one of, and how many are to come behind the next one.

@@ -123,7 +123,7 @@ impl Reader {
         waiting_in(&self.scanner)
     }
 
-    /// How many bytes of the frame come next, as far as those since the last frame tell: up to the end of its length, and behind that up to the end of the frame. After a bad byte there are none.
+    /// How many bytes to read next: the rest of the frame's length while the length is incomplete, and after it the rest of the frame. 0 after a bad byte.
     pub fn wanted(&self) -> usize
         ensures { result ≡ wanted_in self.now }
     {

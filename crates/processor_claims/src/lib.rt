@@ -1,6 +1,6 @@
 //! Which processors there are and of which kinds, which annotations each supports, and who is asked in a round with which of them.
 //!
-//! `specs/Lines` says what the lines of a file are, `specs/Services` and `specs/Kinds` what the two files say, and `specs/Patterns` which names a pattern matches. `specs/Asked` says who is asked, for all answers at once, and `specs/Turns` what a `Turn` stands for while it is gone through.
+//! `specs/Lines` says what the lines of a file are, `specs/Services` and `specs/Kinds` what the two files say, and `specs/Patterns` which names a pattern matches. `specs/Asked` says which processors are asked, as a function of their answers, and `specs/Turns` how contracts see a `Turn` while it is used.
 //!
 //! Reading a file is linear in its bytes, with one look-up for each name. A turn compares each name with each pattern once; what it then takes is linear in the names that the processors support.
 //!

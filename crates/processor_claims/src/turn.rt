@@ -27,7 +27,7 @@ pub(crate) struct Candidate {
 
 /// The processors that a round asks, one after another in the order of discovery (JSR 269, the discovery process).
 ///
-/// `specs/Asked` says who is asked with which names, and `specs/Turns` what a turn stands for: for each list of answers, the processors that are still to be asked with what each is offered.
+/// `specs/Asked` says which processors are asked with which names, and `specs/Turns` how contracts see a turn while it is used: for each list of answers to come, the processors that are still to be asked with what each is offered.
 #[derive(Drop)]
 pub struct Turn {
     alloc: Global,
@@ -139,7 +139,7 @@ fn claim(unclaimed: &mut Vec<bool>, positions: &[u32])
 impl Turn {
     /// The turn of a round: `contributed` says which of the processors were asked in an earlier round, `present` are the present names, and `last` says whether it is the last round. Nobody is asked yet.
     ///
-    /// What a processor declared of its claims plays no part: `next` is told what each one answers.
+    /// What a processor declared of its claims plays no part: `next` takes the answer of each.
     pub fn new(
         alloc: Global,
         processors: &List<Supported>,
@@ -188,7 +188,7 @@ impl Turn {
         !self.offered.is_empty() || candidate.contributed || (self.empty_set && self.supports_all)
     }
 
-    /// The number of the processor that is asked next, or `None` exactly where nobody is left, and then for good. `claimed` is the answer of the one that was asked before; in the first call it has no meaning. It takes no memory.
+    /// The number of the processor that is asked next, or `None` exactly where no processor is left; every later call then gives `None` too. `claimed` is the answer of the one that was asked before; in the first call it has no meaning. It takes no memory.
     pub fn next(&mut self, claimed: bool) -> Option<u16>
         ensures nobody { IfNone result (AsksNobody self.old claimed) }
         ensures asks { IfSome result (λ number. Asks self.old claimed number self.new) }

@@ -105,7 +105,7 @@ fn processors_of(
 ///
 /// An absent file is one without a line. The file of services counts only where the configuration has no `order`.
 ///
-/// The first fault in this order is told, exactly where it is there: `ServiceLine` and `KindLine` with the first line that has no reading, `TooManyProcessors` where more than 64 are named, `UnknownProcessor` with the first name that has no row. No other fault comes but out of memory.
+/// The first fault in this order is returned, exactly where there is one: `ServiceLine` and `KindLine` with the first line that has no reading, `TooManyProcessors` where more than 64 are named, `UnknownProcessor` with the first name that has no row. The only other error is out of memory.
 pub fn discover(
     alloc: Global,
     config: &Config,

@@ -56,7 +56,7 @@ fn settings_of(
 
 /// What the three files of the configuration and the options of the words come to. An absent `apt.json` is read as `{}`, and each other absent file is one without a line.
 ///
-/// `apt.json` is tested first, as `parse_config` says, and then the rest, as `discover` says: the first fault is told, exactly where it is there. No other fault comes but out of memory.
+/// `apt.json` is tested first, as `parse_config` says, and then the rest, as `discover` says: the first fault is returned, exactly where there is one. The only other error is out of memory.
 ///
 /// In all settings the level is 11, the options ascend by their keys, and there are at most 64 processors, of different names, each with a program.
 pub fn read_settings(

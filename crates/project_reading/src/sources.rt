@@ -123,7 +123,7 @@ fn read_all(alloc: Global, part: Part, sources: &[RawSource]) -> Result<List<Rea
     read_each(alloc, part, sources)
 }
 
-// Reads a file, whose bytes are let go then.
+// Reads a file, and frees its bytes then.
 fn read_once(alloc: Global, part: Part, source: RawSource) -> Result<ReadSource, Status>
     requires { length source.bytes ≤ max_file_bytes }
     ensures read { ComesTo (read_source part source) result }
@@ -133,7 +133,7 @@ fn read_once(alloc: Global, part: Part, source: RawSource) -> Result<ReadSource,
     read_source(alloc, part, &source)
 }
 
-// The same as `read_each`, where the bytes of each file are let go once it is read.
+// The same as `read_each`, where the bytes of each file are freed once it is read.
 fn read_each_once(
     alloc: Global,
     part: Part,
@@ -151,7 +151,7 @@ fn read_each_once(
     Ok(read)
 }
 
-// The same as `read_all`, where the bytes of each file are let go once it is read.
+// The same as `read_all`, where the bytes of each file are freed once it is read.
 fn read_all_once(
     alloc: Global,
     part: Part,
@@ -167,7 +167,7 @@ fn read_all_once(
     read_each_once(alloc, part, sources)
 }
 
-// Reads all stubs and then all sources, up to the first that is refused. The bytes of the stubs stay, and those of the sources are let go.
+// Reads all stubs and then all sources, up to the first that is refused. The bytes of the stubs are kept, and those of the sources are freed.
 fn read_both(
     alloc: Global,
     stubs: &[RawSource],
@@ -297,7 +297,7 @@ fn enter_both(alloc: Global, read: ReadSources) -> Result<Tables, Status>
 }
 
 /// The type tables of these files, or the first refusal: all files are read before the units of the first are entered, each time the
-/// stubs before the sources and each part in order of path. The bytes of the sources are let go as they are read.
+/// stubs before the sources and each part in order of path. The bytes of each source are freed once it is read.
 pub fn tables_of(
     alloc: Global,
     stubs: &[RawSource],

@@ -1,7 +1,7 @@
 //! A project with the units of its type table, and what enters the table while processors run over it.
 //!
-//! `specs/Plans` says what a run over a project is told, and the first frame to each processor. `specs/Units` says how units,
-//! and those of created sources, enter the type table, and which annotations are present on them (`specs/Annotations`).
+//! `specs/Plans` says what a run over a project gets, and the first frame to each processor. `specs/Units` says how units, and
+//! those of created sources, enter the type table, and which annotations are present on them (`specs/Annotations`).
 //! `specs/Creations` has the files, and the sources among them, that were created. `specs/Refusals` has each refusal of a build
 //! once, and `specs/Limits` the limits that a refusal names.
 //!

@@ -65,7 +65,7 @@ fn first_progress(alloc: Global, project: &Project) -> Result<Progress, NoMemory
     let names = unit_names(alloc, &project.initial)?;
     Ok(Progress {
         contributed: vec![in alloc; false; project.key.processors.len()]?,
-        filer: Filer::new(alloc, &names)?,
+        filer: Filer::new(alloc, names)?,
         messages: List::new(alloc),
     })
 }
@@ -123,11 +123,11 @@ fn finish_run(
 /// order, and stopped after the last. A file gets the least number that is neither taken nor an earlier file's; the taken
 /// numbers ascend.
 ///
-/// A fault of the children comes only where their count rose. Out of memory may come at any point, and each other
-/// refusal comes exactly where the run has it (JSR 269, `Processor`, `RoundEnvironment` and `Filer`).
-/// Whatever comes of it, each child that is new is that of its processor, in order, and was sent the first of the frames that the
-/// run sends it and nothing else. After a fault of the children the child of the processor that it names is exempt: the children do
-/// not say what became of a frame whose sending failed.
+/// A fault of the children comes only where their count rose. Out of memory may come at any point, and each other refusal comes
+/// exactly where the run has it (JSR 269, `Processor`, `RoundEnvironment` and `Filer`). However the call ends, the new children are
+/// those of the processors, in order. Each was sent the frames that the run sends it, up to some point, and nothing else. After a
+/// fault of the children this may fail for one child, that of the processor that the fault names: the children do not say what
+/// became of a frame whose sending failed.
 pub fn clean<C: Children>(
     alloc: Global,
     project: &Project,

@@ -58,8 +58,8 @@ fn put_entry(writer: &mut FieldWriter, file: &StoredFile) -> Result<(), NoMemory
 
 /// The bytes of the record that names these files.
 ///
-/// They are read again as these files, where the paths ascend strictly, and no other bytes are. It fails only for want of
-/// memory.
+/// Where the paths ascend strictly, the record is read back as these files, and no other bytes are. It fails only when it
+/// is out of memory.
 pub fn encode_record(alloc: Global, files: &List<StoredFile>) -> Result<List<u8>, NoMemory>
     requires { Fits files.now }
     ensures form { IfOk result (λ bytes. bytes ≡ record_form files.now) }

@@ -166,8 +166,8 @@ fn within_limits(
     }
 }
 
-/// Reads the file of a path that ends in `.java`, and none of another path; this many bytes are left for it and all behind it in
-/// its folder.
+/// Reads the file if its path ends in `.java`, and otherwise gives none. `left` is how many bytes this file and all later ones
+/// of its folder may have together.
 fn read_source<T: Tree>(
     alloc: Global,
     tree: &mut T,

@@ -6,7 +6,7 @@ ghost use Rattle.type_levels.specs.Answers as answers;
 #[derive(Clone, Copy, Debug, PartialEq, Eq)]
 pub enum Answer {
     Yes,
-    /// The steps do not suffice.
+    /// The allowed steps do not suffice to decide.
     Open,
     No,
 }
@@ -22,7 +22,7 @@ impl Answer {
         Answer::No
     }
 
-    /// Yes if one is yes, else open if one is open, else no.
+    /// Yes if one is yes, else `Open` if one is `Open`, else no.
     pub fn or(self, other: Answer) -> Answer
         ensures { result ≡ answers.either self other }
     {
@@ -37,7 +37,7 @@ impl Answer {
         }
     }
 
-    /// No if one is no, else open if one is open, else yes.
+    /// No if one is no, else `Open` if one is `Open`, else yes.
     pub fn and(self, other: Answer) -> Answer
         ensures { result ≡ answers.both self other }
     {

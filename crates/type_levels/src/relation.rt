@@ -5,14 +5,14 @@ ghost use Rattle.type_levels.specs.Numbered.{Numbered, AreKnown, AsksNext, Keeps
 use crate::question::{Next, Pair};
 use apt_base::NoMemory;
 
-/// A relation of types, by what a question about two of them asks next. The types go by numbers, and `T` has those that are numbered.
+/// A relation of two types, such as 'is a subtype of'. It is given by one step: a question about two types is settled, or leads to further questions. Types are named by numbers, and `T` holds the numbered types.
 pub trait Relation<T> {
-    /// What a number stands for.
+    /// The type of a number.
     type Type;
 
     ghost seen: { Self → T → Numbered Self.Type };
 
-    /// What a question asks next. Types that it names may be numbered on the way, also where it ends when memory runs out.
+    /// The further questions that a question leads to. Types that they name may get numbers, also where the call ends as out of memory.
     fn next(&self, types: &mut T, pair: Pair) -> Result<Next, NoMemory>
         requires known { AreKnown (seen self.now types.old) pair }
         ensures next { IfOk result (AsksNext (seen self.now) types.old types.new pair) }

@@ -54,7 +54,7 @@ fn is_displaced(
     Ok(answer)
 }
 
-// Adds a member of a supertype, unless it is there, is not inherited, or one that is there hides or overrides it. False where that is open, and the list is then as it was.
+// Adds a member of a supertype, unless it is there, is not inherited, or one that is there hides or overrides it. False where the steps do not suffice to decide that, and the list is then as it was.
 fn add_inherited(
     alloc: Global,
     types: &mut Types,
@@ -85,7 +85,8 @@ fn add_inherited(
 
 // ---- those of a type
 
-// Adds each of these that is due, in their order. False where one is open.
+// Adds each of these members that the list has to have, in their order. False where the steps do not suffice to
+// decide for one of them.
 fn add_all(
     alloc: Global,
     types: &mut Types,

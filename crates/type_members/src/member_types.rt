@@ -14,7 +14,7 @@ use type_numbers::{Node, Types};
 use type_relations::around_of;
 use type_steps::{erasure_of, is_raw, replaced_in};
 
-/// The number of the type of an element, as its `asType` gives it. It is added where it is not there, and each number that there was stands for what it stood for.
+/// The number of the type of an element, as its `asType` gives it. It is added where it is not there, and each number that was given before still has the same type.
 pub fn number_of(
     alloc: Global,
     table: &Table,
@@ -107,7 +107,7 @@ fn is_fixed(alloc: Global, table: &Table, at: &ElementRef) -> Result<bool, NoMem
     Ok(!inside)
 }
 
-/// The number of the type of a member as a member of the type with this number (JLS 4.5.2, 4.8): its own type where it is static, or where nothing around it has type parameters; else that in the supertype which declares it, the one with the fewest steps. `None` where no such supertype is within 64 steps, or where the erasure in a raw one is open. It is added where it is not there, and each number that there was stands for what it stood for.
+/// The number of the type of a member as a member of the type with this number (JLS 4.5.2, 4.8): its own type where it is static, or where nothing around it has type parameters; else that in the supertype which declares it, the one with the fewest steps. `None` where no such supertype is within 64 steps, or where the erasure in a raw one is open. It is added where it is not there, and each number that was given before still has the same type.
 #[tactic(auto, unfolding(crate::specs::MemberOf::member_of))]
 pub fn member_of(
     alloc: Global,

@@ -78,7 +78,7 @@ impl<'a> RememberedSubtypes<'a> {
         self.known.types()
     }
 
-    /// The number of the type, which is added with what stands in it, where they are not there. Each number that there was stands for what it stood for.
+    /// The number of the type, which is added with what stands in it, where they are not there. Each number that was given before still has the same type.
     pub fn add(&mut self, mirror: &Mirror) -> Result<usize, NoMemory>
         ensures stands { IfOk result (λ n. Stands self.new.types n mirror.now) }
         ensures grows { Grows self.old self.new }

@@ -10,7 +10,7 @@ use apt_base::{Boxed, ElementRef, List, NoMemory};
 use type_mirror::{Around, BaseMirror, DeclaredMirror, ExecutableMirror, Mirror};
 
 impl Types {
-    /// The number of the type, which is added with what stands in it, where they are not there. It stands for this type from now on, and each number that there was stands for what it stood for.
+    /// The number of the type, which is added with what stands in it, where they are not there. It stands for this type from now on, and each number that was given before still has the same type.
     #[cycle(adding)]
     pub fn add(&mut self, mirror: &Mirror) -> Result<usize, NoMemory>
         ensures stands { IfOk result (λ n. Stands self.new n mirror.now) }

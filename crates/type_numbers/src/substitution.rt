@@ -25,7 +25,7 @@ fn number_for(by: &[(ElementRef, usize)], element: &ElementRef) -> Option<usize>
     None
 }
 
-/// The number of the type with each variable of the list replaced by the type with the number beside it, all at once, wherever it stands as a type (JLS 4.10.2): what was put in is not looked at again, and a variable that is not in the list stays. An executable's own type parameters are named, and do not stand there as types. Where a variable stands twice in the list, its first entry counts. Each number that there was stands for what it stood for, also where out of memory ends the call.
+/// The number of the type with each variable of the list replaced by the type with the number beside it, all at once, wherever it stands as a type (JLS 4.10.2): what was put in is not looked at again, and a variable that is not in the list stays. An executable's own type parameters are named, and do not stand there as types. Where a variable stands twice in the list, its first entry counts. Each number that was given before still has the same type, also where out of memory ends the call.
 ///
 /// Each different type that stands in this one is looked at once, and each variable is compared with those of the list. It is out of memory too where there would be more than 1,048,576 types, or layers nested more than 4,096 deep.
 pub fn substitute(

@@ -166,7 +166,7 @@ impl Types {
         }
     }
 
-    /// The number of the type with this layer, whose parts have numbers. The type is added where it is not there, and each number that there was stands for what it stood for.
+    /// The number of the type with this layer, whose parts have numbers. The type is added where it is not there, and each number that was given before still has the same type.
     ///
     /// It is out of memory too where there would be more than 1,048,576 types, or layers nested more than 4,096 deep.
     pub fn intern(&mut self, node: Node) -> Result<usize, NoMemory>

@@ -98,7 +98,7 @@ fn signature_of(
     }
 }
 
-/// Whether one of two methods has, as a member of a type, a subsignature of the other one (JLS 8.4.2), within 64 steps; open where these do not suffice, or the type of one of them as a member is open. Each number that there was stands for what it stood for.
+/// Whether one of two methods has, as a member of a type, a subsignature of the other one (JLS 8.4.2), within 64 steps; open where these do not suffice, or the type of one of them as a member is open. Each number that was given before still has the same type.
 pub fn has_subsignature(
     alloc: Global,
     table: &Table,
@@ -139,7 +139,7 @@ fn is_below_both(
     Ok(below_first.and(below_second))
 }
 
-/// Whether the first method overrides the second one in a type (JLS 8.4.8.1, 9.4.1.1) within 64 steps: the methods themselves let it, the type is below both declaring types by their elements alone, and in the type the signature of the first one is a subsignature of that of the second one. No where one of these is no, else open where one is open within 64 steps. Each number that there was stands for what it stood for.
+/// Whether the first method overrides the second one in a type (JLS 8.4.8.1, 9.4.1.1) within 64 steps: the methods themselves let it, the type is below both declaring types by their elements alone, and in the type the signature of the first one is a subsignature of that of the second one. No where one of these is no, else open where one is open within 64 steps. Each number that was given before still has the same type.
 ///
 /// The types are not looked at where the methods themselves settle it, nor the signatures where the type is not below both declaring types.
 #[tactic(auto, using(crate::proofs::OverridingSteps::overriding))]

@@ -214,7 +214,7 @@ fn of_nodes(
     }
 }
 
-/// Whether the first type is that of a method or a constructor whose signature is a subsignature of the second one's (JLS 8.4.2): the parameters are the same once the variables of the second one are renamed to those of the first one in order, or they are the erased ones of the second one, each within 64 steps; open where these do not suffice. No for what is no method and no constructor. Each number that there was stands for what it stood for.
+/// Whether the first type is that of a method or a constructor whose signature is a subsignature of the second one's (JLS 8.4.2): the parameters are the same once the variables of the second one are renamed to those of the first one in order, or they are the erased ones of the second one, each within 64 steps; open where these do not suffice. No for what is no method and no constructor. Each number that was given before still has the same type.
 pub(crate) fn subsignature_at(
     alloc: Global,
     table: &Table,

@@ -41,7 +41,7 @@ impl<'a> Questions<'a> {
         }
     }
 
-    /// The number of the type, which is added with what stands in it, where they are not there. Each number that there was stands for what it stood for, also where this fails. `NoSuch` where the type names an element that is not there.
+    /// The number of the type, which is added with what stands in it, where they are not there. Each number that was given before still has the same type, also where this fails. `NoSuch` where the type names an element that is not there.
     pub fn add(&mut self, of: &Mirror) -> Result<usize, QueryFault>
         ensures added { IsAdded result self.old self.new of.now }
         ensures grows { Grows self.old self.new }

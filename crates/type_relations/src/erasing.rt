@@ -136,7 +136,7 @@ fn simple_erasure(
 
 // ---- all types
 
-// Two values, or nothing where one of them is open.
+// Two values, or nothing where the steps do not suffice for one of them.
 fn both_closed<A: Drop, B: Drop>(one: Option<A>, other: Option<B>) -> Option<(A, B)>
     ensures { result ≡ both_closed one other }
 {
@@ -166,7 +166,7 @@ fn executable_or_open(
     }
 }
 
-/// The erasure of a type (JLS 4.6) within this many steps, each of which goes from a type variable to its first bound; `None` where it is open.
+/// The erasure of a type (JLS 4.6) within this many steps, each of which goes from a type variable to its first bound; `None` where they do not suffice.
 #[cycle(erasing)]
 #[tactic(auto, using(crate::proofs::ErasedTypes::erased))]
 pub fn erasure_within(
@@ -199,7 +199,7 @@ fn base_erasure(
     }
 }
 
-/// The erasures of several types in order; `None` where one of them is open.
+/// The erasures of several types in order; `None` where the steps do not suffice for one of them.
 #[cycle(erasing)]
 pub(crate) fn erasures(
     alloc: Global,

@@ -99,7 +99,7 @@ pub(crate) fn replacements(
     Ok(by)
 }
 
-/// The number of a type with what a class type puts in the place of type parameters (JLS 4.10.2), its enclosing types included. It is added where it is not there, and each number that there was stands for what it stood for.
+/// The number of a type with what a class type puts in the place of type parameters (JLS 4.10.2), its enclosing types included. It is added where it is not there, and each number that was given before still has the same type.
 pub fn replaced_in(
     alloc: Global,
     table: &Table,

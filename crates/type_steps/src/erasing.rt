@@ -45,7 +45,7 @@ fn bare_class(
     Ok(Some(number))
 }
 
-/// The number of the erasure of the type with this number (JLS 4.6) within 64 steps, each of which goes from a type variable to its first bound; `None` where it is open. The erasure is added where it is not there, and each number that there was stands for what it stood for.
+/// The number of the erasure of the type with this number (JLS 4.6) within 64 steps, each of which goes from a type variable to its first bound; `None` where it is open. The erasure is added where it is not there, and each number that was given before still has the same type.
 #[cycle(erasing)]
 pub fn erasure_of(
     alloc: Global,

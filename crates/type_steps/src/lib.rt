@@ -2,7 +2,7 @@
 //!
 //! What a type has is as `type_relations` defines it of the mirror with that number: `erasure`, `direct` and `is_raw`. `specs/Supertypes` says what the numbers of several types stand for where these may be open, `specs/Arrays` has arrays of arrays, and `specs/Entries` what a class type puts in the place of type parameters.
 //!
-//! A call adds the types that it gives, and those on the way to them, to the types of `type_numbers`; each number that there was stands for what it stood for. The work is that of the header of a class type, or of the bounds of a type variable, and of a substitution, which looks once at each different type. Arrays are gone through in a loop.
+//! A call adds the types that it gives, and those on the way to them, to the types of `type_numbers`; each number that was given before still has the same type. The work is that of the header of a class type, or of the bounds of a type variable, and of a substitution, which looks once at each different type. Arrays are gone through in a loop.
 //!
 //! Not promised: that memory is there, and that an element that a type names is of the kind that it is named as.
 #![tactic(auto)]

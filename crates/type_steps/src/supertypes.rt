@@ -161,7 +161,7 @@ fn of_item(
     }
 }
 
-/// The numbers of the direct supertypes of the type with this number (JLS 4.10.1 to 4.10.3), the superclass before the interfaces; `None` where those of a raw type have no erasure within 64 steps. Each is added where it is not there, and each number that there was stands for what it stood for.
+/// The numbers of the direct supertypes of the type with this number (JLS 4.10.1 to 4.10.3), the superclass before the interfaces; `None` where those of a raw type have no erasure within 64 steps. Each is added where it is not there, and each number that was given before still has the same type.
 pub fn direct_of(
     alloc: Global,
     table: &Table,
