@@ -11,3 +11,4 @@ pub mod Rule
 pub mod Rows
 pub mod File
 pub mod SymbolList
+pub mod SymbolReading

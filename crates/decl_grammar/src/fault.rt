@@ -7,7 +7,7 @@ use std::alloc::{AllocError, AllocFailed};
 pub enum ReadFault {
     /// A fault, with this many symbols left, the faulty one included.
     Bad(usize),
-    /// Too much is open, with this many symbols left, the one where it is included.
+    /// The nesting is too deep at the first of the symbols that are left; this is their number.
     Deep(usize),
     /// Memory ran out.
     Memory,
@@ -49,9 +49,10 @@ impl From<NoMemory> for ReadFault {
 /// Why symbols are no compilation unit.
 #[derive(Clone, Copy, Debug, PartialEq, Eq)]
 pub enum ParseFault {
-    /// The symbols up to the one with this number, counted from 0, it included, begin no compilation unit; or all of them begin one and are none, and it is their number.
+    /// The number, from 0, of the first symbol at which no compilation unit continues. Where the file ends
+    /// too early, it is the number of all symbols.
     Bad { place: usize },
-    /// At the symbol with this number more is open than is allowed.
+    /// At the symbol with this number more nested types, type arguments and values are open than is allowed.
     Deep { place: usize },
     /// Memory ran out.
     Memory,

@@ -1,8 +1,8 @@
-// The symbols of the tokens of a file.
+// The symbols of a token of a file.
 ghost use Rattle.std.specs.Prelude.{◌≡◌, ◌++◌, IfOk, IfErr};
 ghost use Rattle.java_tokens.specs.declared.fault.TextFault.TheVariants.{Memory};
 ghost use Rattle.java_tokens.specs.TokensShown.{shown_doc, shown_token};
-ghost use Rattle.decl_grammar.specs.SymbolList.{word_sort, operator_sort, sort_of, is_before, sort_before, symbol_of, shown_next, shown_before, AreSymbols};
+ghost use Rattle.decl_grammar.specs.SymbolList.{word_sort, operator_sort, sort_of, is_before, sort_before, symbol_of, shown_next, shown_before};
 
 use crate::sorts::{
     ABSTRACT, AT, AT_INTERFACE, CHARACTER, EQUALS, FLOATING, GREATER_THAN, IDENTIFIER, INTEGER,
@@ -10,8 +10,7 @@ use crate::sorts::{
     UNSIGNED_SHIFT_RIGHT, UNSIGNED_SHIFT_RIGHT_EQUALS,
 };
 use crate::symbol::{Symbol, TokenText};
-use java_tokens::{Chars, TextFault, Token, TokenKind, TokenReader};
-use std::alloc::Global;
+use java_tokens::{TextFault, Token, TokenKind};
 
 // A sort of which no form has a symbol.
 const NO_SORT: u8 = 255;
@@ -111,8 +110,8 @@ fn symbol_at<'a>(sort: u8, further: bool, token: &Token<'a>) -> Symbol<'a>
     }
 }
 
-// Puts the symbols of a token before the next one behind those before it.
-fn add_symbols<'a>(
+/// Appends the symbols of a token, which depend on the token after it, `next`. The only error is `Memory`.
+pub(crate) fn add_symbols<'a>(
     all: &mut Vec<Symbol<'a>>,
     token: &Token<'a>,
     next: &Option<Token<'a>>,
@@ -134,20 +133,4 @@ fn add_symbols<'a>(
     }
     all.push(symbol_at(sort_at(sort, next), false, token))?;
     Ok(())
-}
-
-/// The symbols of a file, made as its tokens are read, of which no more than two are held at a time; or `Bad` with the offset in the file of the first
-/// token or separator at which no list of tokens goes on. `Memory` comes only when memory runs out.
-pub fn symbols<'a>(alloc: Global, chars: &'a Chars) -> Result<Vec<Symbol<'a>>, TextFault>
-    ensures { AreSymbols chars.now result }
-{
-    let mut all = Vec::new(alloc);
-    let mut reader = TokenReader::new(chars);
-    let mut last = reader.next()?;
-    'row: while let Some(token) = last {
-        let next = reader.next()?;
-        add_symbols(&mut all, &token, &next)?;
-        last = next;
-    }
-    Ok(all)
 }

@@ -6,5 +6,6 @@ pub mod Places
 pub mod FaultPlaces
 pub mod MemberReads
 pub mod OneAnswer
+pub mod FrontAnswers
 pub mod ShownChars
 pub mod FileAnswers

@@ -15,10 +15,10 @@ use Rattle.decl_parser.specs.Parsed.{offset_at, shown_answer, SameAnswer, AreSee
 
 -- ---- two ways to cut a list: one front is a front of the other
 
-abbrev Cut : List Symbol → List Symbol → List Symbol → List Symbol → Type 0
+abbrev pub Cut : List Symbol → List Symbol → List Symbol → List Symbol → Type 0
 Cut us at vs rest = ((ws : List Symbol) × (vs ≡ us ++ ws) × (at ≡ ws ++ rest)) ⊎ ((w : Symbol) × (ws : List Symbol) × (us ≡ vs ++ w ∷ ws) × (rest ≡ (w ∷ ws) ++ at))
 
-cut : (us at vs rest : List Symbol) → us ++ at ≡ vs ++ rest → Cut us at vs rest
+pub cut : (us at vs rest : List Symbol) → us ++ at ≡ vs ++ rest → Cut us at vs rest
 cut [] at vs rest same = inl (vs, refl, same)
 cut (u ∷ us) at [] rest same = inr (u, us, refl, sym same)
 cut (u ∷ us) at (v ∷ vs) rest same = go (cut us at vs rest (ap tail_of same))

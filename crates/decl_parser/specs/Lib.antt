@@ -5,3 +5,4 @@ pub mod NamesShown
 pub mod Lines
 pub mod LinesShown
 pub mod Parsed
+pub mod Fronts

@@ -5,11 +5,15 @@
 //! `AnswersFile` of `specs/Parsed`. Which names are too long and which child lists are is in `decl_limits`, and the lines of elements are in `specs/Lines`.
 //!
 //! Depth is tested as the symbols are read. Children are counted behind that, over the symbols before the fault (`decl_children`), and names last, in a file that has a reading.
+//!
+//! A file is read part by part. Where the symbols so far pass the limit of depth or of children, the rest of
+//! the file can't change that, and is read for a fault of its tokens alone, which would come first.
 #![tactic(auto)]
 
 mod bodies;
 mod declarations;
 mod file;
+mod fronts;
 mod info;
 mod info_file;
 mod laws;

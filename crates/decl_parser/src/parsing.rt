@@ -6,19 +6,25 @@ ghost use Rattle.decl_grammar.specs.Grammar.{ordinary, package_info};
 ghost use Rattle.decl_grammar.specs.File.{BeginsPhrase};
 ghost use Rattle.decl_limits.specs.Texts.{AreTexts};
 ghost use Rattle.decl_limits.specs.Limits.{IsWhole, AreLegal, IsLegalInfo};
+ghost use Rattle.decl_grammar.specs.SymbolReading.{HasGathered};
+ghost use Rattle.decl_parser.specs.Fronts.{SettlesSymbols};
 ghost use Rattle.decl_parser.specs.Parsed.{offset_at, is_info, fault_of, HasFaultAt, IsDeepAt, GivesNamed, GivesNamedInfo, UnlessCrowded, AnswersOrdinary, AnswersInfo, AnswersSymbols, AnswersChars, AnswersFile};
 
 use crate::file::{OrdinaryFile, parse_ordinary};
+use crate::fronts::limit_passed;
 use crate::info::parse_info;
 use crate::info_file::InfoFile;
 use crate::naming::{is_file_named, is_info_named};
 use crate::units::{info_declared, ordinary_declared};
 use apt_base::{List, MAX_DEPTH, What};
 use decl_children::is_crowded;
-use decl_grammar::{Lines, ParseFault, Symbol, symbols};
+use decl_grammar::{Lines, ParseFault, Symbol, SymbolReader};
 use decl_tree::Unit;
 use java_tokens::{Chars, TextFault, read_chars};
 use std::alloc::Global;
+
+// How many symbols of a file are read before they are first looked at for a limit that they pass.
+const FIRST_SYMBOLS: usize = 4_096;
 
 /// The units of a file, and for each the lines of its elements, in the same order.
 #[derive(Drop)]
@@ -73,8 +79,10 @@ fn unless_crowded(alloc: Global, before: &[Symbol<'_>], fault: FileFault) -> Fil
     }
 }
 
-// What the first fault of the symbols of an ordinary compilation unit comes to.
-fn bad_ordinary(alloc: Global, symbols: &[Symbol<'_>], number: usize, end: u32) -> FileFault
+/// What an ordinary compilation unit comes to whose first fault is at the symbol with this number, or at its
+/// end: `Bad` with the offset of that symbol, or the length of the file; but `TooLarge` with Children where a
+/// child list is too long before that, and `Memory` where counting the children was out of memory.
+pub fn bad_ordinary(alloc: Global, symbols: &[Symbol<'_>], number: usize, end: u32) -> FileFault
     requires { HasFaultAt ordinary number symbols.now }
     ensures { AnswersOrdinary end symbols.now (Err result) }
 {
@@ -82,8 +90,10 @@ fn bad_ordinary(alloc: Global, symbols: &[Symbol<'_>], number: usize, end: u32) 
     unless_crowded(alloc, front_of(symbols, number), FileFault::Bad { place })
 }
 
-// What too much that is open in them comes to.
-fn deep_ordinary(alloc: Global, symbols: &[Symbol<'_>], number: usize, end: u32) -> FileFault
+/// What an ordinary compilation unit comes to in which too much is open at the symbol with this number, and
+/// not before: `TooLarge` with Depth; but with Children where a child list is too long before that, and
+/// `Memory` where counting the children was out of memory.
+pub fn deep_ordinary(alloc: Global, symbols: &[Symbol<'_>], number: usize, end: u32) -> FileFault
     requires { IsDeepAt ordinary number symbols.now }
     ensures { AnswersOrdinary end symbols.now (Err result) }
 {
@@ -164,8 +174,9 @@ fn bad_info(symbols: &[Symbol<'_>], number: usize, end: u32) -> FileFault
     }
 }
 
-// What too much that is open in them comes to.
-fn deep_info(symbols: &[Symbol<'_>], number: usize, end: u32) -> FileFault
+/// What a file `package-info.java` comes to in which too much is open at the symbol with this number, and not
+/// before: `TooLarge` with Depth.
+pub fn deep_info(symbols: &[Symbol<'_>], number: usize, end: u32) -> FileFault
     requires { IsDeepAt package_info number symbols.now }
     ensures { AnswersInfo end symbols.now (Err result) }
 {
@@ -221,13 +232,68 @@ fn text_fault(fault: TextFault) -> FileFault
     }
 }
 
+// What a file comes to for which the symbols that a reader has settle on `fault`, a limit or out of memory:
+// `fault`, or `Bad` with the place of the first fault of its tokens, which comes before any limit. The rest
+// of the file is read for that alone.
+fn given_up(
+    info: bool,
+    chars: &Chars,
+    reader: SymbolReader<'_>,
+    fault: FileFault,
+    end: u32,
+) -> FileFault
+    requires gathered { HasGathered chars.now reader }
+    requires settled { SettlesSymbols info end reader.symbols.items fault }
+    ensures { AnswersChars info end chars.now (Err result) }
+{
+    match reader.pass_rest() {
+        Ok(()) => fault,
+        Err(stop) => text_fault(stop),
+    }
+}
+
+// What a file comes to, of which a reader has the first symbols. Whenever there are twice as many as before,
+// they are looked at for a limit: so a file that passes one takes memory for about twice the symbols in which
+// it does, and not for all that come after them.
+fn of_reader(
+    alloc: Global,
+    info: bool,
+    chars: &Chars,
+    first: SymbolReader<'_>,
+    end: u32,
+) -> Result<Parsed, FileFault>
+    requires { HasGathered chars.now first }
+    ensures { AnswersChars info end chars.now result }
+{
+    let mut reader = first;
+    let mut count = FIRST_SYMBOLS;
+    'part: loop {
+        let further = match reader.read_to(count) {
+            Ok(further) => further,
+            Err(stop) => return Err(text_fault(stop)),
+        };
+        if further.has_ended() {
+            return of_symbols(alloc, info, further.front(), end);
+        }
+        if let Some(fault) = limit_passed(alloc, info, further.front(), end) {
+            return Err(given_up(info, chars, further, fault, end));
+        }
+        // (not reached: no memory holds more symbols than can be counted)
+        let Some(twice) = count.checked_mul(2) else {
+            return Err(FileFault::Memory);
+        };
+        reader = further;
+        count = twice;
+    }
+}
+
 // What the characters of a file come to.
 fn of_chars(alloc: Global, info: bool, chars: &Chars, end: u32) -> Result<Parsed, FileFault>
     ensures { AnswersChars info end chars.now result }
 {
-    match symbols(alloc, chars) {
-        Ok(all) => of_symbols(alloc, info, all.as_slice(), end),
-        Err(fault) => Err(text_fault(fault)),
+    match SymbolReader::new(alloc, chars) {
+        Ok(reader) => of_reader(alloc, info, chars, reader, end),
+        Err(stop) => Err(text_fault(stop)),
     }
 }
 
