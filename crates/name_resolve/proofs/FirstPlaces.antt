@@ -1,7 +1,7 @@
 -- The first place that finds anything: where one finds something, none behind it is asked.
-use Rattle.std.proofs.Common.{◌≡◌, ℕ, zero, suc, ◌-◌, ◌<◌, List, [], ◌∷◌, refl, sym, ap, ◌∙◌, arith}
-use Rattle.name_resolve.specs.Finds.{Find, Finds, Nothing, One, Several, first_of, declared_types}
-use Rattle.name_resolve.specs.Meaning.{Tops, Members, inherited, members_within, along, along_or}
+use Rattle.std.proofs.Common.{◌≡◌, ℕ, List, [], ◌∷◌, refl, ap, ◌∙◌}
+use Rattle.name_resolve.specs.Finds.{Finds, Nothing, One, Several, first_of}
+use Rattle.name_resolve.specs.Meaning.{Members, along, along_or}
 
 -- it finds something
 pub first_found : (x : Finds) (rest : List Finds) → (x ≡ Nothing → ⊥) → first_of (x ∷ rest) ≡ x
@@ -37,21 +37,3 @@ pub or_found : (m : Members) (names : List (List ℕ)) (other x : Finds) → (x 
 or_found m names other Nothing h = absurd (h refl)
 or_found m names other (One f) h = refl
 or_found m names other Several h = refl
-
--- ---- levels
-
-pub members_none : (tops : Tops) (f : Find) (name : List ℕ) (n : ℕ) → n ≡ 0 → declared_types f name ≡ members_within tops n f name
-unfolding members_within
-members_none tops f name n e = ap (λ k. members_within tops k f name) (sym e)
-
-pub members_own : (tops : Tops) (f : Find) (name : List ℕ) (n : ℕ) → (declared_types f name ≡ Nothing → ⊥) → declared_types f name ≡ members_within tops n f name
-unfolding members_within
-members_own tops f name zero h = refl
-members_own tops f name (suc n) h = sym (first_found (declared_types f name) (inherited tops (members_within tops n) f name ∷ []) h)
-
-pub members_above : (tops : Tops) (f : Find) (name : List ℕ) (n : ℕ) → 0 < n → declared_types f name ≡ Nothing → inherited tops (members_within tops (n - 1)) f name ≡ members_within tops n f name
-unfolding members_within
-members_above tops f name zero h e = absurd (omega arith)
-members_above tops f name (suc n) h e =
-    let one_less : suc n - 1 ≡ n = omega arith in
-    rw one_less (sym (second_of (declared_types f name) (inherited tops (members_within tops n) f name) e))

@@ -2,11 +2,15 @@ pub mod Agreement
 pub mod ChildrenLeft
 pub mod Enclosing
 pub mod FirstPlaces
+pub mod KeptQuestions
 pub mod LookSteps
 pub mod MirrorsLemmas
 pub mod NameParts
 pub mod PlacedLemmas
 pub mod PlacesLemmas
 pub mod RememberedLemmas
+pub mod Settled
+pub mod SettledQuestions
+pub mod SteadyQuestions
 pub mod TopTypes
 pub mod TypesAt

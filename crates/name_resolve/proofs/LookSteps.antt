@@ -80,15 +80,7 @@ pub supers_all : (tops : Tops) (m : Members) (f : Find) (name : List ℕ) (ss : 
 unfolding inherited
 supers_all tops m f name ss e = ap (from_supers tops m f name Nothing) e ∙ each_all _ (supertypes f)
 
--- ---- an import's names with no level left
-
-pub members_zero : (tops : Tops) → members_within tops 0 ≡ declared_types
-unfolding members_within
-members_zero tops = λ i f name. declared_types f name
-
-pub imported-zero : (tops : Tops) (part : Part) (names : List (List ℕ)) → by_prefix tops (members_within tops 0) part (prefixes names) ≡ imported tops part names
-unfolding imported
-imported-zero tops part names = ap (λ m. by_prefix tops m part (prefixes names)) (members_zero tops)
+-- ---- an import's names
 
 -- the last name of an import, and those before it
 pub ends_last : (name last : List ℕ) (front : List (List ℕ)) → ends_in name (front ++ last ∷ []) ≡ bytes_eq last name
@@ -124,6 +116,15 @@ pub along_next : (m : Members) (names : List (Bor (List ℕ))) (i : ℕ) (d : Bo
     → along m x' (lent (drop (i + 1) names)) ≡ along m x (lent (drop i names))
 along_next m names i d x x' h e =
     ap (λ y. along m y (lent (drop (i + 1) names))) e ∙ sym (ap (λ ns. along m x (lent ns)) (drop_more names i d h))
+
+pub none_left : {A : Type 0} (xs : List A) (i : ℕ) → length xs ≡ i → drop i xs ≡ []
+none_left [] zero e = refl
+none_left [] (suc i) e = absurd (omega arith)
+none_left (x ∷ xs) zero e = absurd (omega arith)
+none_left (x ∷ xs) (suc i) e = none_left xs i (omega arith)
+
+pub along_over : (m : Members) (names : List (Bor (List ℕ))) (i : ℕ) (x : Finds) → length names ≡ i → along m x (lent (drop i names)) ≡ x
+along_over m names i x e = ap (λ ns. along m x (lent ns)) (none_left names i e)
 
 -- ---- prefixes
 

@@ -17,7 +17,7 @@ use Rattle.element_table.specs.UnitNames.{in_package, simple_name, unit_name}
 use Rattle.name_resolve.specs.QualifiedNames.{prefixes}
 use Rattle.name_resolve.specs.Finds.{Find, Finds, Nothing, One, Several, same_find}
 use Rattle.name_resolve.specs.Supertypes.{Supertype, Written, Implied, supertypes, names_in}
-use Rattle.name_resolve.specs.Meaning.{Scope, scope_at, scope_of, top_of, top_in, tops_of, members_of, members_within, supertype_found, simple, but_last}
+use Rattle.name_resolve.specs.Meaning.{Scope, scope_at, scope_of, top_of, top_in, tops_of, members_of, imported, members_within, supertype_found, simple, but_last}
 use Rattle.name_resolve.specs.Placed.{or_bare, IsPlacedUnit, IsPlaced, ArePlaced}
 use Rattle.name_resolve.proofs.Agreement as agreement
 use Rattle.name_resolve.proofs.Agreement.{ImportAsks, SimpleAsks, Asks, SupertypeAsks}
@@ -143,6 +143,10 @@ module _ (table : TypeTable) (is : IsTable table) where
 
   pub tops-placed : (part : Part) (name : List ℕ) → ArePlaced table (tops part name)
   tops-placed part name = good_placed (tops part name) (tops-good part name)
+
+  pub imported-placed : (part : Part) (names : List (List ℕ)) → ArePlaced table (imported tops part names)
+  imported-placed part names =
+      good_placed _ (agreement.imported-same tops tops Good part names (of_prefixes (agreement.SameTops tops tops Good part) (same_tops part) names)).good
 
   module _ (levels : ℕ) where
     members-good : (f : Find) → IsPlacedUnit table f.unit → (name : List ℕ) → ArePlaced table (members_within tops levels f name)

@@ -1,15 +1,19 @@
--- What look-ups remember: member types that were found, each with the type, the name and the number of levels that they were asked for by.
-use Rattle.std.specs.Prelude.{◌≡◌, ◌<◌, ◌==◌, ℕ, Bool, true, false, ◌&&◌, List, string_bytes}
-use Rattle.std.specs.List.{AllByRecursion}
+-- What look-ups remember: which member types are inherited, by the levels of supertypes through which they are looked for.
+use Rattle.std.specs.Prelude.{◌≡◌, ◌≤◌, ◌<◌, ◌-◌, ℕ, suc, Bool, true, false, ◌&&◌, List, [], length, nat_lt, Option, None, Some, Result, IfOk, slice_get, string_bytes, if◌then◌else◌}
+use Rattle.std.specs.Option.{option_or}
 use Rattle.std.specs.Str.{bytes_eq}
 use Rattle.element_table.specs.declared.part.Part.{Part}
 use Rattle.element_table.specs.declared.part.Part.TheVariants.{Source, Stub}
 use Rattle.element_table.specs.TypeTable.{TypeTable, IsTable}
-use Rattle.name_resolve.specs.declared.memory.Known.{Known}
+use Rattle.name_resolve.specs.declared.finds.Finds.{Finds}
+use Rattle.name_resolve.specs.declared.member_types.MemberTypes.{MemberTypes}
+use Rattle.name_resolve.specs.declared.memory.Question.{Question}
 use Rattle.name_resolve.specs.declared.memory.Stop.{Stop}
 use Rattle.name_resolve.specs.declared.memory.Stop.TheVariants as stop
-use Rattle.name_resolve.specs.Finds.{Find, Nothing, same_find, declared_types}
-use Rattle.name_resolve.specs.Meaning.{tops_of, members_within}
+use Rattle.name_resolve.specs.Finds as find
+use Rattle.name_resolve.specs.Finds.{Find, Nothing, One, Several, same_find, declared_types}
+use Rattle.name_resolve.specs.Supertypes.{supertypes}
+use Rattle.name_resolve.specs.Meaning.{Tops, Members, tops_of, inherited, members_within}
 use Rattle.name_resolve.specs.Placed.{IsPlaced}
 use Rattle.name_resolve.specs.Shown.{find_of, finds_of}
 
@@ -20,21 +24,112 @@ same_part Source Stub = false
 same_part Stub Source = false
 same_part Stub Stub = true
 
--- whether this is what is asked for. The number of levels counts, as what is found with more of them is another thing
-abbrev pub answers : Known → ℕ → Find → List ℕ → Bool
-answers known levels f name =
-    (known.levels == levels) && (same_part known.of.part f.part && (same_find (find_of known.of) f && bytes_eq (string_bytes known.name) name))
+-- both are nothing, the same element, or different ones
+abbrev pub same_finds : find.Finds → find.Finds → Bool
+same_finds Nothing Nothing = true
+same_finds (One f) (One g) = same_part f.part g.part && same_find f g
+same_finds Several Several = true
+same_finds _ _ = false
 
--- it is of this table, and was found in it
-pub record IsRight (table : TypeTable) (known : Known) : Type 0 where
-  pub placed : IsPlaced table (find_of known.of)
-  pub right : finds_of known.finds ≡ members_within (tops_of table) known.levels (find_of known.of) (string_bytes known.name)
+-- ---- questions
 
-abbrev pub AreRight : TypeTable → List Known → Type 0
-AreRight table known = IsTable table × AllByRecursion (IsRight table) known
+-- it is about this name of this type
+abbrev pub asks : Question → Find → List ℕ → Bool
+asks q f name = same_part q.of.part f.part && (same_find (find_of q.of) f && bytes_eq (string_bytes q.name) name)
 
--- the type whose member types a look-up wants is of the table and declares none of this name, and a level is left to look further
-abbrev pub IsWanted : TypeTable → ℕ → Stop → Type 0
-IsWanted table levels stop.Memory = Unit {0}
-IsWanted table levels (stop.Wanted of name) =
-    IsPlaced table (find_of of) × ((0 < levels) × (declared_types (find_of of) (string_bytes name) ≡ Nothing))
+-- what is found with so many levels, as far as it is known: the last answer serves for all further levels where the question is settled
+abbrev pub answer_of : Question → Bool → ℕ → Option Finds
+answer_of q settled levels = option_or (slice_get q.answers.items levels) (if settled then slice_get q.answers.items (length q.answers.items - 1) else None)
+
+abbrev pub AreSame : Option Finds → Option Finds → Type 0
+AreSame (Some one) (Some other) = same_finds (finds_of one) (finds_of other) ≡ true
+AreSame _ _ = ⊥
+
+-- the same is found with this number of levels and with the other one, which is the next, and with all further ones where the question is settled
+pub record IsSteady (q : Question) (settled : Bool) (fewer levels : ℕ) : Type 0 where
+  pub same : AreSame (answer_of q settled fewer) (answer_of q settled levels)
+  pub last : settled ≡ true → length q.answers.items - 1 ≤ levels
+
+-- ---- ways to find member types
+
+-- it finds those that a type declares, and none where there are neither such nor supertypes
+pub record IsWay (members : Members) : Type 0 where
+  pub own : (f : Find) (name : List ℕ) → (declared_types f name ≡ Nothing → ⊥) → members f name ≡ declared_types f name
+  pub alone : (f : Find) (name : List ℕ) → declared_types f name ≡ Nothing → supertypes f ≡ [] → members f name ≡ Nothing
+
+-- the question at a place
+abbrev pub Stands : MemberTypes → ℕ → Question → Type 0
+Stands memory place q = slice_get memory.questions.items place ≡ Some q
+
+abbrev pub is_settled : MemberTypes → ℕ → Bool
+is_settled memory place = nat_lt place memory.settled
+
+-- it finds what is known with so many levels
+pub record Agrees (memory : MemberTypes) (levels : ℕ) (members : Members) : Type 0 where
+  pub way : IsWay members
+  pub known : (place : ℕ) (q : Question) (answer : Finds) → Stands memory place q → answer_of q (is_settled memory place) levels ≡ Some answer
+      → finds_of answer ≡ members (find_of q.of) (string_bytes q.name)
+
+-- ---- what look-ups promise
+
+abbrev pub tops_in : MemberTypes → Tops
+tops_in memory = tops_of memory.table.now
+
+-- it found what this finds by each way to find member types that finds what is known with so many levels, unless it stopped
+abbrev pub Tells : {E : Type 0} → Result Finds E → MemberTypes → ℕ → (Members → find.Finds) → Type 0
+Tells result memory levels found = IfOk result (λ f. (members : Members) → Agrees memory levels members → finds_of f ≡ found members)
+
+-- the same, unless it does not know
+abbrev pub IfTold : Option Finds → MemberTypes → ℕ → (Members → find.Finds) → Type 0
+IfTold None memory levels found = Unit {0}
+IfTold (Some f) memory levels found = (members : Members) → Agrees memory levels members → finds_of f ≡ found members
+
+abbrev pub TellsSome : {E : Type 0} → Result (Option Finds) E → MemberTypes → ℕ → (Members → find.Finds) → Type 0
+TellsSome result memory levels found = IfOk result (λ o. IfTold o memory levels found)
+
+-- the type whose member types a look-up wants is of the table and declares none of this name
+abbrev pub IsWanted : TypeTable → Stop → Type 0
+IsWanted table stop.Memory = Unit {0}
+IsWanted table (stop.Wanted of name) = IsPlaced table (find_of of) × (declared_types (find_of of) (string_bytes name) ≡ Nothing)
+
+-- ---- what is remembered is right
+
+-- this is inherited by each way to find member types that finds what is known with so many levels
+abbrev pub Follows : MemberTypes → ℕ → Question → find.Finds → Type 0
+Follows memory levels q finds = (members : Members) → Agrees memory levels members → finds ≡ inherited (tops_in memory) members (find_of q.of) (string_bytes q.name)
+
+pub record IsRight (memory : MemberTypes) (place : ℕ) (q : Question) : Type 0 where
+  pub placed : IsPlaced memory.table.now (find_of q.of)
+  pub none : declared_types (find_of q.of) (string_bytes q.name) ≡ Nothing
+  pub some : 0 < length q.answers.items
+  pub first : (answer : Finds) → slice_get q.answers.items 0 ≡ Some answer → finds_of answer ≡ Nothing
+  -- each further answer follows from what is known with one level less
+  pub next : (levels : ℕ) (answer : Finds) → slice_get q.answers.items (suc levels) ≡ Some answer → Follows memory levels q (finds_of answer)
+  -- the last answer of a settled question is found with all further levels
+  pub lasting : is_settled memory place ≡ true → (levels : ℕ) (answer : Finds) → length q.answers.items ≤ levels
+      → slice_get q.answers.items (length q.answers.items - 1) ≡ Some answer
+      → finds_of answer ≡ members_within (tops_in memory) levels (find_of q.of) (string_bytes q.name)
+
+pub record AreRight (memory : MemberTypes) : Type 0 where
+  pub is_table : IsTable memory.table.now
+  pub count : memory.settled ≤ length memory.questions.items
+  pub each : (place : ℕ) (q : Question) → Stands memory place q → IsRight memory place q
+
+-- this is the answer with one level more than in the last one
+abbrev pub IsNextAnswer : MemberTypes → ℕ → Finds → Type 0
+IsNextAnswer memory place finds = (q : Question) (levels : ℕ) → Stands memory place q → length q.answers.items ≡ suc levels → Follows memory levels q (finds_of finds)
+
+abbrev pub IsNext : {E : Type 0} → MemberTypes → ℕ → Result Finds E → Type 0
+IsNext memory place result = IfOk result (IsNextAnswer memory place)
+
+abbrev pub AreSteady : MemberTypes → ℕ → ℕ → Type 0
+AreSteady memory fewer levels = (place : ℕ) (q : Question) → Stands memory place q → IsSteady q (is_settled memory place) fewer levels
+
+-- the table stays, and what is settled
+pub record Stays (old new : MemberTypes) : Type 0 where
+  pub table : new.table.now ≡ old.table.now
+  pub settled : new.settled ≡ old.settled
+
+-- all from this place on are questions that are not settled
+abbrev pub AreUnsettled : MemberTypes → ℕ → Type 0
+AreUnsettled memory place = memory.settled ≤ place

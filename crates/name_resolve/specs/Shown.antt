@@ -1,13 +1,9 @@
 -- Finds and supertypes in memory, for contracts.
-use Rattle.std.specs.Prelude.{◌≡◌, ℕ, List, codes, Option, Result, IfOk, IfSome}
+use Rattle.std.specs.Prelude.{◌≡◌, ℕ, List, codes, Option, Result, IfOk}
 use Rattle.std.specs.Option.{option_map, option_to_list}
 use Rattle.name_resolve.specs.Finds as find
 use Rattle.decl_elements.specs.Nodes.{Node}
-use Rattle.decl_tree.specs.declared.compilation.Import.{Import}
-use Rattle.element_table.specs.TypeTable.{TypeTable}
-use Rattle.element_table.specs.declared.part.Part.{Part}
 use Rattle.name_resolve.specs.Finds.{Find, find_at, types_at, parameters_at}
-use Rattle.name_resolve.specs.Parts.{demand_with}
 use Rattle.name_resolve.specs.Supertypes as meant
 use Rattle.name_resolve.specs.declared.headers.Supertype.{Supertype}
 use Rattle.name_resolve.specs.declared.headers.Supertype.TheVariants as shown
@@ -26,14 +22,6 @@ finds_of finds.Several = find.Several
 -- it found this, unless it gave nothing for another reason
 abbrev pub Gives : {E : Type 0} → Result Finds E → find.Finds → Type 0
 Gives result finds = IfOk result (λ f. finds_of f ≡ finds)
-
--- it found this, or did not know, unless it gave nothing for another reason
-abbrev pub GivesSome : {E : Type 0} → Result (Option Finds) E → find.Finds → Type 0
-GivesSome result finds = IfOk result (λ o. IfSome o (λ f. finds_of f ≡ finds))
-
--- what imports on demand give with what was found before
-abbrev pub demand_behind : TypeTable → ℕ → Part → List ℕ → Finds → List Import → find.Finds
-demand_behind table levels part name before imports = demand_with table levels part name (finds_of before) imports
 
 -- the child with a number of what is found
 abbrev pub child_of : Find → ℕ → Find

@@ -76,6 +76,14 @@ fn types_at<'a>(
     Ok(finds)
 }
 
+/// How many children an element has; none where there is none. It takes no memory.
+pub(crate) fn children_count(of: &Found<'_>) -> usize {
+    match place_at(of.unit, of.path.as_slice()) {
+        None => 0,
+        Some(place) => usize::from(place.children()),
+    }
+}
+
 /// The member types of this name that a type declares (JLS 8.5, 9.5), inherited ones aside.
 pub fn declared_types<'a>(alloc: Global, of: &Found<'a>, name: &str) -> Result<Finds<'a>, NoMemory>
     ensures { IfOk result (λ f. finds_of f ≡ declared_types (find_of of.now) name.now) }

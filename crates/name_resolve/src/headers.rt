@@ -1,5 +1,5 @@
 // What the header of a type names or implies.
-ghost use Rattle.std.specs.Prelude.{◌≡◌, ◌++◌, map, Some, IfOk};
+ghost use Rattle.std.specs.Prelude.{◌≡◌, ◌++◌, [], false, map, Some, IfOk};
 ghost use Rattle.std.specs.Option.{option_copied};
 ghost use Rattle.name_resolve.specs.Ways.{type_at};
 ghost use Rattle.name_resolve.specs.Supertypes.{Written, is_object, superclass_in, interfaces_in, supertypes_in, supertypes, superclass_at, interfaces_at};
@@ -100,7 +100,8 @@ fn declared_supertypes<'a>(
     }
 }
 
-/// The direct supertypes that a type names or implies, the superclass before the interfaces; none for what is no type.
+/// The direct supertypes that a type names or implies, the superclass before the interfaces; none for what is
+/// no type.
 #[tactic(auto, unfolding(crate::specs::Supertypes::supertypes))]
 pub fn supertypes<'a>(alloc: Global, of: &Found<'a>) -> Result<Vec<Supertype<'a>>, NoMemory>
     ensures { IfOk result (λ list. map super_of list.items ≡ supertypes (find_of of.now)) }
@@ -111,6 +112,23 @@ pub fn supertypes<'a>(alloc: Global, of: &Found<'a>) -> Result<Vec<Supertype<'a>
             let list = declared_supertypes(alloc, is_object(of), declaration)?;
             Ok(list)
         }
+    }
+}
+
+/// Whether a type names or implies a supertype. It takes no memory.
+#[tactic(auto, unfolding(crate::specs::Supertypes::supertypes))]
+pub(crate) fn has_supertypes(of: &Found<'_>) -> bool
+    ensures { result ≡ false → supertypes (find_of of.now) ≡ [] }
+{
+    match type_at(of) {
+        None => false,
+        Some(declaration) => match declaration.kind {
+            TypeKind::AnnotationType => true,
+            _ => {
+                superclass_of(is_object(of), declaration).is_some()
+                    || !declaration.interfaces.as_slice().is_empty()
+            }
+        },
     }
 }
 
@@ -132,7 +150,8 @@ fn declared_interfaces<'a>(
     }
 }
 
-/// The superclass that a type names or implies: `None` for an interface, for `java.lang.Object` and for what is no type. It takes no memory.
+/// The superclass that a type names or implies: `None` for an interface, for `java.lang.Object` and for what
+/// is no type. It takes no memory.
 #[tactic(auto, unfolding(crate::specs::Supertypes::superclass_at))]
 pub fn superclass_at<'a>(of: &Found<'a>) -> Option<Supertype<'a>>
     ensures { supers_of result ≡ superclass_at (find_of of.now) }

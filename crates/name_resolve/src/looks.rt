@@ -1,29 +1,33 @@
-// The look-ups over a table, and the member types that they remember.
-ghost use Rattle.std.specs.Prelude.{◌≡◌, IfErr, IfOk, IfSome};
+// The look-ups over a table.
+ghost use Rattle.std.specs.Prelude.{◌≡◌};
 ghost use Rattle.element_table.specs.TypeTable.{IsTable};
-ghost use Rattle.name_resolve.specs.Meaning.{members_of};
-ghost use Rattle.name_resolve.specs.Parts.{left};
-ghost use Rattle.name_resolve.specs.Placed.{IsPlaced, ArePlaced};
-ghost use Rattle.name_resolve.specs.Remembered.{IsWanted};
-ghost use Rattle.name_resolve.specs.Shown.{find_of, finds_of, Gives, GivesSome};
+ghost use Rattle.name_resolve.specs.Meaning.{scope_of, meaning};
+ghost use Rattle.name_resolve.specs.Parts.{lent, qualifier_at};
+ghost use Rattle.name_resolve.specs.Placed.{IsPlaced};
+ghost use Rattle.name_resolve.specs.Shown.{find_of, Gives};
 
-use crate::children::declared_types;
-use crate::finds::{Finds, Found, is_nothing};
-use crate::memory::{Known, Stop, copied, copied_finds};
-use crate::names::owned;
+use crate::finds::{Finds, Found};
+use crate::member_types::MemberTypes;
 use apt_base::NoMemory;
 use element_table::Table;
 use std::alloc::Global;
 use std::marker::Model;
 
-/// The look-ups over one table, with the member types that they remember: a type is asked once for each name and each number of levels that are left, so that the work is polynomial also where headers go in circles. Contracts see the table alone.
+/// The look-ups over one table, with the member types that they remember: which of a name a type inherits is
+/// one question, which is asked once. Contracts see the table alone.
 ///
-/// A look-up asks its places in their order, and none behind the first that finds anything. It calls none with fewer levels: where it needs member types that are not known yet it stops and says which. They are then learned, with one level less each time, and the look-up is made anew. So calls nest as deep as there are levels, and no deeper.
+/// A look-up asks its places in their order, and none behind the first that finds anything. Where it needs
+/// inherited member types that were never asked for it stops and says which; these are then searched for, by
+/// levels of supertypes, and the look-up is made anew. A search gives each question its answers with no
+/// level, with one, and so on, until none of them changes: so circles of look-ups end there, and only what
+/// goes on changing is followed through all 64 levels.
+///
+/// Out of memory comes also beyond 65,536 questions, and where one look-up would take more than 67,108,864
+/// steps: comparisons with the name of a child of an element, and look-ups in maps, each counted as 32 of
+/// these.
 #[derive(Drop)]
 pub struct Looks<'a> {
-    pub(crate) alloc: Global,
-    pub(crate) table: &'a Table,
-    known: Vec<Known<'a>>,
+    members: MemberTypes<'a>,
 }
 
 impl<'a> Model for Looks<'a> {
@@ -35,9 +39,9 @@ impl<'a> Model for Looks<'a> {
 
     ghost coded = { table_code };
 
-    ghost view = { λ a. a.table.now };
+    ghost view = { λ a. a.members.table.now };
 
-    ghost invariant = { λ a. AreRight a.table.now a.known.items };
+    ghost invariant = { λ a. AreRight a.members };
 }
 
 impl<'a> Looks<'a> {
@@ -47,98 +51,36 @@ impl<'a> Looks<'a> {
         ensures { result ≡ table.now }
     {
         Looks {
-            alloc,
-            table,
-            known: Vec::new(alloc),
+            members: MemberTypes::new(alloc, table),
         }
     }
 
-    // What is remembered of this, if anything.
-    fn recalled(
-        &self,
-        levels: u32,
-        of: &Found<'a>,
-        name: &str,
-    ) -> Result<Option<Finds<'a>>, NoMemory>
-        requires placed { IsPlaced self.now (find_of of.now) }
-        ensures { GivesSome result (left self.now levels (find_of of.now) name.now) }
-    {
-        for known in &self.known {
-            if known.answers(levels, of, name) {
-                let finds = copied_finds(self.alloc, &known.finds)?;
-                return Ok(Some(finds));
-            }
-        }
-        Ok(None)
-    }
-
-    /// Remembers member types that were found.
-    pub(crate) fn remember(
+    /// What a whole name means there, through all levels.
+    pub fn meaning(
         &mut self,
-        levels: u32,
-        of: &Found<'a>,
-        name: &str,
-        finds: Finds<'a>,
-    ) -> Result<(), NoMemory>
-        requires placed { IsPlaced self.old (find_of of.now) }
-        requires right { finds_of finds ≡ left self.old levels (find_of of.now) name.now }
+        header: bool,
+        at: &Found<'a>,
+        names: &[&str],
+    ) -> Result<Finds<'a>, NoMemory>
+        requires placed { IsPlaced self.old (find_of at.now) }
+        ensures value { Gives result (meaning self.old (scope_of header (find_of at.now)) (lent names.now)) }
         ensures kept { self.new ≡ self.old }
     {
-        let of = copied(self.alloc, of)?;
-        let name = String::from_str(self.alloc, name)?;
-        self.known.push(Known {
-            levels,
-            of,
-            name,
-            finds,
-        })?;
-        Ok(())
+        self.members.meaning(header, at, names)
     }
 
-    /// The member types of this name, with this many levels of supertypes left, as far as they are known: those that a type declares always are, and none is wanted where no level is left.
-    pub(crate) fn members(
-        &self,
-        levels: u32,
-        of: &Found<'a>,
-        name: &str,
-    ) -> Result<Finds<'a>, Stop<'a>>
-        requires placed { IsPlaced self.now (find_of of.now) }
-        ensures value { Gives result (left self.now levels (find_of of.now) name.now) }
-        ensures wanted { IfErr result (IsWanted self.now levels) }
+    /// What names in front of another name mean there, through all levels: the first one as a type in scope,
+    /// or else their shortest prefix that is a top-level type, and then member types (JLS 6.5.4).
+    pub fn qualifier_meaning(
+        &mut self,
+        header: bool,
+        at: &Found<'a>,
+        names: &[&str],
+    ) -> Result<Finds<'a>, NoMemory>
+        requires placed { IsPlaced self.old (find_of at.now) }
+        ensures value { Gives result (qualifier_at self.old header (find_of at.now) (lent names.now)) }
+        ensures kept { self.new ≡ self.old }
     {
-        let own = declared_types(self.alloc, of, name)?;
-        if levels == 0 {
-            return Ok(own);
-        }
-        if !is_nothing(&own) {
-            return Ok(own);
-        }
-        let known = self.recalled(levels, of, name)?;
-        match known {
-            Some(finds) => Ok(finds),
-            None => {
-                let of = copied(self.alloc, of)?;
-                let name = owned(self.alloc, name)?;
-                Err(Stop::Wanted(of, name))
-            }
-        }
-    }
-
-    /// The members of what was found; what is ambiguous has none.
-    pub(crate) fn member_of(
-        &self,
-        levels: u32,
-        of: Finds<'a>,
-        name: &str,
-    ) -> Result<Finds<'a>, Stop<'a>>
-        requires placed { ArePlaced self.now (finds_of of) }
-        ensures value { Gives result (members_of (left self.now levels) (finds_of of.entry) name.now) }
-        ensures wanted { IfErr result (IsWanted self.now levels) }
-    {
-        match of {
-            Finds::One(find) => self.members(levels, &find, name),
-            Finds::Nothing => Ok(Finds::Nothing),
-            Finds::Several => Ok(Finds::Nothing),
-        }
+        self.members.qualifier_meaning(header, at, names)
     }
 }

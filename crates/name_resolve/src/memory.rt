@@ -1,7 +1,8 @@
 // What look-ups remember, and why one stops.
-ghost use Rattle.std.specs.Prelude.{◌≡◌, IfOk};
+ghost use Rattle.std.specs.Prelude.{◌≡◌, true, IfOk};
+ghost use Rattle.std.specs.Option.{option_copied};
 ghost use Rattle.name_resolve.specs.declared.memory.Stop.TheVariants.{Memory};
-ghost use Rattle.name_resolve.specs.Remembered.{same_part, answers};
+ghost use Rattle.name_resolve.specs.Remembered.{same_part, same_finds, asks, answer_of, IsSteady};
 ghost use Rattle.name_resolve.specs.Shown.{find_of, finds_of};
 
 use crate::finds::{Finds, Found, is_same};
@@ -9,13 +10,16 @@ use apt_base::NoMemory;
 use element_table::Part;
 use std::alloc::Global;
 
-/// Member types that were found: for which type, by which name, and with how many levels of supertypes left.
+/// A question that was asked, with its answers: which member types of this name a type inherits that declares
+/// none.
 #[derive(Drop)]
-pub(crate) struct Known<'a> {
-    pub levels: u32,
+pub(crate) struct Question<'a> {
+    /// The type.
     pub of: Found<'a>,
+    /// The name.
     pub name: String,
-    pub finds: Finds<'a>,
+    /// What is found without any level of supertypes, with one level, and so on, as far as it is known.
+    pub answers: Vec<Finds<'a>>,
 }
 
 /// Why a look-up gave nothing.
@@ -23,7 +27,7 @@ pub(crate) struct Known<'a> {
 pub(crate) enum Stop<'a> {
     /// There was no memory.
     Memory,
-    /// The member types of this name of this type are not known, with as many levels left as the look-up had.
+    /// The member types of this name of this type were never asked for. It declares none.
     Wanted(Found<'a>, String),
 }
 
@@ -76,13 +80,70 @@ fn is_same_part(one: Part, other: Part) -> bool
     }
 }
 
-impl<'a> Known<'a> {
-    /// Whether this is what is asked for.
-    pub fn answers(&self, levels: u32, of: &Found<'_>, name: &str) -> bool
-        ensures { result ≡ answers self.now levels (find_of of.now) name.now }
+// Whether both are nothing, the same element, or different ones.
+fn is_same_finds(one: &Finds<'_>, other: &Finds<'_>) -> bool
+    ensures { result ≡ same_finds (finds_of one.now) (finds_of other.now) }
+{
+    match one {
+        Finds::Nothing => match other {
+            Finds::Nothing => true,
+            Finds::One(_) => false,
+            Finds::Several => false,
+        },
+        Finds::One(first) => match other {
+            Finds::Nothing => false,
+            Finds::One(second) => is_same_part(first.part, second.part) && is_same(first, second),
+            Finds::Several => false,
+        },
+        Finds::Several => match other {
+            Finds::Nothing => false,
+            Finds::One(_) => false,
+            Finds::Several => true,
+        },
+    }
+}
+
+impl<'a> Question<'a> {
+    /// Whether it is about this name of this type.
+    pub fn asks(&self, of: &Found<'_>, name: &str) -> bool
+        ensures { result ≡ asks self.now (find_of of.now) name.now }
     {
-        self.levels == levels
-            && (is_same_part(self.of.part, of.part)
-                && (is_same(&self.of, of) && self.name.as_str() == name))
+        is_same_part(self.of.part, of.part) && (is_same(&self.of, of) && self.name.as_str() == name)
+    }
+
+    /// What is found with this many levels, as far as it is known. Where the question is settled, the last
+    /// answer is found with all further levels too.
+    pub fn answer(&self, is_settled: bool, levels: usize) -> Option<&Finds<'a>>
+        ensures { option_copied result ≡ answer_of self.now is_settled levels }
+    {
+        match self.answers.as_slice().get(levels) {
+            Some(finds) => Some(finds),
+            None => {
+                if is_settled {
+                    return self.answers.as_slice().last();
+                }
+                None
+            }
+        }
+    }
+
+    /// Whether the same is found with a number of levels and with the next one, and with all further ones
+    /// where the question is settled.
+    pub fn is_steady(&self, is_settled: bool, fewer: usize, levels: usize) -> bool
+        ensures { result ≡ true → IsSteady self.now is_settled fewer levels }
+    {
+        let Some(before) = self.answer(is_settled, fewer) else {
+            return false;
+        };
+        let Some(after) = self.answer(is_settled, levels) else {
+            return false;
+        };
+        let Some(last) = self.answers.len().checked_sub(1) else {
+            return false;
+        };
+        if is_settled && last > levels {
+            return false;
+        }
+        is_same_finds(before, after)
     }
 }

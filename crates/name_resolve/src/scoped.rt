@@ -1,15 +1,14 @@
 // Simple names: in the elements around a place, and in its unit.
-ghost use Rattle.std.specs.Prelude.{◌≡◌, true, is_some, IfErr, IfOk};
+ghost use Rattle.std.specs.Prelude.{◌≡◌, true, is_some, IfErr};
 ghost use Rattle.name_resolve.specs.Ways.{node_at};
-ghost use Rattle.name_resolve.specs.Meaning.{scope_of, in_scope};
-ghost use Rattle.name_resolve.specs.Parts.{left, element_finds, enclosing_within, header_finds, in_scope_from, in_unit_within, simple_from};
+ghost use Rattle.name_resolve.specs.Meaning.{scope_of, in_scope, in_unit, simple};
+ghost use Rattle.name_resolve.specs.Parts.{element_finds, enclosing_finds, header_finds};
 ghost use Rattle.name_resolve.specs.Placed.{IsPlaced};
-ghost use Rattle.name_resolve.specs.Remembered.{IsWanted};
-ghost use Rattle.name_resolve.specs.Shown.{find_of, finds_of, Gives};
+ghost use Rattle.name_resolve.specs.Remembered.{IsWanted, AreRight, Tells, tops_in};
+ghost use Rattle.name_resolve.specs.Shown.{find_of};
 
-use crate::children::{declared_parameters, declared_types};
 use crate::finds::{Finds, Found, is_nothing};
-use crate::looks::Looks;
+use crate::member_types::MemberTypes;
 use crate::memory::{Stop, copied};
 use decl_elements::place_at;
 
@@ -19,36 +18,39 @@ fn is_there(at: &Found<'_>) -> bool
     place_at(at.unit, at.path.as_slice()).is_some()
 }
 
-impl<'a> Looks<'a> {
-    // In one element: the member types that it declares, its type parameters, and the member types that it inherits.
-    fn in_element(&self, levels: u32, at: &Found<'a>, name: &str) -> Result<Finds<'a>, Stop<'a>>
-        requires placed { IsPlaced self.now (find_of at.now) }
-        ensures value { Gives result (element_finds (left self.now levels) (find_of at.now) name.now) }
-        ensures wanted { IfErr result (IsWanted self.now levels) }
+impl<'a> MemberTypes<'a> {
+    // In one element: the member types that it declares, its type parameters, and the member types that it
+    // inherits.
+    fn in_element(&self, levels: usize, at: &Found<'a>, name: &str) -> Result<Finds<'a>, Stop<'a>>
+        requires placed { IsPlaced self.now.table.now (find_of at.now) }
+        requires right { AreRight self.now }
+        ensures value { Tells result self.now levels (λ members. element_finds members (find_of at.now) name.now) }
+        ensures wanted { IfErr result (IsWanted self.now.table.now) }
     {
-        let own = declared_types(self.alloc, at, name)?;
+        let own = self.declared(at, name)?;
         if !is_nothing(&own) {
             return Ok(own);
         }
-        let parameters = declared_parameters(self.alloc, at, name)?;
+        let parameters = self.parameters(at, name)?;
         if !is_nothing(&parameters) {
             return Ok(parameters);
         }
-        let finds = self.members(levels, at, name)?;
+        let finds = self.above(levels, at, name)?;
         Ok(finds)
     }
 
     // In an element that is there and in all that encloses it, from the inside out.
     fn in_elements(
         &self,
-        levels: u32,
+        levels: usize,
         innermost: Found<'a>,
         name: &str,
     ) -> Result<Finds<'a>, Stop<'a>>
-        requires placed { IsPlaced self.now (find_of innermost) }
+        requires placed { IsPlaced self.now.table.now (find_of innermost) }
         requires there { is_some (node_at innermost.unit.now innermost.path.items) ≡ true }
-        ensures value { Gives result (enclosing_within self.now levels (find_of innermost.entry) name.now) }
-        ensures wanted { IfErr result (IsWanted self.now levels) }
+        requires right { AreRight self.now }
+        ensures value { Tells result self.now levels (λ members. enclosing_finds members (find_of innermost.entry) name.now) }
+        ensures wanted { IfErr result (IsWanted self.now.table.now) }
     {
         let mut here = innermost;
         loop {
@@ -63,14 +65,16 @@ impl<'a> Looks<'a> {
         }
     }
 
-    // In the `extends` or `implements` clause of an element that is there: its type parameters, and then what is around it.
-    fn in_header(&self, levels: u32, at: Found<'a>, name: &str) -> Result<Finds<'a>, Stop<'a>>
-        requires placed { IsPlaced self.now (find_of at) }
+    // In the `extends` or `implements` clause of an element that is there: its type parameters, and then what
+    // is around it.
+    fn in_header(&self, levels: usize, at: Found<'a>, name: &str) -> Result<Finds<'a>, Stop<'a>>
+        requires placed { IsPlaced self.now.table.now (find_of at) }
         requires there { is_some (node_at at.unit.now at.path.items) ≡ true }
-        ensures value { Gives result (header_finds (left self.now levels) (find_of at.entry) name.now) }
-        ensures wanted { IfErr result (IsWanted self.now levels) }
+        requires right { AreRight self.now }
+        ensures value { Tells result self.now levels (λ members. header_finds members (find_of at.entry) name.now) }
+        ensures wanted { IfErr result (IsWanted self.now.table.now) }
     {
-        let parameters = declared_parameters(self.alloc, &at, name)?;
+        let parameters = self.parameters(&at, name)?;
         if !is_nothing(&parameters) {
             return Ok(parameters);
         }
@@ -86,14 +90,15 @@ impl<'a> Looks<'a> {
 
     fn in_scope(
         &self,
-        levels: u32,
+        levels: usize,
         header: bool,
         at: &Found<'a>,
         name: &str,
     ) -> Result<Finds<'a>, Stop<'a>>
-        requires placed { IsPlaced self.now (find_of at.now) }
-        ensures value { Gives result (in_scope_from self.now levels header (find_of at.now) name.now) }
-        ensures wanted { IfErr result (IsWanted self.now levels) }
+        requires placed { IsPlaced self.now.table.now (find_of at.now) }
+        requires right { AreRight self.now }
+        ensures value { Tells result self.now levels (λ members. in_scope members name.now (scope_of header (find_of at.now))) }
+        ensures wanted { IfErr result (IsWanted self.now.table.now) }
     {
         if !is_there(at) {
             return Ok(Finds::Nothing);
@@ -107,10 +112,12 @@ impl<'a> Looks<'a> {
         Ok(finds)
     }
 
-    // The types of the file, single imports, the types of the package, and imports on demand together with `java.lang`.
-    fn in_unit(&self, levels: u32, at: &Found<'a>, name: &str) -> Result<Finds<'a>, Stop<'a>>
-        ensures value { Gives result (in_unit_within self.now levels at.now.part at.now.unit.now name.now) }
-        ensures wanted { IfErr result (IsWanted self.now levels) }
+    // The types of the file, single imports, the types of the package, and imports on demand together with
+    // `java.lang`.
+    fn in_unit(&self, levels: usize, at: &Found<'a>, name: &str) -> Result<Finds<'a>, Stop<'a>>
+        requires right { AreRight self.now }
+        ensures value { Tells result self.now levels (λ members. in_unit (tops_in self.now) members at.now.part at.now.unit.now name.now) }
+        ensures wanted { IfErr result (IsWanted self.now.table.now) }
     {
         let own = self.of_file(at, name)?;
         if !is_nothing(&own) {
@@ -131,14 +138,15 @@ impl<'a> Looks<'a> {
     /// What a simple name means.
     pub(crate) fn simple(
         &self,
-        levels: u32,
+        levels: usize,
         header: bool,
         at: &Found<'a>,
         name: &str,
     ) -> Result<Finds<'a>, Stop<'a>>
-        requires placed { IsPlaced self.now (find_of at.now) }
-        ensures value { Gives result (simple_from self.now levels header (find_of at.now) name.now) }
-        ensures wanted { IfErr result (IsWanted self.now levels) }
+        requires placed { IsPlaced self.now.table.now (find_of at.now) }
+        requires right { AreRight self.now }
+        ensures value { Tells result self.now levels (λ members. simple (tops_in self.now) members (scope_of header (find_of at.now)) name.now) }
+        ensures wanted { IfErr result (IsWanted self.now.table.now) }
     {
         let near = self.in_scope(levels, header, at, name)?;
         if !is_nothing(&near) {

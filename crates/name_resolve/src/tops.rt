@@ -1,13 +1,12 @@
 // Top-level types.
 ghost use Rattle.std.specs.Prelude.{◌≡◌, IfOk};
-ghost use Rattle.element_table.specs.UnitNames.{in_package};
 ghost use Rattle.name_resolve.specs.Meaning.{top_of, met_from, tops_of};
 ghost use Rattle.name_resolve.specs.Shown.{finds_of};
 
 use crate::finds::{Finds, Found};
 use apt_base::{Name, NoMemory};
 use decl_tree::{Body, Unit};
-use element_table::{Part, Table, in_package};
+use element_table::{Part, Table};
 use std::alloc::Global;
 
 fn top_of<'a>(alloc: Global, part: Part, unit: &'a Unit) -> Finds<'a>
@@ -36,7 +35,8 @@ fn met_from<'a>(alloc: Global, part: Part, at: Part, unit: &'a Unit) -> Finds<'a
     }
 }
 
-/// The top-level type of this canonical name that a unit of a part meets: from a source unit those of both parts, from a stub those of the stubs alone. It takes no memory.
+/// The top-level type of this canonical name that a unit of a part meets: from a source unit those of both
+/// parts, from a stub those of the stubs alone. It takes no memory.
 #[tactic(auto, using(crate::proofs::TopTypes::meets, crate::proofs::TopTypes::meets_none, crate::proofs::TopTypes::meets_lost))]
 pub fn top_level<'a>(alloc: Global, table: &'a Table, part: Part, name: &Name) -> Finds<'a>
     ensures { finds_of result ≡ tops_of table.now part name.now }
@@ -61,18 +61,4 @@ pub(crate) fn top_named<'a>(
 {
     let name = Name::new(alloc, name)?;
     Ok(top_level(alloc, table, part, &name))
-}
-
-/// The top-level type of this simple name of a package.
-pub(crate) fn top_of_package<'a>(
-    alloc: Global,
-    table: &'a Table,
-    part: Part,
-    package: &str,
-    name: &str,
-) -> Result<Finds<'a>, NoMemory>
-    ensures { IfOk result (λ f. finds_of f ≡ tops_of table.now part (in_package «package».now name.now)) }
-{
-    let whole = in_package(alloc, package, name)?;
-    top_named(alloc, table, part, whole.as_str())
 }

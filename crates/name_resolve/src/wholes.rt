@@ -1,32 +1,31 @@
 // Whole names, and the member types that a type inherits.
-ghost use Rattle.std.specs.Prelude.{◌≡◌, ◌<◌, IfErr};
-ghost use Rattle.name_resolve.specs.Finds.{Nothing, declared_types};
-ghost use Rattle.name_resolve.specs.Meaning.{scope_of, meaning};
-ghost use Rattle.name_resolve.specs.Parts.{lent, found_from, inherited_within, qualifying, supers_within, qualifier_at};
+ghost use Rattle.std.specs.Prelude.{IfErr};
+ghost use Rattle.name_resolve.specs.Meaning.{scope_of, qualifier, found, supertype_found, inherited};
+ghost use Rattle.name_resolve.specs.Parts.{lent};
 ghost use Rattle.name_resolve.specs.Placed.{IsPlaced};
-ghost use Rattle.name_resolve.specs.Remembered.{IsWanted};
-ghost use Rattle.name_resolve.specs.Shown.{find_of, finds_of, super_of, Gives};
+ghost use Rattle.name_resolve.specs.Remembered.{IsWanted, AreRight, Tells, tops_in};
+ghost use Rattle.name_resolve.specs.Shown.{find_of, super_of};
 
 use crate::finds::{Finds, Found, both, is_nothing};
 use crate::headers::{Supertype, supertypes};
-use crate::looks::Looks;
+use crate::member_types::MemberTypes;
 use crate::memory::Stop;
 use crate::names::names_in;
-use crate::tops::top_named;
-use apt_base::{MAX_TYPE_STEPS, NoMemory};
 
-impl<'a> Looks<'a> {
-    // What names in front of another name mean: the first one as a type in scope, or else the shortest prefix.
-    fn qualifier(
+impl<'a> MemberTypes<'a> {
+    /// What names in front of another name mean: the first one as a type in scope, or else the shortest
+    /// prefix.
+    pub(crate) fn qualifier(
         &self,
-        levels: u32,
+        levels: usize,
         header: bool,
         at: &Found<'a>,
         names: &[&str],
     ) -> Result<Finds<'a>, Stop<'a>>
-        requires placed { IsPlaced self.now (find_of at.now) }
-        ensures value { Gives result (qualifying self.now levels header (find_of at.now) (lent names.now)) }
-        ensures wanted { IfErr result (IsWanted self.now levels) }
+        requires placed { IsPlaced self.now.table.now (find_of at.now) }
+        requires right { AreRight self.now }
+        ensures value { Tells result self.now levels (λ members. qualifier (tops_in self.now) members (scope_of header (find_of at.now)) (lent names.now)) }
+        ensures wanted { IfErr result (IsWanted self.now.table.now) }
     {
         let Some((first, others)) = names.split_first() else {
             return Ok(Finds::Nothing);
@@ -40,17 +39,18 @@ impl<'a> Looks<'a> {
         Ok(finds)
     }
 
-    // What a whole name means: a simple name never falls back to a prefix.
-    fn found(
+    /// What a whole name means: a simple name never falls back to a prefix.
+    pub(crate) fn found(
         &self,
-        levels: u32,
+        levels: usize,
         header: bool,
         at: &Found<'a>,
         names: &[&str],
     ) -> Result<Finds<'a>, Stop<'a>>
-        requires placed { IsPlaced self.now (find_of at.now) }
-        ensures value { Gives result (found_from self.now levels header (find_of at.now) (lent names.now)) }
-        ensures wanted { IfErr result (IsWanted self.now levels) }
+        requires placed { IsPlaced self.now.table.now (find_of at.now) }
+        requires right { AreRight self.now }
+        ensures value { Tells result self.now levels (λ members. found (tops_in self.now) members (scope_of header (find_of at.now)) (lent names.now)) }
+        ensures wanted { IfErr result (IsWanted self.now.table.now) }
     {
         let Some((first, others)) = names.split_first() else {
             return Ok(Finds::Nothing);
@@ -66,13 +66,14 @@ impl<'a> Looks<'a> {
     // What a supertype means in the header of its type.
     fn supertype(
         &self,
-        levels: u32,
+        levels: usize,
         of: &Found<'a>,
         each: Supertype<'a>,
     ) -> Result<Finds<'a>, Stop<'a>>
-        requires placed { IsPlaced self.now (find_of of.now) }
-        ensures value { Gives result (supers_within self.now levels (find_of of.now) (super_of each.entry)) }
-        ensures wanted { IfErr result (IsWanted self.now levels) }
+        requires placed { IsPlaced self.now.table.now (find_of of.now) }
+        requires right { AreRight self.now }
+        ensures value { Tells result self.now levels (λ members. supertype_found (tops_in self.now) members (find_of of.now) (super_of each.entry)) }
+        ensures wanted { IfErr result (IsWanted self.now.table.now) }
     {
         match each {
             Supertype::Written(text) => {
@@ -81,26 +82,32 @@ impl<'a> Looks<'a> {
                 Ok(finds)
             }
             Supertype::Object => {
-                let finds = top_named(self.alloc, self.table, of.part, "java.lang.Object")?;
+                let finds = self.top(of.part, "java.lang.Object")?;
                 Ok(finds)
             }
             Supertype::Enum => {
-                let finds = top_named(self.alloc, self.table, of.part, "java.lang.Enum")?;
+                let finds = self.top(of.part, "java.lang.Enum")?;
                 Ok(finds)
             }
             Supertype::Annotation => {
                 let name = "java.lang.annotation.Annotation";
-                let finds = top_named(self.alloc, self.table, of.part, name)?;
+                let finds = self.top(of.part, name)?;
                 Ok(finds)
             }
         }
     }
 
-    // The member types of this name that all supertypes of a type have.
-    fn inherited(&self, levels: u32, of: &Found<'a>, name: &str) -> Result<Finds<'a>, Stop<'a>>
-        requires placed { IsPlaced self.now (find_of of.now) }
-        ensures value { Gives result (inherited_within self.now levels (find_of of.now) name.now) }
-        ensures wanted { IfErr result (IsWanted self.now levels) }
+    /// The member types of this name that all supertypes of a type have.
+    pub(crate) fn inherited(
+        &self,
+        levels: usize,
+        of: &Found<'a>,
+        name: &str,
+    ) -> Result<Finds<'a>, Stop<'a>>
+        requires placed { IsPlaced self.now.table.now (find_of of.now) }
+        requires right { AreRight self.now }
+        ensures value { Tells result self.now levels (λ members. inherited (tops_in self.now) members (find_of of.now) name.now) }
+        ensures wanted { IfErr result (IsWanted self.now.table.now) }
     {
         let list = supertypes(self.alloc, of)?;
         let mut finds = Finds::Nothing;
@@ -110,71 +117,5 @@ impl<'a> Looks<'a> {
             finds = both(finds, more);
         }
         Ok(finds)
-    }
-
-    // Learns the member types of this name that a type without declared ones has, and all that this asks for with fewer levels. Each turn remembers something more, so that memory is out long before the turns are.
-    #[cycle(learn)]
-    fn learn(&mut self, levels: u32, of: &Found<'a>, name: &str) -> Result<(), NoMemory>
-        requires placed { IsPlaced self.old (find_of of.now) }
-        requires some { 0 < levels }
-        requires none { declared_types (find_of of.now) name.now ≡ Nothing }
-        ensures kept { self.new ≡ self.old }
-    {
-        for _ in 0..usize::MAX {
-            match self.inherited(levels - 1, of, name) {
-                Ok(finds) => return self.remember(levels, of, name, finds),
-                Err(Stop::Memory) => return Err(NoMemory),
-                Err(Stop::Wanted(next, wanted)) => {
-                    self.learn(levels - 1, &next, wanted.as_str())?;
-                }
-            }
-        }
-        Err(NoMemory)
-    }
-
-    /// What a whole name means there, through all levels.
-    pub fn meaning(
-        &mut self,
-        header: bool,
-        at: &Found<'a>,
-        names: &[&str],
-    ) -> Result<Finds<'a>, NoMemory>
-        requires placed { IsPlaced self.old (find_of at.now) }
-        ensures value { Gives result (meaning self.old (scope_of header (find_of at.now)) (lent names.now)) }
-        ensures kept { self.new ≡ self.old }
-    {
-        for _ in 0..usize::MAX {
-            match self.found(MAX_TYPE_STEPS, header, at, names) {
-                Ok(finds) => return Ok(finds),
-                Err(Stop::Memory) => return Err(NoMemory),
-                Err(Stop::Wanted(of, name)) => {
-                    self.learn(MAX_TYPE_STEPS, &of, name.as_str())?;
-                }
-            }
-        }
-        Err(NoMemory)
-    }
-
-    /// What names in front of another name mean there, through all levels: the first one as a type in scope, or else their shortest prefix that is a top-level type, and then member types (JLS 6.5.4).
-    pub fn qualifier_meaning(
-        &mut self,
-        header: bool,
-        at: &Found<'a>,
-        names: &[&str],
-    ) -> Result<Finds<'a>, NoMemory>
-        requires placed { IsPlaced self.old (find_of at.now) }
-        ensures value { Gives result (qualifier_at self.old header (find_of at.now) (lent names.now)) }
-        ensures kept { self.new ≡ self.old }
-    {
-        for _ in 0..usize::MAX {
-            match self.qualifier(MAX_TYPE_STEPS, header, at, names) {
-                Ok(finds) => return Ok(finds),
-                Err(Stop::Memory) => return Err(NoMemory),
-                Err(Stop::Wanted(of, name)) => {
-                    self.learn(MAX_TYPE_STEPS, &of, name.as_str())?;
-                }
-            }
-        }
-        Err(NoMemory)
     }
 }

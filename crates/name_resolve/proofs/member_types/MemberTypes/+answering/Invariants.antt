@@ -1,0 +1,17 @@
+use Rattle.std.proofs.Common.{◌+◌, ◌*◌}
+use Rattle.name_resolve.specs.Remembered.{AreRight, AreUnsettled, Stays}
+use Rattle.name_resolve.proofs.member_types.MemberTypes.+answering.Given as goal
+
+-- what a look-up wants gets its answers with fewer levels
+abbrev pub decreases-answer_from : goal.decreases-answer_from
+decreases-answer_from l = l.levels * 2 + 1
+
+abbrev pub decreases-ask_below : goal.decreases-ask_below
+decreases-ask_below l = l.levels * 2
+
+-- all stays right, and those from the place on are not settled
+abbrev pub invariant-answer_from-loop : goal.invariant-answer_from-loop
+invariant-answer_from-loop l = record { right : AreRight l.self; stays : Stays l.fn.self l.self; unsettled : AreUnsettled l.self l.place }
+
+abbrev pub invariant-ask_below-loop-fewer : goal.invariant-ask_below-loop-fewer
+invariant-ask_below-loop-fewer l = record { right : AreRight l.self; stays : Stays l.fn.self l.self; unsettled : AreUnsettled l.self l.place }

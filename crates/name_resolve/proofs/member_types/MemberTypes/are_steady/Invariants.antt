@@ -1,0 +1,8 @@
+use Rattle.std.proofs.Common.{ℕ, ◌<◌}
+use Rattle.name_resolve.specs.declared.memory.Question.{Question}
+use Rattle.name_resolve.specs.Remembered.{Stands, is_settled, IsSteady}
+use Rattle.name_resolve.proofs.member_types.MemberTypes.are_steady.Given as goal
+
+-- those in front of this place are steady
+abbrev pub invariant-loop-place : goal.invariant-loop-place
+invariant-loop-place l = (at : ℕ) (q : Question) → at < l.place → Stands l.self at q → IsSteady q (is_settled l.self at) l.fewer l.levels
