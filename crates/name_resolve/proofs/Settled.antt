@@ -60,7 +60,7 @@ module _ (tops : Tops) where
         by_cause none (inl follows) = follows (members_within tops m) (within-way m) known ∙ within-above m f name none
         by_cause none (inr lasts) = lasts (suc m) (omega (arith, more))
 
-    -- with so many levels more
+    -- with this many levels more
     with_more : (n : ℕ) → FindsKnown (members_within tops n) → Stays n → (k m : ℕ) → m ≡ k + n → FindsKnown (members_within tops m)
     with_more n known stays zero m e = subst (λ l. FindsKnown (members_within tops l)) (omega (arith, e)) known
     with_more n known stays (suc k) m e =

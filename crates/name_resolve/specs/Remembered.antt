@@ -1,4 +1,5 @@
--- What look-ups remember: which member types are inherited, by the levels of supertypes through which they are looked for.
+-- What look-ups remember: which member types of a name a type inherits, by the levels of supertypes through which they are looked for. Most of a look-up's promises
+-- speak of each way to find member types that agrees with what is remembered, so that the definition by levels is only one of them.
 use Rattle.std.specs.Prelude.{◌≡◌, ◌≤◌, ◌<◌, ◌-◌, ℕ, suc, Bool, true, false, ◌&&◌, List, [], length, nat_lt, Option, None, Some, Result, IfOk, slice_get, string_bytes, if◌then◌else◌}
 use Rattle.std.specs.Option.{option_or}
 use Rattle.std.specs.Str.{bytes_eq}
@@ -33,11 +34,11 @@ same_finds _ _ = false
 
 -- ---- questions
 
--- it is about this name of this type
+-- the question is about this name of this type
 abbrev pub asks : Question → Find → List ℕ → Bool
 asks q f name = same_part q.of.part f.part && (same_find (find_of q.of) f && bytes_eq (string_bytes q.name) name)
 
--- what is found with so many levels, as far as it is known: the last answer serves for all further levels where the question is settled
+-- what is found with this many levels, as far as it is known: where the question is settled, its last answer serves for all further levels
 abbrev pub answer_of : Question → Bool → ℕ → Option Finds
 answer_of q settled levels = option_or (slice_get q.answers.items levels) (if settled then slice_get q.answers.items (length q.answers.items - 1) else None)
 
@@ -45,14 +46,15 @@ abbrev pub AreSame : Option Finds → Option Finds → Type 0
 AreSame (Some one) (Some other) = same_finds (finds_of one) (finds_of other) ≡ true
 AreSame _ _ = ⊥
 
--- the same is found with this number of levels and with the other one, which is the next, and with all further ones where the question is settled
+-- the same is found with the first number of levels as with the second one, which is the next; and a settled question has no answer for more levels than the second, so that
+-- its last answer is found with all further ones
 pub record IsSteady (q : Question) (settled : Bool) (fewer levels : ℕ) : Type 0 where
   pub same : AreSame (answer_of q settled fewer) (answer_of q settled levels)
   pub last : settled ≡ true → length q.answers.items - 1 ≤ levels
 
 -- ---- ways to find member types
 
--- it finds those that a type declares, and none where there are neither such nor supertypes
+-- where a type declares member types of the name it finds these, and where the type declares none and has no supertypes it finds nothing
 pub record IsWay (members : Members) : Type 0 where
   pub own : (f : Find) (name : List ℕ) → (declared_types f name ≡ Nothing → ⊥) → members f name ≡ declared_types f name
   pub alone : (f : Find) (name : List ℕ) → declared_types f name ≡ Nothing → supertypes f ≡ [] → members f name ≡ Nothing
@@ -64,7 +66,7 @@ Stands memory place q = slice_get memory.questions.items place ≡ Some q
 abbrev pub is_settled : MemberTypes → ℕ → Bool
 is_settled memory place = nat_lt place memory.settled
 
--- it finds what is known with so many levels
+-- it gives each question that has an answer with this many levels that answer
 pub record Agrees (memory : MemberTypes) (levels : ℕ) (members : Members) : Type 0 where
   pub way : IsWay members
   pub known : (place : ℕ) (q : Question) (answer : Finds) → Stands memory place q → answer_of q (is_settled memory place) levels ≡ Some answer
@@ -75,11 +77,11 @@ pub record Agrees (memory : MemberTypes) (levels : ℕ) (members : Members) : Ty
 abbrev pub tops_in : MemberTypes → Tops
 tops_in memory = tops_of memory.table.now
 
--- it found what this finds by each way to find member types that finds what is known with so many levels, unless it stopped
+-- the result is what this gives by each way to find member types that agrees with what is known with this many levels, unless the look-up stopped
 abbrev pub Tells : {E : Type 0} → Result Finds E → MemberTypes → ℕ → (Members → find.Finds) → Type 0
 Tells result memory levels found = IfOk result (λ f. (members : Members) → Agrees memory levels members → finds_of f ≡ found members)
 
--- the same, unless it does not know
+-- the same of a look-up that may not know
 abbrev pub IfTold : Option Finds → MemberTypes → ℕ → (Members → find.Finds) → Type 0
 IfTold None memory levels found = Unit {0}
 IfTold (Some f) memory levels found = (members : Members) → Agrees memory levels members → finds_of f ≡ found members
@@ -87,14 +89,14 @@ IfTold (Some f) memory levels found = (members : Members) → Agrees memory leve
 abbrev pub TellsSome : {E : Type 0} → Result (Option Finds) E → MemberTypes → ℕ → (Members → find.Finds) → Type 0
 TellsSome result memory levels found = IfOk result (λ o. IfTold o memory levels found)
 
--- the type whose member types a look-up wants is of the table and declares none of this name
+-- what a look-up wants to have asked: the type is of the table, and declares none of this name
 abbrev pub IsWanted : TypeTable → Stop → Type 0
 IsWanted table stop.Memory = Unit {0}
 IsWanted table (stop.Wanted of name) = IsPlaced table (find_of of) × (declared_types (find_of of) (string_bytes name) ≡ Nothing)
 
 -- ---- what is remembered is right
 
--- this is inherited by each way to find member types that finds what is known with so many levels
+-- the type of the question inherits this by each way to find member types that agrees with what is known with this many levels
 abbrev pub Follows : MemberTypes → ℕ → Question → find.Finds → Type 0
 Follows memory levels q finds = (members : Members) → Agrees memory levels members → finds ≡ inherited (tops_in memory) members (find_of q.of) (string_bytes q.name)
 
@@ -115,7 +117,7 @@ pub record AreRight (memory : MemberTypes) : Type 0 where
   pub count : memory.settled ≤ length memory.questions.items
   pub each : (place : ℕ) (q : Question) → Stands memory place q → IsRight memory place q
 
--- this is the answer with one level more than in the last one
+-- this is the answer of the question at a place with one level more than in its last answer
 abbrev pub IsNextAnswer : MemberTypes → ℕ → Finds → Type 0
 IsNextAnswer memory place finds = (q : Question) (levels : ℕ) → Stands memory place q → length q.answers.items ≡ suc levels → Follows memory levels q (finds_of finds)
 

@@ -25,6 +25,9 @@ use std::marker::Model;
 /// Out of memory comes also beyond 65,536 questions, and where one look-up would take more than 67,108,864
 /// steps: comparisons with the name of a child of an element, and look-ups in maps, each counted as 32 of
 /// these.
+///
+/// A search that runs out of memory leaves questions without their answers. A later look-up of the same value
+/// that needs one of these is out of memory too.
 #[derive(Drop)]
 pub struct Looks<'a> {
     members: MemberTypes<'a>,

@@ -18,7 +18,8 @@ pub(crate) const LEVELS: usize = MAX_TYPE_STEPS as usize;
 const MOST_QUESTIONS: usize = 65_536;
 
 impl<'a> MemberTypes<'a> {
-    // Asks a question. Its type declares none of the name, so that nothing is found without any level.
+    // Asks a question. Its type declares none of the name, so that nothing is found without any level. Out of
+    // memory beyond 65,536 questions.
     fn ask(&mut self, of: Found<'a>, name: String) -> Result<(), NoMemory>
         requires placed { IsPlaced self.old.table.now (find_of of) }
         requires none { declared_types (find_of of) (string_bytes name) ≡ Nothing }
@@ -139,8 +140,9 @@ impl<'a> MemberTypes<'a> {
         true
     }
 
-    /// Asks a question that was not asked before, and gives it all its answers, and with them those that it
-    /// asks: with more and more levels until none of them changes any more.
+    /// Asks a question that was not asked before, and gives it and all that it asks for in turn their
+    /// answers: with no level, with one and so on, until none of them changes any more or all 64 levels are
+    /// gone through. Out of memory beyond 65,536 questions, or where the look-up has no steps left.
     pub(crate) fn learn(&mut self, of: Found<'a>, name: String) -> Result<(), NoMemory>
         requires placed { IsPlaced self.old.table.now (find_of of) }
         requires none { declared_types (find_of of) (string_bytes name) ≡ Nothing }
