@@ -253,8 +253,8 @@ fn given_up(
 }
 
 // What a file comes to, of which a reader has the first symbols. Whenever there are twice as many as before,
-// they are looked at for a limit: so a file that passes one takes memory for about twice the symbols in which
-// it does, and not for all that come after them.
+// they are looked at for a limit. Where that finds one, the file takes memory for at most about twice the
+// symbols that pass it, and not for all that come after them.
 fn of_reader(
     alloc: Global,
     info: bool,
