@@ -993,6 +993,9 @@ def a_folder_with_the_name_of_a_source(project):
     refused(project, project.scripted(CREATES), BAD_SOURCE, "BadSource(src/p/D.java/E.java, 6)")
 
 
+# How many bytes a file may have.
+MOST_OF_A_FILE = 8_388_608
+
 # What units of one file say together is held once, so that memory grows with the file alone.
 WITH_300_MEGABYTES = ["/bin/sh", "-c", 'ulimit -v 300000; exec "$@"', "sh"]
 
@@ -1008,18 +1011,18 @@ def a_source_of_a_gigabyte(project):
 @case
 def the_longest_source_that_is_read(project):
     start, end = b"package p; // ", b"\n@q.A class D {}\n"
-    project.write("src/p/D.java", start + b"x" * (8_388_608 - len(start) - len(end)) + end)
+    project.write("src/p/D.java", start + b"x" * (MOST_OF_A_FILE - len(start) - len(end)) + end)
     run = project.run(["build"])
     expect("the output", run.output, REPORT_WITHOUT_PROCESSOR)
     expect("the status", run.status, DONE_STATUS)
-    project.write("src/p/D.java", start + b"x" * (8_388_609 - len(start) - len(end)) + end)
+    project.write("src/p/D.java", start + b"x" * (MOST_OF_A_FILE + 1 - len(start) - len(end)) + end)
     refused(project, ["build"], PAST_A_LIMIT, "TooLarge(FileBytes, 8388608)")
 
 
 @case
 def more_bytes_of_sources_than_may_be(project):
     for number in range(8):
-        project.write(f"src/many/{number}.java", b" " * 8_388_608)
+        project.write(f"src/many/{number}.java", b" " * MOST_OF_A_FILE)
     refused(project, ["build"], PAST_A_LIMIT, "TooLarge(SourceBytes, 67108864)")
 
 
@@ -1054,6 +1057,16 @@ def many_types_that_share_many_imports(project):
     run = project.run(["build"], before=WITH_300_MEGABYTES)
     expect("the output", run.output, REPORT_WITHOUT_PROCESSOR)
     expect("the status", run.status, DONE_STATUS)
+
+
+@case
+def long_files_past_a_limit(project):
+    # what no clause says: such a file is given up where its first symbols show it, in memory for little more than its characters
+    for head, part, limit in [("class C { int a", ",a", "Children, 65535"), ("enum E { ", "a,", "Children, 65535"),
+                              ("class C { void m(", "int a,", "Children, 65535"), ("", "class A {", "Depth, 200"),
+                              ("class C { ", "A<", "Depth, 200")]:
+        project.write("src/p/Long.java", (head + part * ((MOST_OF_A_FILE - len(head)) // len(part))).encode())
+        refused(project, ["build"], PAST_A_LIMIT, f"TooLarge({limit})", before=WITH_300_MEGABYTES)
 
 
 @case
