@@ -1,4 +1,5 @@
-"""The files of the JDK's module java.base for names.py and subtypes.py, which measure the program of measured.py beside javac.
+"""The files of the JDK's module java.base for names.py and subtypes.py, which measure the program of measured.py beside javac, and what these
+and questions.py ask a running JDK.
 
 Of each file javac writes spaces over the methods, constructors and initializer blocks, so that types, their type
 parameters, their supertypes and their fields are left, and an A over each escape of a surrogate, of which alone the
@@ -19,10 +20,15 @@ def is_there():
     return shutil.which("javac") is not None and shutil.which("java") is not None
 
 
-def compile_all(folder):
-    """Compiles what runs in the JDK into a folder."""
-    sources = [os.path.join(HERE, name + ".java") for name in ("Javac", "NameBench", "SubtypeBench")]
+def compile_some(folder, names):
+    """Compiles classes that run in the JDK into a folder."""
+    sources = [os.path.join(HERE, name + ".java") for name in names]
     subprocess.run(["javac", "-d", folder, *sources], check=True)
+
+
+def compile_all(folder):
+    """Compiles those of names.py and subtypes.py."""
+    compile_some(folder, ("Javac", "NameBench", "SubtypeBench"))
 
 
 def java(folder, words):

@@ -1,0 +1,390 @@
+#!/usr/bin/env python3
+"""Measures single questions on types: how long the longest of them takes, and that each is answered in time.
+
+    bench/questions.py [--program PATH] [--sources ARCHIVE] [--programs COUNT] [PART..]
+
+PART is `forms`, `programs` or `util`; all are measured where none is named. PATH is the program that bench/measured.py builds
+without proofs where it is left out. It has the types of some Java files in one table, is asked by a line for each question, and
+answers it before the next one. A question's time is the processor time that the program takes from one to the other, so that
+what it does once, as reading the files, is not in it. Nothing is remembered from one question to the next. What is asked is the
+type of a field or of a method, the superclass and the interfaces of a type, all members of a type, and whether a type is a
+subtype of another one. A question that is not answered within 20 seconds of the processor is given up.
+
+- `forms` are programs of one form each, which grow in one number. Each line has the milliseconds of one question, the median of
+  five where one takes less than half a second, its answer, and the aim. The growth is that of the time from half of the number,
+  divided by that of the number, as a power: 2 is that of the square. Some forms are no legal programs, but tables that someone may
+  make.
+- `programs` are those of programs.py, of some 200 lines each in several files, from the seeds from 0 on, without those to which
+  javac has an error. Over each all fields, methods, headers and members are asked, and each type against each other one. A line
+  has the slowest question of each program, the last one how many programs have no question above the aim.
+- `util` is the package java.util of the JDK's sources, ARCHIVE as src.zip of the Debian package openjdk-17-source, in a table of
+  all packages below java whose files have units. Each type is asked against ten others.
+
+The aims: a form grows at most with the square of its number, a question over 32 files in a circle takes at most 20 ms, one over
+400 overloads at most a second, one over a program at most 50 ms, one over java.util at most 1 ms on average, and none more than
+2 seconds, also one that is answered by out of memory. The milliseconds hang on the machine and on its other work.
+"""
+import argparse
+import math
+import os
+import select
+import statistics
+import subprocess
+import sys
+import tempfile
+import time
+import zipfile
+
+import jdk
+import measured
+import programs
+
+# Seconds of the processor after which a question is given up; the time that none is to take; those of questions over the forms, the programs and java.util.
+LIMIT, LONGEST = 20, 2
+GOALS = {"circle": 0.02, "overloads": 1}
+OF_PROGRAM, OF_UTIL = 0.05, 0.001
+GROWTH = 2
+
+# How often a question is asked that takes less than so many seconds, and how many are given up of one program.
+TURNS, SHORT, GIVEN_UP = 5, 0.5, 3
+
+COUNT, LINES = 245, 200
+
+# Of how many other types a type of java.util is asked, and how far these stand from each other.
+OTHERS, APART = 10, 37
+
+PARTS = ("forms", "programs", "util")
+BELOW = "java.base/java/"
+PROGRAM = None
+
+
+# ---- the program
+
+
+class Table:
+    """A running program with the declarations of some files, of which those of one package are asked about."""
+
+    def __init__(self, package, listed):
+        self.words = [PROGRAM, "questions", package, listed]
+        self.start()
+
+    def start(self):
+        self.running = subprocess.Popen(self.words, stdin=subprocess.PIPE, stdout=subprocess.PIPE)
+        # The number of the clock of another process's processor time (clock_getcpuclockid).
+        self.clock = (~self.running.pid << 3) | 2
+
+    def is_silent(self, before):
+        """Whether no answer comes within the limit."""
+        while not select.select([self.running.stdout], [], [], 0.05)[0]:
+            if time.clock_gettime(self.clock) - before > LIMIT:
+                return True
+        return False
+
+    def ask(self, line):
+        """The answer and the seconds of the processor that it took. Without one the program is begun anew."""
+        before = time.clock_gettime(self.clock)
+        self.running.stdin.write(f"{line}\n".encode())
+        self.running.stdin.flush()
+        if self.is_silent(before):
+            self.running.kill()
+            self.running.wait()
+            self.start()
+            self.counts()
+            return None, LIMIT
+        answer = self.running.stdout.readline().decode().strip()
+        if not answer:
+            sys.exit(f"{' '.join(self.words)} ended at {line} with status {self.running.wait()}")
+        return answer, time.clock_gettime(self.clock) - before
+
+    def median(self, line):
+        """The same of several turns, where it takes little time."""
+        answer, seconds = self.ask(line)
+        if seconds < SHORT:
+            seconds = statistics.median(self.ask(line)[1] for _ in range(TURNS))
+        return answer, seconds
+
+    def counts(self):
+        """How many fields, methods and types there are. The first answer comes when all files are read."""
+        self.running.stdin.write(b"counts\n")
+        self.running.stdin.flush()
+        answer = self.running.stdout.readline().split()
+        if not answer:
+            sys.exit(f"{' '.join(self.words)} ended with status {self.running.wait()}")
+        return [int(number) for number in answer[1:]]
+
+    def end(self):
+        self.running.stdin.close()
+        self.running.wait()
+
+
+def table(folder, package, texts):
+    """A table of the files of these texts, which are written below the folder, and of the stubs."""
+    stubs = {f"{name.replace('.', '/')}.java": f"package {name.rpartition('.')[0]};\n{text}\n" for name, text in programs.STUBS.items()}
+    paths = []
+    for path, text in {**stubs, **texts}.items():
+        paths.append(os.path.join(folder, path))
+        os.makedirs(os.path.dirname(paths[-1]), exist_ok=True)
+        with open(paths[-1], "w", encoding="utf-8") as file:
+            file.write(text)
+    return Table(package, jdk.write_list(folder, "files", paths))
+
+
+def shown(answer, seconds):
+    return f"{seconds * 1e3:,.2f} ms ({answer})" if answer is not None else f"no answer in {LIMIT} s"
+
+
+# ---- forms: the files of a program with a number, of which the package `p` is asked about
+
+
+def circle(number):
+    """Files that import each other's member types in a circle."""
+    texts = {}
+    for at in range(number):
+        imports = "".join(f"import static p.C{other}.*;\n" for other in range(number) if other != at)
+        texts[f"p/C{at}.java"] = f"package p;\n{imports}public class C{at} implements Comparable<C{at}>, Cloneable {{ String name; }}\n"
+    return texts
+
+
+def one_line(number):
+    """A file with one import on demand of a member type, or without it where the number is 0, beside files that import each other's."""
+    texts = {}
+    for at in range(8):
+        after = (at + 1) % 8
+        above = f" extends L{after}" if after else ""
+        texts[f"g/G{at}.java"] = f"package g;\nimport static g.G{after}.*;\npublic class G{at} {{ public static class L{at}{above} {{ String name; }} }}\n"
+    line = "import static g.G0.L0.*;\n" if number else ""
+    return {**texts, "p/C.java": f"package p;\n{line}public class C implements Cloneable {{ String name; }}\n"}
+
+
+def headers(number):
+    """Interfaces whose headers name what each other's headers may inherit."""
+    texts = {}
+    for at in range(number):
+        above = ", ".join(f"I{other}.X{other}" for other in range(number) if other != at)
+        texts[f"p/I{at}.java"] = f"package p;\ninterface I{at} extends {above} {{}}\n"
+    return texts
+
+
+def classes(above, below):
+    """A class of another package with these members, and one that extends it, which is asked about."""
+    return {"o/A.java": f"package o;\npublic class A {{\n{above}}}\n", "p/B.java": f"package p;\nimport o.*;\npublic class B extends A {{\n{below}}}\n"}
+
+
+def overloads(number, fields=""):
+    """Methods of one name in a class, which are all overridden in another one."""
+    methods = "".join(f"public void m(K{at} of) {{}}\n" for at in range(number))
+    kinds = {f"o/K{at}.java": f"package o;\npublic class K{at} {{}}\n" for at in range(number)}
+    return {**kinds, **classes(fields + methods, methods)}
+
+
+def beside_fields(number):
+    """40 of them beside so many fields."""
+    return overloads(40, "".join(f"public int f{at};\n" for at in range(number)))
+
+
+def interfaces(number, parameter):
+    """A class of interfaces with a method each: all of one name."""
+    texts = {f"o/I{at}.java": f"package o;\npublic interface I{at} {{ void m({parameter.format(at)}); }}\n" for at in range(number)}
+    kinds = {f"o/K{at}.java": f"package o;\npublic class K{at} {{}}\n" for at in range(number)}
+    above = ", ".join(f"I{at}" for at in range(number))
+    return {**texts, **kinds, "p/C.java": f"package p;\nimport o.*;\npublic abstract class C implements {above} {{}}\n"}
+
+
+def all_hidden(number):
+    """Fields and methods, half of each, all of which are hidden or overridden."""
+    members = "".join(f"public int f{at};\npublic void m{at}() {{}}\n" for at in range(number // 2))
+    return classes(members, members)
+
+
+# Each form: its name, the files of a number, the numbers, and the questions.
+FORMS = [
+    ("circle", "files that import each other's member types", circle, (2, 4, 8, 16, 32), ("field 0", "header 0")),
+    ("one_line", "without (0) and with (1) the line `import static g.G0.L0.*;`", one_line, (0, 1), ("field 0", "header 0")),
+    ("headers", "interfaces that inherit from each other's member types", headers, (12, 16, 24, 32), ("header 0",)),
+    ("overloads", "overloads, overridden", overloads, (50, 100, 200, 400), ("members 0",)),
+    ("beside_fields", "fields beside 40 overloads, overridden", beside_fields, (5_000, 10_000, 20_000), ("members 0",)),
+    ("interfaces", "interfaces with a method each, of one signature", lambda number: interfaces(number, ""), (100, 200, 400), ("members 0",)),
+    ("overloaded_interfaces", "interfaces with a method each, of one name", lambda number: interfaces(number, "K{} of"), (100, 200, 400), ("members 0",)),
+    ("all_hidden", "fields and methods, all hidden or overridden", all_hidden, (2_000, 4_000, 8_000), ("members 0",)),
+]
+
+
+def goal_of(name, number):
+    """The aim of the form's largest number, or of any."""
+    if name == "circle" and number == 32 or name == "overloads" and number == 400:
+        return GOALS[name]
+    return LONGEST
+
+
+def growth(before, after):
+    """As which power of the number the time grows from one number to the next."""
+    return math.log(after[1] / before[1]) / math.log(after[0] / before[0])
+
+
+def power_told(former, number, answer, seconds):
+    """The growth, where both are known and there is something to measure."""
+    if former is None or answer is None or former[0] == 0 or min(former[1], seconds) < 0.0001:
+        return "-"
+    return f"{growth(former, (number, seconds)):.2f}"
+
+
+def measure_form(name, told, texts_of, numbers, questions):
+    former = dict.fromkeys(questions)
+    for number in numbers:
+        with tempfile.TemporaryDirectory(prefix="apt-bench-questions-") as folder:
+            asked = table(folder, "p", texts_of(number))
+            asked.counts()
+            for question in questions:
+                answer, seconds = asked.median(question)
+                power = power_told(former[question], number, answer, seconds)
+                former[question] = None if answer is None else (number, seconds)
+                print(f"| {number:,} {told} | {question.split()[0]} | {shown(answer, seconds)} | {power} | at most {goal_of(name, number) * 1e3:,.0f} ms |", flush=True)
+                is_given_up = answer is None
+            asked.end()
+        if is_given_up:
+            return
+
+
+def measure_forms():
+    print(f"\n| Form | Question | One question | Grows as the power | Aim (the power: at most {GROWTH}) |\n|---|---|---|---|---|")
+    for form in FORMS:
+        measure_form(*form)
+
+
+# ---- programs
+
+
+class Legal:
+    """The programs of seeds from 0 on to which javac has no error."""
+
+    def __init__(self, folder):
+        self.folder, self.seed, self.refused = folder, 0, 0
+        jdk.compile_some(folder, ("Javac", "ProgramBench"))
+        self.javac = jdk.start(folder, ["-XX:+UseSerialGC", "ProgramBench", "legal"])
+
+    def next(self, lines, is_simple=False):
+        """The next seed with its program's texts."""
+        while True:
+            seed, texts = self.seed, programs.Program(self.seed, lines, is_simple).texts()
+            self.seed += 1
+            below = os.path.join(self.folder, "legal", str(seed))
+            paths = []
+            for path, text in texts.items():
+                paths.append(os.path.join(below, path))
+                os.makedirs(os.path.dirname(paths[-1]), exist_ok=True)
+                with open(paths[-1], "w", encoding="utf-8") as file:
+                    file.write(text)
+            if jdk.ask(self.javac, jdk.write_list(below, "files", paths)) == ["0"]:
+                return seed, texts
+            self.refused += 1
+
+    def end(self):
+        jdk.end(self.javac)
+
+
+def questions_of(counts):
+    """All questions on so many fields, methods and types."""
+    fields, methods, types = counts
+    for kind, count in (("field", fields), ("method", methods), ("header", types), ("members", types)):
+        yield from (f"{kind} {number}" for number in range(count))
+    yield from (f"subtype {of} {above}" for of in range(types) for above in range(types) if of != above)
+
+
+def ask_all(asked, questions):
+    """The seconds of each kind of question, the slowest question with its seconds and its answer, and how many were given up."""
+    taken, slowest, given_up = {}, ("none", 0, ""), 0
+    for question in questions:
+        answer, seconds = asked.ask(question)
+        taken.setdefault(question.split()[0], []).append(seconds)
+        if seconds > slowest[1]:
+            slowest = question, seconds, answer
+        given_up += answer is None
+        if given_up == GIVEN_UP:
+            break
+    return taken, slowest, given_up
+
+
+def measure_programs(count):
+    slowest_of_all, above, unanswered = [], 0, 0
+    with tempfile.TemporaryDirectory(prefix="apt-bench-questions-") as folder:
+        legal = Legal(folder)
+        for number in range(count):
+            seed, texts = legal.next(LINES)
+            asked = table(os.path.join(folder, str(number)), "-", texts)
+            counts = asked.counts()
+            taken, (question, seconds, answer), given_up = ask_all(asked, questions_of(counts))
+            asked.end()
+            slowest_of_all.append(seconds)
+            above, unanswered = above + (seconds > OF_PROGRAM), unanswered + (given_up > 0)
+            asked_of = sum(map(len, taken.values()))
+            lines = sum(text.count("\n") for text in texts.values())
+            print(f"program {number} (seed {seed}): {len(texts)} files, {lines} lines, {asked_of} questions, the slowest `{question}` {shown(answer, seconds)}"
+                  f"{', given up' if given_up == GIVEN_UP else ''}", flush=True)
+        refused = legal.refused
+        legal.end()
+    print(f"{count} programs ({refused} more were not legal): {count - above} have no question over {OF_PROGRAM * 1e3:.0f} ms (aim: all), {unanswered} have one without "
+          f"an answer in {LIMIT} s; of the slowest questions the median takes {statistics.median(slowest_of_all) * 1e3:.2f} ms, the longest {max(slowest_of_all) * 1e3:.2f} ms "
+          f"(load {os.getloadavg()[0]:.1f})")
+
+
+# ---- java.util
+
+
+def whole_files_below(folder, sources):
+    """A list of the files below java that have units."""
+    with zipfile.ZipFile(sources) as archive:
+        names = sorted(name for name in archive.namelist() if name.startswith(BELOW) and name.endswith(".java")
+                       and not name.endswith(("/package-info.java", "/module-info.java")))
+        archive.extractall(folder, names)
+    paths = jdk.whole_files(PROGRAM, jdk.write_list(folder, "every", [os.path.join(folder, name) for name in names]))
+    print(f"{len(paths)} files below {BELOW} have units, {len(names) - len(paths)} have none")
+    return jdk.write_list(folder, "files", paths)
+
+
+def questions_of_util(counts):
+    fields, methods, types = counts
+    for kind, count in (("field", fields), ("method", methods), ("header", types), ("members", types)):
+        yield from (f"{kind} {number}" for number in range(count))
+    yield from (f"subtype {of} {(of + turn * APART) % types}" for of in range(types) for turn in range(1, OTHERS + 1))
+
+
+def measure_util(sources):
+    with tempfile.TemporaryDirectory(prefix="apt-bench-questions-") as folder:
+        asked = Table("java.util", whole_files_below(folder, sources))
+        counts = asked.counts()
+        taken, (question, seconds, answer), _ = ask_all(asked, questions_of_util(counts))
+        asked.end()
+    every = [each for all_taken in taken.values() for each in all_taken]
+    for kind, all_taken in taken.items():
+        print(f"java.util: {len(all_taken)} questions `{kind}`, {statistics.mean(all_taken) * 1e3:.3f} ms on average, the longest {max(all_taken) * 1e3:.2f} ms")
+    print(f"java.util: {len(every)} questions, {statistics.mean(every) * 1e3:.3f} ms on average (aim: at most {OF_UTIL * 1e3:.0f} ms), the slowest `{question}` {shown(answer, seconds)} "
+          f"(load {os.getloadavg()[0]:.1f})")
+
+
+def main():
+    global PROGRAM
+    reader = argparse.ArgumentParser(usage=__doc__)
+    reader.add_argument("--program")
+    reader.add_argument("--sources")
+    reader.add_argument("--programs", type=int, default=COUNT)
+    reader.add_argument("parts", nargs="*", choices=[*PARTS, []])
+    words = reader.parse_args()
+    parts = words.parts or PARTS
+    PROGRAM = os.path.abspath(words.program) if words.program else measured.program(measured.UNPROVED)
+    print(f"load {os.getloadavg()[0]:.1f}")
+    if "forms" in parts:
+        measure_forms()
+    if "programs" in parts:
+        if jdk.is_there():
+            measure_programs(words.programs)
+        else:
+            print("there is no JDK, so no programs are measured")
+    if "util" in parts:
+        if words.sources:
+            measure_util(words.sources)
+        else:
+            print("no archive of the JDK's sources is named")
+
+
+if __name__ == "__main__":
+    main()
