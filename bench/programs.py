@@ -89,7 +89,7 @@ class Method:
 
 
 class Program:
-    """A program of about this many lines. No inner classes and no raw supertypes are in a simple one."""
+    """A program of at least so many lines. In a simple one types have few members, and there are no inner classes and no raw supertypes."""
 
     def __init__(self, seed, lines, is_simple=False):
         self.random, self.is_simple = random.Random(seed), is_simple
@@ -228,7 +228,7 @@ class Program:
 
     def add_new_methods(self, made):
         """Overloads of one name, which differ in the number of their parameters."""
-        name, is_static = self.new_name("m"), not made.is_inner and self.chance(0.15)
+        name, is_static = self.new_name("m"), not made.is_inner and not (self.is_simple and made.is_interface) and self.chance(0.15)
         access = self.access(made)
         for count in range(self.random.choice((1, 1, 2, 3))):
             scope = Made(made.name, made.package, False, made.outer, made.file)
@@ -255,12 +255,16 @@ class Program:
         result = put_in(method.result, given)
         self.add_method(made, Method(method.name, made, method.variables, parameters, result, method.access, method.is_static))
 
+    def some(self, most):
+        """A small number."""
+        return self.random.randint(0, (most + 1) // 2 if self.is_simple else most)
+
     def add_members(self, made):
-        for _ in range(self.random.choice((0, 1, 2, 3))):
+        for _ in range(self.some(3)):
             self.add_field(made)
-        for _ in range(self.random.choice((0, 1, 1, 2))):
+        for _ in range(self.some(2)):
             self.add_new_methods(made)
-        for _ in range(self.random.choice((0, 1, 2, 3))):
+        for _ in range(self.some(3)):
             self.add_overriding(made)
 
     # ---- files
@@ -273,8 +277,8 @@ class Program:
         self.add_header(made)
         self.types.append(made)
         self.add_members(made)
-        if outer is None or outer.outer is None:
-            for _ in range(self.random.choice((0, 0, 1, 2))):
+        if outer is None or outer.outer is None and not self.is_simple:
+            for _ in range(max(0, self.some(3) - 1)):
                 if not made.is_inner:
                     made.nested.append(self.add_type(package, made, file))
         made.is_abstract = not made.is_interface

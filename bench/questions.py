@@ -3,7 +3,7 @@
 
     bench/questions.py [--program PATH] [--sources ARCHIVE] [--programs COUNT] [PART..]
 
-PART is `forms`, `programs` or `util`; all are measured where none is named. PATH is the program that bench/measured.py builds
+PART is `programs`, `util`, `forms` or the name of a form; all are measured where none is named. PATH is the program that bench/measured.py builds
 without proofs where it is left out. It has the types of some Java files in one table, is asked by a line for each question, and
 answers it before the next one. A question's time is the processor time that the program takes from one to the other, so that
 what it does once, as reading the files, is not in it. Nothing is remembered from one question to the next. What is asked is the
@@ -145,14 +145,13 @@ def circle(number):
     return texts
 
 
-def one_line(number):
-    """A file with one import on demand of a member type, or without it where the number is 0, beside files that import each other's."""
+def one_line(number, line):
+    """A file with this line beside files that import each other's in a circle, and whose member types inherit from each other."""
     texts = {}
-    for at in range(8):
-        after = (at + 1) % 8
-        above = f" extends L{after}" if after else ""
-        texts[f"g/G{at}.java"] = f"package g;\nimport static g.G{after}.*;\npublic class G{at} {{ public static class L{at}{above} {{ String name; }} }}\n"
-    line = "import static g.G0.L0.*;\n" if number else ""
+    for at in range(number):
+        imports = "".join(f"import static g.G{other}.*;\n" for other in range(number) if other != at)
+        above = f" extends L{at + 1}" if at + 1 < number else ""
+        texts[f"g/G{at}.java"] = f"package g;\n{imports}public class G{at} {{ public static class L{at}{above} {{}} }}\n"
     return {**texts, "p/C.java": f"package p;\n{line}public class C implements Cloneable {{ String name; }}\n"}
 
 
@@ -196,16 +195,19 @@ def all_hidden(number):
     return classes(members, members)
 
 
-# Each form: its name, the files of a number, the numbers, and the questions.
+LINE = "import static g.G0.L0.*;"
+
+# Each form: its name, what it is with a number, its files, the numbers, and the questions.
 FORMS = [
-    ("circle", "files that import each other's member types", circle, (2, 4, 8, 16, 32), ("field 0", "header 0")),
-    ("one_line", "without (0) and with (1) the line `import static g.G0.L0.*;`", one_line, (0, 1), ("field 0", "header 0")),
-    ("headers", "interfaces that inherit from each other's member types", headers, (12, 16, 24, 32), ("header 0",)),
-    ("overloads", "overloads, overridden", overloads, (50, 100, 200, 400), ("members 0",)),
-    ("beside_fields", "fields beside 40 overloads, overridden", beside_fields, (5_000, 10_000, 20_000), ("members 0",)),
-    ("interfaces", "interfaces with a method each, of one signature", lambda number: interfaces(number, ""), (100, 200, 400), ("members 0",)),
-    ("overloaded_interfaces", "interfaces with a method each, of one name", lambda number: interfaces(number, "K{} of"), (100, 200, 400), ("members 0",)),
-    ("all_hidden", "fields and methods, all hidden or overridden", all_hidden, (2_000, 4_000, 8_000), ("members 0",)),
+    ("circle", "{} files that import each other's member types", circle, (2, 4, 8, 16, 32), ("field 0", "header 0")),
+    ("no_line", f"a file without `{LINE}`, {{}} others in a circle", lambda number: one_line(number, ""), (2, 4, 8), ("field 0", "header 0")),
+    ("one_line", "a file with this line, {} others in a circle", lambda number: one_line(number, LINE + "\n"), (2, 4, 8), ("field 0", "header 0")),
+    ("headers", "{} interfaces that inherit from each other's member types", headers, (12, 16, 24, 32), ("header 0",)),
+    ("overloads", "{} overloads, overridden", overloads, (50, 100, 200, 400), ("members 0",)),
+    ("beside_fields", "40 overloads, overridden, beside {} fields", beside_fields, (5_000, 10_000, 20_000), ("members 0",)),
+    ("interfaces", "{} interfaces with a method each, of one signature", lambda number: interfaces(number, ""), (100, 200, 400), ("members 0",)),
+    ("named_interfaces", "{} interfaces with a method each, of one name and other parameters", lambda number: interfaces(number, "K{} of"), (50, 100, 200, 400), ("members 0",)),
+    ("all_hidden", "{} fields and methods, all hidden or overridden", all_hidden, (2_000, 4_000, 8_000), ("members 0",)),
 ]
 
 
@@ -234,20 +236,21 @@ def measure_form(name, told, texts_of, numbers, questions):
         with tempfile.TemporaryDirectory(prefix="apt-bench-questions-") as folder:
             asked = table(folder, "p", texts_of(number))
             asked.counts()
+            is_given_up = False
             for question in questions:
                 answer, seconds = asked.median(question)
                 power = power_told(former[question], number, answer, seconds)
                 former[question] = None if answer is None else (number, seconds)
-                print(f"| {number:,} {told} | {question.split()[0]} | {shown(answer, seconds)} | {power} | at most {goal_of(name, number) * 1e3:,.0f} ms |", flush=True)
-                is_given_up = answer is None
+                print(f"| {told.format(f'{number:,}')} | {question.split()[0]} | {shown(answer, seconds)} | {power} | at most {goal_of(name, number) * 1e3:,.0f} ms |", flush=True)
+                is_given_up = is_given_up or answer is None
             asked.end()
         if is_given_up:
             return
 
 
-def measure_forms():
+def measure_forms(forms):
     print(f"\n| Form | Question | One question | Grows as the power | Aim (the power: at most {GROWTH}) |\n|---|---|---|---|---|")
-    for form in FORMS:
+    for form in forms:
         measure_form(*form)
 
 
@@ -367,13 +370,17 @@ def main():
     reader.add_argument("--program")
     reader.add_argument("--sources")
     reader.add_argument("--programs", type=int, default=COUNT)
-    reader.add_argument("parts", nargs="*", choices=[*PARTS, []])
+    reader.add_argument("parts", nargs="*")
     words = reader.parse_args()
     parts = words.parts or PARTS
+    forms = [form for form in FORMS if form[0] in parts or "forms" in parts]
+    unknown = set(parts) - {*PARTS, *(form[0] for form in FORMS)}
+    if unknown:
+        reader.error(f"there is no part {', '.join(sorted(unknown))}")
     PROGRAM = os.path.abspath(words.program) if words.program else measured.program(measured.UNPROVED)
     print(f"load {os.getloadavg()[0]:.1f}")
-    if "forms" in parts:
-        measure_forms()
+    if forms:
+        measure_forms(forms)
     if "programs" in parts:
         if jdk.is_there():
             measure_programs(words.programs)
