@@ -1,4 +1,6 @@
 import com.sun.source.util.JavacTask;
+import com.sun.source.util.TreePath;
+import com.sun.source.util.Trees;
 import java.io.BufferedReader;
 import java.io.IOException;
 import java.io.InputStreamReader;
@@ -6,6 +8,7 @@ import java.nio.charset.StandardCharsets;
 import java.nio.file.Files;
 import java.nio.file.Path;
 import java.util.ArrayList;
+import java.util.Comparator;
 import java.util.LinkedHashSet;
 import java.util.List;
 import java.util.Locale;
@@ -22,6 +25,7 @@ import javax.lang.model.element.Modifier;
 import javax.lang.model.element.Parameterizable;
 import javax.lang.model.element.TypeElement;
 import javax.lang.model.element.TypeParameterElement;
+import javax.lang.model.element.VariableElement;
 import javax.lang.model.type.ArrayType;
 import javax.lang.model.type.DeclaredType;
 import javax.lang.model.type.ExecutableType;
@@ -49,9 +53,11 @@ import javax.tools.ToolProvider;
  * <p>docs/DECISIONS.md tells where the definitions differ from javac. What would show one of these differences is not asked: the
  * members of a type with two methods of one name and of as many parameters that different types declare, of which javac keeps both
  * where one is of a class and the other of an interface, and takes the one that is further down where both are of interfaces; the
- * members of a type above which an interface has a static method, which javac does not inherit; whether a private method overrides
+ * members of a type above which an interface has a static method, which javac does not inherit, or that inherits fields of one name from
+ * types neither of which is above the other; the direct supertypes of an interface with interfaces, which are not {@code Object} too; whether a private method overrides
  * another one, or a method one of a type below; and arrays, wildcards and class types in an enclosing type with arguments in questions
- * on subtypes. The members of {@code Object} are left out of the answers, since the stub has none.
+ * on subtypes. The members of {@code Object} are left out of the answers, since the stub has none, and so is what javac lists and calls
+ * hidden.
  */
 final class ProgramBench {
     // Of how many other types a type is asked, and how far these stand from each other.
@@ -70,16 +76,29 @@ final class ProgramBench {
         if (of.getKind() == ElementKind.PARAMETER) {
             return parameters + ((ExecutableElement) around).getParameters().indexOf(of);
         }
-        List<Element> members = new ArrayList<>(around.getEnclosedElements());
-        // The default constructor, which javac has in front of the members, is the last one here.
-        members.sort((one, other) -> Boolean.compare(isMade(one), isMade(other)));
-        return parameters + members.indexOf(of);
+        return parameters + members((TypeElement) around).indexOf(of);
     }
 
     private static Elements elements;
+    private static Trees trees;
 
     private static boolean isMade(Element of) {
         return elements.getOrigin(of) == Elements.Origin.MANDATED;
+    }
+
+    private static long place(Element of) {
+        if (isMade(of)) {
+            return Long.MAX_VALUE;
+        }
+        TreePath path = trees.getPath(of);
+        return trees.getSourcePositions().getStartPosition(path.getCompilationUnit(), path.getLeaf());
+    }
+
+    // In the order in which they are written, the default constructor last. javac has it first, and types before other members.
+    private static List<Element> members(TypeElement of) {
+        List<Element> members = new ArrayList<>(of.getEnclosedElements());
+        members.sort(Comparator.comparing(ProgramBench::place));
+        return members;
     }
 
     /** An element: its unit and the steps of its path. */
@@ -166,6 +185,7 @@ final class ProgramBench {
             }
             types = processingEnv.getTypeUtils();
             elements = processingEnv.getElementUtils();
+            trees = Trees.instance(processingEnv);
             List<TypeElement> all = new ArrayList<>();
             for (TypeElement root : ElementFilter.typesIn(round.getRootElements())) {
                 gather(root, all);
@@ -205,8 +225,10 @@ final class ProgramBench {
                     row("type " + element(each), result(each.asType()));
                 }
             }
-            row("direct " + call(of.asType()), answers(types.directSupertypes(of.asType())));
-            List<Element> members = members(of);
+            if (of.getKind().isClass() || of.getInterfaces().isEmpty()) {
+                row("direct " + call(of.asType()), answers(types.directSupertypes(of.asType())));
+            }
+            List<Element> members = allMembers(of);
             if (!isDifferent(of, members)) {
                 String words = members.stream().map(ProgramBench::element).collect(Collectors.joining(","));
                 row("members " + element(of), words.isEmpty() ? "[]" : words);
@@ -217,21 +239,21 @@ final class ProgramBench {
             return list.isEmpty() ? "[]" : several(list);
         }
 
-        // What javac lists, in the order of the definition: its own, then what is of the superclass, then what is of each interface.
-        private List<Element> members(TypeElement of) {
+        // What javac lists and does not call hidden, in the order of the definition: its own, then what is of the superclass, then what is of each
+        // interface.
+        private List<Element> allMembers(TypeElement of) {
             Set<Element> order = new LinkedHashSet<>();
             add(of, order);
             List<? extends Element> listed = elements.getAllMembers(of);
-            return order.stream().filter(listed::contains).collect(Collectors.toList());
+            return order.stream().filter(listed::contains).filter(each -> listed.stream().noneMatch(other -> elements.hides(other, each)))
+                    .collect(Collectors.toList());
         }
 
         private void add(TypeElement of, Set<Element> order) {
             if (of.getQualifiedName().contentEquals("java.lang.Object")) {
                 return;
             }
-            List<Element> own = new ArrayList<>(of.getEnclosedElements());
-            own.sort((one, other) -> Boolean.compare(isMade(one), isMade(other)));
-            order.addAll(own);
+            order.addAll(ProgramBench.members(of));
             for (TypeElement above : headers(of)) {
                 add(above, order);
             }
@@ -255,6 +277,12 @@ final class ProgramBench {
                     if (each.getModifiers().contains(Modifier.STATIC)) {
                         return true;
                     }
+                }
+            }
+            Set<String> fields = new LinkedHashSet<>();
+            for (VariableElement each : ElementFilter.fieldsIn(members)) {
+                if (!fields.add(each.getSimpleName().toString())) {
+                    return true;
                 }
             }
             every.addAll(members);
