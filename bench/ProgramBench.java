@@ -50,22 +50,25 @@ import javax.tools.ToolProvider;
  *     the table {@code type_cases}, and an empty line behind them.
  * </ul>
  *
- * <p>docs/DECISIONS.md tells where the definitions differ from javac. What would show one of these differences is not asked: the
- * members of a type with two methods of one name and of as many parameters that different types declare, of which javac keeps both
- * where one is of a class and the other of an interface, and takes the one that is further down where both are of interfaces; the
- * members of a type above which an interface has a static method, which javac does not inherit, or that inherits fields of one name from
- * types neither of which is above the other; the direct supertypes of an interface with interfaces, which are not {@code Object} too; whether a private method overrides
- * another one, or a method one of a type below; and arrays, wildcards and class types in an enclosing type with arguments in questions
- * on subtypes. The members of {@code Object} are left out of the answers, since the stub has none, and so is what javac lists and calls
- * hidden.
+ * <p>What would show a difference between the definitions and javac that docs/DECISIONS.md tells is not asked:
+ *
+ * <ul>
+ * <li>the members of a type that inherits methods of one name, with as many parameters, from a class and an interface, or from two
+ *     interfaces: of these the definition keeps the first one, where it overrides the other, and javac both, or the one further down;
+ * <li>the members of a type above which an interface has a static method: javac does not inherit it;
+ * <li>the members of a type that inherits two fields of one name from types neither of which is above the other: javac keeps both;
+ * <li>whether a private method overrides another one, and whether a method overrides one of a type below;
+ * <li>arrays, and arguments that are wildcards in both types, in questions on subtypes.
+ * </ul>
+ *
+ * <p>Nor is it asked for the direct supertypes of an interface with interfaces, of which javac says that {@code Object} is one too (by JLS
+ * 4.10.2 it is not). From the members those of {@code Object} are left out, since the stub has none, and what is hidden: javac lists it, and
+ * its {@code hides} says so. The programs have no inner classes, and so no types in an enclosing type with arguments.
  */
 final class ProgramBench {
     // Of how many other types a type is asked, and how far these stand from each other.
     private static final int OTHERS = 3;
     private static final int APART = 2;
-
-    /** A word that is joined with others from the outside in. */
-    private static final String BETWEEN = "/";
 
     private static int step(Element of) {
         Element around = of.getEnclosingElement();
@@ -146,7 +149,7 @@ final class ProgramBench {
     private static String call(TypeMirror type) {
         switch (type.getKind()) {
             case ARRAY:
-                return "[]" + BETWEEN + call(((ArrayType) type).getComponentType());
+                return "[]/" + call(((ArrayType) type).getComponentType());
             case DECLARED:
                 List<? extends TypeMirror> arguments = ((DeclaredType) type).getTypeArguments();
                 StringBuilder words = new StringBuilder(element(((DeclaredType) type).asElement()));
@@ -154,7 +157,7 @@ final class ProgramBench {
                     words.append('<').append(arguments.size());
                 }
                 for (TypeMirror each : arguments) {
-                    words.append(BETWEEN).append(call(each));
+                    words.append('/').append(call(each));
                 }
                 return words.toString();
             case TYPEVAR:

@@ -8,7 +8,7 @@ without proofs where it is left out. It has the types of some Java files in one 
 answers it before the next one. A question's time is the processor time that the program takes from one to the other, so that
 what it does once, as reading the files, is not in it. Nothing is remembered from one question to the next. What is asked is the
 type of a field or of a method, the superclass and the interfaces of a type, all members of a type, and whether a type is a
-subtype of another one. A question that is not answered within 20 seconds of the processor is given up.
+subtype of another one. A question that is not answered within 20 seconds of the processor is given up, and a program after 60.
 
 - `forms` are programs of one form each, which grow in one number. Each line has the milliseconds of one question, the median of
   five where one takes less than half a second, its answer, and the aim. The growth is that of the time from half of the number,
@@ -45,8 +45,8 @@ GOALS = {"circle": 0.02, "overloads": 1}
 OF_PROGRAM, OF_UTIL = 0.05, 0.001
 GROWTH = 2
 
-# How often a question is asked that takes less than so many seconds, and how many are given up of one program.
-TURNS, SHORT, GIVEN_UP = 5, 0.5, 3
+# How often a question is asked that takes less than so many seconds, and the seconds of all questions over a program after which it is given up.
+TURNS, SHORT, MOST_OF_PROGRAM = 5, 0.5, 60
 
 COUNT, LINES = 245, 200
 
@@ -293,41 +293,56 @@ def questions_of(counts):
     yield from (f"subtype {of} {above}" for of in range(types) for above in range(types) if of != above)
 
 
-def ask_all(asked, questions):
-    """The seconds of each kind of question, the slowest question with its seconds and its answer, and how many were given up."""
-    taken, slowest, given_up = {}, ("none", 0, ""), 0
-    for question in questions:
-        answer, seconds = asked.ask(question)
-        taken.setdefault(question.split()[0], []).append(seconds)
-        if seconds > slowest[1]:
-            slowest = question, seconds, answer
-        given_up += answer is None
-        if given_up == GIVEN_UP:
-            break
-    return taken, slowest, given_up
+class Asked:
+    """What questions over one table took: the seconds of each kind, the slowest one, and how many had no answer."""
+
+    def __init__(self):
+        self.taken, self.slowest, self.unanswered, self.is_given_up = {}, ("none", 0, ""), 0, False
+
+    def ask_all(self, of, questions, most):
+        """Asks until all together took so many seconds."""
+        left = most
+        for question in questions:
+            if left < 0:
+                self.is_given_up = True
+                return
+            answer, seconds = of.ask(question)
+            left -= seconds
+            self.taken.setdefault(question.split()[0], []).append(seconds)
+            self.unanswered += answer is None
+            if seconds > self.slowest[1]:
+                self.slowest = question, seconds, answer
+
+    def count(self):
+        return sum(map(len, self.taken.values()))
+
+    def slowest_told(self):
+        question, seconds, answer = self.slowest
+        return f"the slowest `{question}` {shown(answer, seconds)}"
+
+
+def measure_program(folder, number, seed, texts):
+    """What its questions took. Prints a line."""
+    asked, of = Asked(), table(folder, "-", texts)
+    asked.ask_all(of, questions_of(of.counts()), MOST_OF_PROGRAM)
+    of.end()
+    lines = sum(text.count("\n") for text in texts.values())
+    given_up = f", given up after {MOST_OF_PROGRAM} s" if asked.is_given_up else ""
+    print(f"program {number} (seed {seed}): {len(texts)} files, {lines} lines, {asked.count()} questions, {asked.slowest_told()}{given_up}", flush=True)
+    return asked
 
 
 def measure_programs(count):
-    slowest_of_all, above, unanswered = [], 0, 0
     with tempfile.TemporaryDirectory(prefix="apt-bench-questions-") as folder:
         legal = Legal(folder)
-        for number in range(count):
-            seed, texts = legal.next(LINES)
-            asked = table(os.path.join(folder, str(number)), "-", texts)
-            counts = asked.counts()
-            taken, (question, seconds, answer), given_up = ask_all(asked, questions_of(counts))
-            asked.end()
-            slowest_of_all.append(seconds)
-            above, unanswered = above + (seconds > OF_PROGRAM), unanswered + (given_up > 0)
-            asked_of = sum(map(len, taken.values()))
-            lines = sum(text.count("\n") for text in texts.values())
-            print(f"program {number} (seed {seed}): {len(texts)} files, {lines} lines, {asked_of} questions, the slowest `{question}` {shown(answer, seconds)}"
-                  f"{', given up' if given_up == GIVEN_UP else ''}", flush=True)
+        asked = [measure_program(os.path.join(folder, str(number)), number, *legal.next(LINES)) for number in range(count)]
         refused = legal.refused
         legal.end()
-    print(f"{count} programs ({refused} more were not legal): {count - above} have no question over {OF_PROGRAM * 1e3:.0f} ms (aim: all), {unanswered} have one without "
-          f"an answer in {LIMIT} s; of the slowest questions the median takes {statistics.median(slowest_of_all) * 1e3:.2f} ms, the longest {max(slowest_of_all) * 1e3:.2f} ms "
-          f"(load {os.getloadavg()[0]:.1f})")
+    slowest = [each.slowest[1] for each in asked]
+    print(f"{count} programs ({refused} more were not legal), {sum(each.count() for each in asked):,} questions: {sum(each <= OF_PROGRAM for each in slowest)} programs have "
+          f"none over {OF_PROGRAM * 1e3:.0f} ms (aim: all), {sum(each.unanswered > 0 for each in asked)} have one without an answer in {LIMIT} s, "
+          f"{sum(each.is_given_up for each in asked)} were given up")
+    print(f"of the slowest question of each program the median takes {statistics.median(slowest) * 1e3:.2f} ms, the longest {max(slowest) * 1e3:,.2f} ms (load {os.getloadavg()[0]:.1f})")
 
 
 # ---- java.util
@@ -353,14 +368,13 @@ def questions_of_util(counts):
 
 def measure_util(sources):
     with tempfile.TemporaryDirectory(prefix="apt-bench-questions-") as folder:
-        asked = Table("java.util", whole_files_below(folder, sources))
-        counts = asked.counts()
-        taken, (question, seconds, answer), _ = ask_all(asked, questions_of_util(counts))
-        asked.end()
-    every = [each for all_taken in taken.values() for each in all_taken]
-    for kind, all_taken in taken.items():
-        print(f"java.util: {len(all_taken)} questions `{kind}`, {statistics.mean(all_taken) * 1e3:.3f} ms on average, the longest {max(all_taken) * 1e3:.2f} ms")
-    print(f"java.util: {len(every)} questions, {statistics.mean(every) * 1e3:.3f} ms on average (aim: at most {OF_UTIL * 1e3:.0f} ms), the slowest `{question}` {shown(answer, seconds)} "
+        asked, of = Asked(), Table("java.util", whole_files_below(folder, sources))
+        asked.ask_all(of, questions_of_util(of.counts()), math.inf)
+        of.end()
+    for kind, taken in asked.taken.items():
+        print(f"java.util: {len(taken)} questions `{kind}`, {statistics.mean(taken) * 1e3:.3f} ms on average, the longest {max(taken) * 1e3:.2f} ms")
+    mean = sum(sum(taken) for taken in asked.taken.values()) / asked.count()
+    print(f"java.util: {asked.count()} questions, {mean * 1e3:.3f} ms on average (aim: at most {OF_UTIL * 1e3:.0f} ms), {asked.slowest_told()} "
           f"(load {os.getloadavg()[0]:.1f})")
 
 
