@@ -51,15 +51,14 @@ def some(rows):
 
 def stub_rows(texts):
     """Those that enter the types of the JDK that the program names, and that these name."""
-    named = {"Object"}
-    while True:
-        words = set(re.findall(r"\w+", " ".join([*texts.values(), *(text for name, text in programs.STUBS.items() if name.rpartition(".")[2] in named)])))
-        if named >= words & {name.rpartition(".")[2] for name in programs.STUBS}:
-            break
-        named |= words
+    simple_names = {name: name.rpartition(".")[2] for name in programs.STUBS}
+    named, former = {"Object", *re.findall(r"\w+", " ".join(texts.values()))}, None
+    while named != former:
+        former = set(named)
+        named.update(*(re.findall(r"\w+", text) for name, text in programs.STUBS.items() if simple_names[name] in former))
     for name, text in programs.STUBS.items():
-        package, _, simple = name.rpartition(".")
-        if simple in named:
+        package = name.rpartition(".")[0]
+        if simple_names[name] in named:
             yield f"stub_file {word(f'package {package}; {text}')} = done"
 
 
@@ -72,7 +71,7 @@ def main():
             seed, texts, lines = next_program(legal, FEWEST + number)
             print(f"\n# Seed {seed}: {len(texts)} files, {lines} lines.\nempty = done")
             files = [f"file {word(text)} = done" for text in texts.values()]
-            rows = some(rows_of(javac, os.path.join(folder, "legal", str(seed), "files")))
+            rows = some(rows_of(javac, os.path.join(legal.files_of(seed), "files")))
             print("\n".join([*stub_rows(texts), *files, *rows]))
         jdk.end(javac)
         legal.end()

@@ -3,17 +3,17 @@
 
     bench/questions.py [--program PATH] [--sources ARCHIVE] [--programs COUNT] [PART..]
 
-PART is `programs`, `util`, `forms` or the name of a form; all are measured where none is named. PATH is the program that bench/measured.py builds
-without proofs where it is left out. It has the types of some Java files in one table, is asked by a line for each question, and
-answers it before the next one. A question's time is the processor time that the program takes from one to the other, so that
-what it does once, as reading the files, is not in it. Nothing is remembered from one question to the next. What is asked is the
-type of a field or of a method, the superclass and the interfaces of a type, all members of a type, and whether a type is a
-subtype of another one. A question that is not answered within 20 seconds of the processor is given up, and a program after 60.
+PART is `programs`, `util`, `forms` or the name of a form; all are measured where none is named. PATH is the program that
+bench/measured.py builds without proofs where it is left out. It has the types of some Java files in one table, is asked by a line
+for each question, and answers it before the next one. A question's time is the processor time that the program takes from one to
+the other, so that what it does once, as reading the files, is not in it. Nothing is remembered from one question to the next. What
+is asked is the type of a field or of a method, the superclass and the interfaces of a type, all members of a type, and whether a
+type is a subtype of another one. A question that is not answered within 20 seconds of the processor is given up, and a program
+after 60.
 
-- `forms` are programs of one form each, which grow in one number. Each line has the milliseconds of one question, the median of
-  five where one takes less than half a second, its answer, and the aim. The growth is that of the time from half of the number,
-  divided by that of the number, as a power: 2 is that of the square. Some forms are no legal programs, but tables that someone may
-  make.
+- `forms` are programs of one form each, which grow in one number. A line has the milliseconds of one question, the median of five
+  where one takes less than half a second, its answer, as which power of the number the time grew from the line before, and the aim.
+  Some forms are no legal programs, but tables that someone may make.
 - `programs` are those of programs.py, of some 200 lines each in several files, from the seeds from 0 on, without those to which
   javac has an error. Over each all fields, methods, headers and members are asked, and each type against each other one. A line
   has the slowest question of each program, the last one how many programs have no question above the aim.
@@ -39,13 +39,15 @@ import jdk
 import measured
 import programs
 
-# Seconds of the processor after which a question is given up; the time that none is to take; those of questions over the forms, the programs and java.util.
+# Seconds of the processor after which a question is given up, and those that none is to take; over forms of the largest number, over
+# the programs, and over java.util on average.
 LIMIT, LONGEST = 20, 2
 GOALS = {"circle": 0.02, "overloads": 1}
 OF_PROGRAM, OF_UTIL = 0.05, 0.001
 GROWTH = 2
 
-# How often a question is asked that takes less than so many seconds, and the seconds of all questions over a program after which it is given up.
+# How often a question is asked that takes less than so many seconds, and the seconds of all questions over a program after which it
+# is given up.
 TURNS, SHORT, MOST_OF_PROGRAM = 5, 0.5, 60
 
 COUNT, LINES = 245, 200
@@ -117,16 +119,21 @@ class Table:
         self.running.wait()
 
 
-def table(folder, package, texts):
-    """A table of the files of these texts, which are written below the folder, and of the stubs."""
-    stubs = {f"{name.replace('.', '/')}.java": f"package {name.rpartition('.')[0]};\n{text}\n" for name, text in programs.STUBS.items()}
+def written(folder, texts):
+    """A list of files with these texts, which are written below a folder."""
     paths = []
-    for path, text in {**stubs, **texts}.items():
+    for path, text in texts.items():
         paths.append(os.path.join(folder, path))
         os.makedirs(os.path.dirname(paths[-1]), exist_ok=True)
         with open(paths[-1], "w", encoding="utf-8") as file:
             file.write(text)
-    return Table(package, jdk.write_list(folder, "files", paths))
+    return jdk.write_list(folder, "files", paths)
+
+
+def table(folder, package, texts):
+    """A table of files with these texts and of the stubs."""
+    stubs = {f"{name.replace('.', '/')}.java": f"package {name.rpartition('.')[0]};\n{text}\n" for name, text in programs.STUBS.items()}
+    return Table(package, written(folder, {**stubs, **texts}))
 
 
 def shown(answer, seconds):
@@ -265,19 +272,17 @@ class Legal:
         jdk.compile_some(folder, ("Javac", "ProgramBench"))
         self.javac = jdk.start(folder, ["-XX:+UseSerialGC", "ProgramBench", "legal"])
 
+    def files_of(self, seed):
+        """The folder of the program of a seed."""
+        return os.path.join(self.folder, "legal", str(seed))
+
     def next(self, lines, is_simple=False):
         """The next seed with its program's texts."""
         while True:
             seed, texts = self.seed, programs.Program(self.seed, lines, is_simple).texts()
             self.seed += 1
-            below = os.path.join(self.folder, "legal", str(seed))
-            paths = []
-            for path, text in texts.items():
-                paths.append(os.path.join(below, path))
-                os.makedirs(os.path.dirname(paths[-1]), exist_ok=True)
-                with open(paths[-1], "w", encoding="utf-8") as file:
-                    file.write(text)
-            if jdk.ask(self.javac, jdk.write_list(below, "files", paths)) == ["0"]:
+            listed = written(self.files_of(seed), texts)
+            if jdk.ask(self.javac, listed) == ["0"]:
                 return seed, texts
             self.refused += 1
 
