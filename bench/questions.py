@@ -153,13 +153,11 @@ def circle(number):
 
 
 def one_line(number, line):
-    """A file with this line beside files that import each other's in a circle, and whose member types inherit from each other."""
-    texts = {}
-    for at in range(number):
-        imports = "".join(f"import static g.G{other}.*;\n" for other in range(number) if other != at)
-        above = f" extends L{at + 1}" if at + 1 < number else ""
-        texts[f"g/G{at}.java"] = f"package g;\n{imports}public class G{at} {{ public static class L{at}{above} {{}} }}\n"
-    return {**texts, "p/C.java": f"package p;\n{line}public class C implements Cloneable {{ String name; }}\n"}
+    """A file with this line, of which a member type has supertypes that an import on demand names, as the line might."""
+    kinds = {f"o/B{at}.java": f"package o;\npublic {'interface' if at else 'class'} B{at} {{}}\n" for at in range(number)}
+    interfaces = ", ".join(f"B{at}" for at in range(1, number))
+    member = f"public static class L0 extends B0{' implements ' + interfaces if interfaces else ''} {{}}"
+    return {**kinds, "p/G0.java": f"package p;\nimport o.*;\n{line}public class G0 {{ String name; {member} }}\n"}
 
 
 def headers(number):
@@ -197,24 +195,24 @@ def interfaces(number, parameter):
 
 
 def all_hidden(number):
-    """Fields and methods, half of each, all of which are hidden or overridden."""
-    members = "".join(f"public int f{at};\npublic void m{at}() {{}}\n" for at in range(number // 2))
+    """Fields and as many methods, all of which are hidden or overridden."""
+    members = "".join(f"public int f{at};\npublic void m{at}() {{}}\n" for at in range(number))
     return classes(members, members)
 
 
-LINE = "import static g.G0.L0.*;"
+LINE = "import static p.G0.L0.*;"
 
 # Each form: its name, what it is with a number, its files, the numbers, and the questions.
 FORMS = [
     ("circle", "{} files that import each other's member types", circle, (2, 4, 8, 16, 32), ("field 0", "header 0")),
-    ("no_line", f"a file without `{LINE}`, {{}} others in a circle", lambda number: one_line(number, ""), (2, 4, 8), ("field 0", "header 0")),
-    ("one_line", "a file with this line, {} others in a circle", lambda number: one_line(number, LINE + "\n"), (2, 4, 8), ("field 0", "header 0")),
+    ("no_line", f"a file `p.G0` without `{LINE}`, {{}} supertypes of `L0`", lambda number: one_line(number, ""), (1, 2, 4, 8), ("field 0", "header 1")),
+    ("one_line", "the same with this line, {} supertypes", lambda number: one_line(number, LINE + "\n"), (1, 2, 4, 8), ("field 0", "header 1")),
     ("headers", "{} interfaces that inherit from each other's member types", headers, (12, 16, 24, 32), ("header 0",)),
     ("overloads", "{} overloads, overridden", overloads, (50, 100, 200, 400), ("members 0",)),
     ("beside_fields", "40 overloads, overridden, beside {} fields", beside_fields, (5_000, 10_000, 20_000), ("members 0",)),
     ("interfaces", "{} interfaces with a method each, of one signature", lambda number: interfaces(number, ""), (100, 200, 400), ("members 0",)),
     ("named_interfaces", "{} interfaces with a method each, of one name and other parameters", lambda number: interfaces(number, "K{} of"), (50, 100, 200, 400), ("members 0",)),
-    ("all_hidden", "{} fields and methods, all hidden or overridden", all_hidden, (2_000, 4_000, 8_000), ("members 0",)),
+    ("all_hidden", "{} fields and as many methods, all hidden or overridden", all_hidden, (2_000, 4_000, 8_000), ("members 0",)),
 ]
 
 
