@@ -205,8 +205,8 @@ LINE = "import static p.G0.L0.*;"
 # Each form: its name, what it is with a number, its files, the numbers, and the questions.
 FORMS = [
     ("circle", "{} files that import each other's member types", circle, (2, 4, 8, 16, 32), ("field 0", "header 0")),
-    ("no_line", f"a file `p.G0` without `{LINE}`, {{}} supertypes of `L0`", lambda number: one_line(number, ""), (1, 2, 4, 8), ("field 0", "header 1")),
-    ("one_line", "the same with this line, {} supertypes", lambda number: one_line(number, LINE + "\n"), (1, 2, 4, 8), ("field 0", "header 1")),
+    ("no_line", f"a file `p.G0` without `{LINE}`, supertypes of `L0`: {{}}", lambda number: one_line(number, ""), (1, 2, 4, 8), ("field 0", "header 1")),
+    ("one_line", "the same with this line: {}", lambda number: one_line(number, LINE + "\n"), (1, 2, 4, 8), ("field 0", "header 1")),
     ("headers", "{} interfaces that inherit from each other's member types", headers, (12, 16, 24, 32), ("header 0",)),
     ("overloads", "{} overloads, overridden", overloads, (50, 100, 200, 400), ("members 0",)),
     ("beside_fields", "40 overloads, overridden, beside {} fields", beside_fields, (5_000, 10_000, 20_000), ("members 0",)),
