@@ -4,7 +4,8 @@
 An edit is a file `tools/further_edits/CRATE/NAME.edit` in the form of those of `must-fail/`, which the gate tries: a line
 `file: `, and then pairs of lines `old: ` and `new: `. The gate does not try those that stand here.
 
-A caller cites contracts alone, so an edited function decides by itself whether its edit is refused. The crates below, and
+A caller cites contracts alone, so an edited function decides by itself whether its edit is refused. Of an edited constant
+those functions decide that name it, and those whose proofs use lemmas on it. The crates below, and
 all other functions of the crate, are given to the prover with bodies `unreachable!()` and with holes for proofs. Edits of
 different functions are applied together and seen in one check. What that does not settle is seen in halves, and then alone.
 
@@ -262,7 +263,7 @@ def read_edits(files, source):
 
 
 def functions_at(source, path, old):
-    """The functions that a text stands in, or that name the constant that it stands in, with their files, by the folders of their proofs."""
+    """The functions that a text stands in, or that name the constant that it stands in or use lemmas on it, with their files, by the folders of their proofs."""
     text = source.code[path]
     at = text.find(old)
     if at < 0:
@@ -274,7 +275,7 @@ def functions_at(source, path, old):
         return {source.proof_of(path, it): (path, it) for it in around}
     item = next(it for it in reversed(text.split("\n")[: line + 1]) if it and it[0] not in " )]}")
     constant = CONSTANT.match(item)
-    return functions_with(source, constant[1]) if constant else {}
+    return functions_with(source, constant[1]) | functions_by_lemmas(source, constant[1]) if constant else {}
 
 
 def functions_with(source, word):
@@ -287,6 +288,17 @@ def functions_with(source, word):
             if re.search(rf"\b{word}\b", body):
                 found[source.proof_of(path, it)] = path, it
     return found
+
+
+def functions_by_lemmas(source, word):
+    """The functions whose proofs use lemmas on a constant, as those on a table, with their files, by the folders of their proofs."""
+    own = {source.proof_of(path, it): (path, it) for path, functions in source.functions.items() for it in functions}
+    uses = {path: set(re.findall(rf"^use Rattle\.{source.name}\.proofs\.(\w+)\.\{{", text, re.M)) for path, text in source.texts.items()}
+    lemmas = {Path(path).stem: path for path in uses if os.path.dirname(path) == "proofs"}
+    on_it = {name for name, path in lemmas.items() if re.search(rf"\b{word}\b", source.texts[path])}
+    while more := {name for name, path in lemmas.items() if uses[path] & on_it} - on_it:
+        on_it |= more
+    return {folder: own[folder] for path in uses if uses[path] & on_it and (folder := os.path.dirname(path)) in own}
 
 
 def groups_of(edits, source):
