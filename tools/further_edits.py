@@ -466,23 +466,33 @@ class Said:
 class Bench:
     """What all trials share: the kit, the crates with nothing but their contracts, the folder of the logs, and those that lanes of trials keep."""
 
-    def __init__(self, crates, work, jobs, is_unedited):
+    def __init__(self, crates, work, jobs, is_unedited, proved):
         self.is_unedited = is_unedited
         self.rtlib, self.folder = kit()
-        self.top = work / "stands_in"
+        self.proved = proved
+        self.top = proved or work / "stands_in"
         self.logs = work / "logs"
         self.lock = threading.Lock()
         self.lanes = queue.Queue()
         for number in range(jobs):
             self.lanes.put(work / f"lane-{number}")
         uses = with_those_below(crates)
+        if proved:
+            others = [crate for crate in uses if Source(CRATES / crate).texts != Source(proved / "crates" / crate).texts]
+            if others:
+                raise SystemExit(f"{proved} has other text of {', '.join(others)}")
+        else:
+            self.lay_out(uses)
+        self.crates = {it.name: it for it in self.in_top(lambda: self.rtlib.crates_below(str(self.top)))}
+
+    def lay_out(self, uses):
+        """Writes these crates with nothing but their contracts."""
         for crate in uses:
             write(self.top / "crates" / crate, Source(CRATES / crate).stands_in())
         lines = "".join(f"{crate}: {' '.join(used)}\n" for crate, used in uses.items())
         (self.top / "crates.txt").write_text(lines, encoding="utf-8")
         if (TOP / "HANDLES").is_file():
             shutil.copy(TOP / "HANDLES", self.top)
-        self.crates = {it.name: it for it in self.in_top(lambda: self.rtlib.crates_below(str(self.top)))}
 
     def in_top(self, gives):
         """What a call of the kit's library gives in the folder of the crates that stand in."""
@@ -494,9 +504,9 @@ class Bench:
             os.chdir(before)
 
     def words_of(self, crate):
-        """The words of a check of a crate over the others as source."""
+        """The words of a check of a crate over the others: as source, or as the libraries that were proved."""
         with self.lock:
-            return self.in_top(lambda: self.crates[crate].words(["--jobs", "1"], keeps=False, as_source=True))
+            return self.in_top(lambda: self.crates[crate].words(["--jobs", "1"], keeps=False, as_source=not self.proved))
 
 
 # Which crates
@@ -605,6 +615,7 @@ def read_words():
     words.add_argument("--unedited", action="store_true", help="check the functions that the edits change as they stand: all must be let through")
     words.add_argument("--look", action="store_true", help="check nothing, and only say which edits do not fit the text as it stands")
     words.add_argument("--jobs", type=int, default=1, metavar="N", help="how many crates are tried at a time (1)")
+    words.add_argument("--proved", type=Path, metavar="FOLDER", help="a checkout with the same crates, in which `rt ci` passed: its libraries are taken in place of stand-ins, which is faster")
     words.add_argument("--kept", type=Path, metavar="FOLDER", help="where what is read is kept for the next run; a new folder if it is left out")
     return words.parse_args()
 
@@ -615,7 +626,7 @@ def main():
     if asked.look:
         return look(crates)
     work = (asked.kept or Path(tempfile.mkdtemp(prefix="further-edits-"))).resolve()
-    bench = Bench(crates, work, asked.jobs, asked.unedited)
+    bench = Bench(crates, work, asked.jobs, asked.unedited, asked.proved and asked.proved.resolve())
     with ThreadPoolExecutor(asked.jobs) as pool:
         done = list(pool.map(lambda crate: tried(crate, crates[crate], bench), crates))
     found = [word for of_crate, _ in done for word in of_crate]
