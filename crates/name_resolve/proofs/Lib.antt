@@ -2,6 +2,8 @@ pub mod Agreement
 pub mod ChildrenLeft
 pub mod Enclosing
 pub mod FirstPlaces
+pub mod GatheredFinds
+pub mod KeptFronts
 pub mod KeptQuestions
 pub mod LookSteps
 pub mod MirrorsLemmas

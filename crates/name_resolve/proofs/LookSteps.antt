@@ -49,12 +49,6 @@ module _ {A : Type 0} (find : A → Finds) where
   past (x ∷ xs) zero e = absurd (omega arith)
   past (x ∷ xs) (suc i) e = past xs i (omega arith)
 
-  pub each_step : {B : Type 0} (shown : B → A) (items : List B) (i : ℕ) (item : B) (finds finds' : Finds) → i < length items → get_or items i item ≡ item → finds' ≡ both finds (find (shown item))
-      → from_each find finds' (map shown (drop (i + 1) items)) ≡ from_each find finds (map shown (drop i items))
-  each_step shown items i item finds finds' h is e =
-      ap (λ x. from_each find x (map shown (drop (i + 1) items))) e ∙ each_next finds (shown item) (map shown (drop (i + 1) items))
-      ∙ ap (λ xs. from_each find finds (map shown xs)) (sym (drop_more items i item h ∙ ap (λ x. x ∷ drop (i + 1) items) is))
-
   pub each_more : (items : List A) (i : ℕ) (item : A) (finds finds' : Finds) → i < length items → get_or items i item ≡ item → finds' ≡ both finds (find item)
       → from_each find finds' (drop (i + 1) items) ≡ from_each find finds (drop i items)
   each_more items i item finds finds' h is e =
@@ -64,14 +58,11 @@ module _ {A : Type 0} (find : A → Finds) where
   pub each_over : (items : List A) (i : ℕ) (finds : Finds) → length items ≡ i → from_each find finds (drop i items) ≡ finds
   each_over items i finds e = ap (from_each find finds) (past items i e) ∙ each_end finds
 
-  pub each_done : {B : Type 0} (shown : B → A) (items : List B) (i : ℕ) (finds : Finds) → length items ≡ i → from_each find finds (map shown (drop i items)) ≡ finds
-  each_done shown items i finds e = ap (λ xs. from_each find finds (map shown xs)) (past_items items i e) ∙ each_end finds
-    where
-      past_items : {B : Type 0} (ys : List B) (i : ℕ) → length ys ≡ i → drop i ys ≡ []
-      past_items [] zero e = refl
-      past_items [] (suc i) e = absurd (omega arith)
-      past_items (y ∷ ys) zero e = absurd (omega arith)
-      past_items (y ∷ ys) (suc i) e = past_items ys i (omega arith)
+  -- of what items show
+  pub each_shown : {B : Type 0} (shown : B → A) (finds : Finds) (items : List B) → from_each (λ x. find (shown x)) finds items ≡ from_each find finds (map shown items)
+  unfolding from_each
+  each_shown shown finds [] = refl
+  each_shown shown finds (x ∷ xs) = each_shown shown (both finds (find (shown x))) xs
 
 abbrev pub from_supers : Tops → Members → Find → List ℕ → Finds → List Supertype → Finds
 from_supers tops m f name = from_each (λ s. members_of m (supertype_found tops m f s) name)

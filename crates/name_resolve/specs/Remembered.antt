@@ -1,6 +1,8 @@
 -- What look-ups remember: which member types of a name a type inherits, by the levels of supertypes through which they are looked for. Most of a look-up's promises
 -- speak of each way to find member types that agrees with what is remembered, so that the definition by levels is only one of them.
-use Rattle.std.specs.Prelude.{◌≡◌, ◌≤◌, ◌<◌, ◌-◌, ℕ, suc, Bool, true, false, ◌&&◌, List, [], length, nat_lt, Option, None, Some, Result, IfOk, slice_get, string_bytes, if◌then◌else◌}
+use Rattle.std.specs.Prelude.{◌≡◌, ◌≤◌, ◌<◌, ◌-◌, ℕ, suc, Bool, true, false, ◌&&◌, List, [], ◌++◌, length, nat_lt, Option, None, Some, Result, Ok, Err, IfOk, Vec, slice_get, string_bytes, take, if◌then◌else◌}
+use Rattle.std.specs.declared.alloc.Global.{Global}
+use Rattle.std.specs.List.{AllByRecursion}
 use Rattle.std.specs.Option.{option_or}
 use Rattle.std.specs.Str.{bytes_eq}
 use Rattle.element_table.specs.declared.part.Part.{Part}
@@ -11,8 +13,9 @@ use Rattle.name_resolve.specs.declared.member_types.MemberTypes.{MemberTypes}
 use Rattle.name_resolve.specs.declared.memory.Question.{Question}
 use Rattle.name_resolve.specs.declared.memory.Stop.{Stop}
 use Rattle.name_resolve.specs.declared.memory.Stop.TheVariants as stop
+use Rattle.name_resolve.specs.declared.memory.Wanted.{Wanted}
 use Rattle.name_resolve.specs.Finds as find
-use Rattle.name_resolve.specs.Finds.{Find, Nothing, One, Several, same_find, declared_types}
+use Rattle.name_resolve.specs.Finds.{Find, Nothing, One, Several, both, same_find, declared_types}
 use Rattle.name_resolve.specs.Supertypes.{supertypes}
 use Rattle.name_resolve.specs.Meaning.{Tops, Members, tops_of, inherited, members_within}
 use Rattle.name_resolve.specs.Placed.{IsPlaced}
@@ -89,10 +92,26 @@ IfTold (Some f) memory levels found = (members : Members) → Agrees memory leve
 abbrev pub TellsSome : {E : Type 0} → Result (Option Finds) E → MemberTypes → ℕ → (Members → find.Finds) → Type 0
 TellsSome result memory levels found = IfOk result (λ o. IfTold o memory levels found)
 
--- what a look-up wants to have asked: the type is of the table, and declares none of this name
+-- the type is of the table, and declares none of this name
+pub record IsQuestion (table : TypeTable) (wanted : Wanted) : Type 0 where
+  pub placed : IsPlaced table (find_of wanted.of)
+  pub none : declared_types (find_of wanted.of) (string_bytes wanted.name) ≡ Nothing
+
+abbrev pub AreQuestions : TypeTable → List Wanted → Type 0
+AreQuestions table all = AllByRecursion (IsQuestion table) all
+
+-- what a look-up wants to have asked
 abbrev pub IsWanted : TypeTable → Stop → Type 0
 IsWanted table stop.Memory = Unit {0}
-IsWanted table (stop.Wanted of name) = IsPlaced table (find_of of) × (declared_types (find_of of) (string_bytes name) ≡ Nothing)
+IsWanted table (stop.Wanted wanted) = AreQuestions table wanted.items
+
+-- look-ups at several places that count as one: what they find together, or else all that they want to have asked
+abbrev pub Gathers : Result Finds (Vec Wanted Global) → Result Finds Stop → Result Finds (Vec Wanted Global) → Type 0
+Gathers (Ok a) (Ok b) (Ok f) = finds_of f ≡ both (finds_of a) (finds_of b)
+Gathers (Ok a) (Err (stop.Wanted more)) (Err all) = all.items ≡ more.items
+Gathers (Err wanted) (Ok b) (Err all) = all.items ≡ wanted.items
+Gathers (Err wanted) (Err (stop.Wanted more)) (Err all) = all.items ≡ wanted.items ++ more.items
+Gathers _ _ _ = ⊥
 
 -- ---- what is remembered is right
 
@@ -135,3 +154,7 @@ pub record Stays (old new : MemberTypes) : Type 0 where
 -- all from this place on are questions that are not settled
 abbrev pub AreUnsettled : MemberTypes → ℕ → Type 0
 AreUnsettled memory place = memory.settled ≤ place
+
+-- the first questions stay, as many as this
+abbrev pub KeepsFront : MemberTypes → MemberTypes → ℕ → Type 0
+KeepsFront old new count = take count new.questions.items ≡ take count old.questions.items

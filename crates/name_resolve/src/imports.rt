@@ -8,9 +8,10 @@ ghost use Rattle.name_resolve.specs.Parts.{lent, tops_beside, by_single_import, 
 ghost use Rattle.name_resolve.specs.Remembered.{IsWanted, AreRight, Tells, tops_in};
 ghost use Rattle.name_resolve.specs.Shown.{finds_of, Gives};
 
-use crate::finds::{Finds, Found, both, is_sibling};
+use crate::finds::{Finds, Found, is_sibling};
+use crate::gathering::gathered;
 use crate::member_types::MemberTypes;
-use crate::memory::Stop;
+use crate::memory::{Stop, Wanted};
 use crate::names::{ends_in, split, split_with};
 use apt_base::NoMemory;
 use decl_tree::{Import, ImportKind};
@@ -135,12 +136,15 @@ impl<'a> MemberTypes<'a> {
         ensures value { Tells result self.now levels (λ members. single_finds (tops_in self.now) members part name.now imports.now) }
         ensures wanted { IfErr result (IsWanted self.now.table.now) }
     {
-        let mut finds = Finds::Nothing;
+        let mut all: Result<Finds<'a>, Vec<Wanted<'a>>> = Ok(Finds::Nothing);
         for import in imports {
-            let more = self.single_import(levels, part, name, import)?;
-            finds = both(finds, more);
+            let more = self.single_import(levels, part, name, import);
+            all = gathered(all, more)?;
         }
-        Ok(finds)
+        match all {
+            Ok(finds) => Ok(finds),
+            Err(wanted) => Err(Stop::Wanted(wanted)),
+        }
     }
 
     /// What all single imports of a unit give for a name.
@@ -172,12 +176,15 @@ impl<'a> MemberTypes<'a> {
         ensures value { Tells result self.now levels (λ members. demand_finds (tops_in self.now) members part name.now (finds_of before.entry) imports.now) }
         ensures wanted { IfErr result (IsWanted self.now.table.now) }
     {
-        let mut finds = before;
+        let mut all: Result<Finds<'a>, Vec<Wanted<'a>>> = Ok(before);
         for import in imports {
-            let more = self.on_demand_import(levels, part, name, import)?;
-            finds = both(finds, more);
+            let more = self.on_demand_import(levels, part, name, import);
+            all = gathered(all, more)?;
         }
-        Ok(finds)
+        match all {
+            Ok(finds) => Ok(finds),
+            Err(wanted) => Err(Stop::Wanted(wanted)),
+        }
     }
 
     /// What `java.lang` and all imports on demand of a unit give for a name, as one place (JLS 6.4.1, 7.5.2).

@@ -23,6 +23,7 @@ mod budget;
 mod calls;
 mod children;
 mod finds;
+mod gathering;
 mod headers;
 mod import_targets;
 mod imports;

@@ -17,17 +17,17 @@ use std::marker::Model;
 /// one question, which is asked once. Contracts see the table alone.
 ///
 /// A look-up asks its places in their order, and none behind the first that finds anything. Where it needs
-/// inherited member types that were never asked for it stops and says which; these are then searched for, by
-/// levels of supertypes, and the look-up is made anew. A search gives each question its answers with no
-/// level, with one, and so on, until none of them changes: so circles of look-ups end there, and only what
-/// goes on changing is followed through all 64 levels.
+/// inherited member types that were never asked for it stops and says which, those of all places that count
+/// as one together; these are then searched for, by levels of supertypes, and the look-up is made anew. A
+/// search gives each question its answers with no level, with one, and so on, until none of them changes: so
+/// circles of look-ups end there, and only what goes on changing is followed through all 64 levels.
 ///
 /// Out of memory comes also beyond 65,536 questions, and where one look-up would take more than 67,108,864
 /// steps: comparisons with the name of a child of an element, and look-ups in maps, each counted as 32 of
 /// these.
 ///
-/// A search that runs out of memory leaves questions without their answers. A later look-up of the same value
-/// that needs one of these is out of memory too.
+/// A search that runs out of memory is forgotten: a later look-up of the same value asks anew what it had
+/// asked.
 #[derive(Drop)]
 pub struct Looks<'a> {
     members: MemberTypes<'a>,

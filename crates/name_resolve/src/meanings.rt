@@ -33,7 +33,7 @@ impl<'a> MemberTypes<'a> {
             match self.found(LEVELS, header, at, names) {
                 Ok(finds) => return Ok(finds),
                 Err(Stop::Memory) => return Err(NoMemory),
-                Err(Stop::Wanted(of, name)) => self.learn(of, name)?,
+                Err(Stop::Wanted(wanted)) => self.learn(wanted)?,
             }
         }
         Err(NoMemory)
@@ -57,7 +57,7 @@ impl<'a> MemberTypes<'a> {
             match self.qualifier(LEVELS, header, at, names) {
                 Ok(finds) => return Ok(finds),
                 Err(Stop::Memory) => return Err(NoMemory),
-                Err(Stop::Wanted(of, name)) => self.learn(of, name)?,
+                Err(Stop::Wanted(wanted)) => self.learn(wanted)?,
             }
         }
         Err(NoMemory)

@@ -12,7 +12,7 @@ use crate::budget::{Budget, STEPS_OF_LOOK_UP};
 use crate::children::{children_count, declared_parameters, declared_types};
 use crate::finds::{Finds, Found, is_nothing, simple_name};
 use crate::headers::has_supertypes;
-use crate::memory::{Question, Stop, copied, copied_finds};
+use crate::memory::{Question, Stop, Wanted, alone, copied, copied_finds};
 use crate::names::owned;
 use crate::tops::top_named;
 use apt_base::NoMemory;
@@ -140,7 +140,8 @@ impl<'a> MemberTypes<'a> {
             None => {
                 let of = copied(self.alloc, of)?;
                 let name = owned(self.alloc, name)?;
-                Err(Stop::Wanted(of, name))
+                let wanted = alone(self.alloc, Wanted { of, name })?;
+                Err(Stop::Wanted(wanted))
             }
         }
     }

@@ -1,5 +1,5 @@
 // What look-ups remember, and why one stops.
-ghost use Rattle.std.specs.Prelude.{◌≡◌, true, IfOk};
+ghost use Rattle.std.specs.Prelude.{◌≡◌, true, [], ◌∷◌, IfOk};
 ghost use Rattle.std.specs.Option.{option_copied};
 ghost use Rattle.name_resolve.specs.declared.memory.Stop.TheVariants.{Memory};
 ghost use Rattle.name_resolve.specs.Remembered.{same_part, same_finds, asks, answer_of, IsSteady};
@@ -22,13 +22,22 @@ pub(crate) struct Question<'a> {
     pub answers: Vec<Finds<'a>>,
 }
 
+/// A question that was never asked: which member types of this name a type inherits that declares none.
+#[derive(Drop)]
+pub(crate) struct Wanted<'a> {
+    /// The type.
+    pub of: Found<'a>,
+    /// The name.
+    pub name: String,
+}
+
 /// Why a look-up gave nothing.
 #[derive(Drop)]
 pub(crate) enum Stop<'a> {
     /// There was no memory.
     Memory,
-    /// The member types of this name of this type were never asked for. It declares none.
-    Wanted(Found<'a>, String),
+    /// These questions were never asked.
+    Wanted(Vec<Wanted<'a>>),
 }
 
 impl<'a> From<NoMemory> for Stop<'a> {
@@ -37,6 +46,14 @@ impl<'a> From<NoMemory> for Stop<'a> {
     fn from(_: NoMemory) -> Stop<'a> {
         Stop::Memory
     }
+}
+
+/// One question alone.
+pub(crate) fn alone<'a>(alloc: Global, wanted: Wanted<'a>) -> Result<Vec<Wanted<'a>>, NoMemory>
+    ensures { IfOk result (λ all. all.items ≡ wanted.entry ∷ []) }
+{
+    let all = vec![in alloc; wanted]?;
+    Ok(all)
 }
 
 /// An equal find.

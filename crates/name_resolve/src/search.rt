@@ -1,14 +1,11 @@
 // The search by levels of supertypes: each question that is asked gets its answers with no level, with one,
 // and so on, until all of them are steady.
-ghost use Rattle.std.specs.Prelude.{◌≡◌, ◌+◌, ◌<◌, true, false, length, string_bytes, IfErr};
-ghost use Rattle.name_resolve.specs.Finds.{Nothing, declared_types};
-ghost use Rattle.name_resolve.specs.Placed.{IsPlaced};
-ghost use Rattle.name_resolve.specs.Remembered.{IsWanted, AreRight, AreSteady, IsNext, IsNextAnswer, AreUnsettled, Stays};
-ghost use Rattle.name_resolve.specs.Shown.{find_of};
+ghost use Rattle.std.specs.Prelude.{◌≡◌, ◌+◌, ◌<◌, true, false, length, take, filter, nat_lt, vec_len, IfErr, OnErr};
+ghost use Rattle.name_resolve.specs.Remembered.{IsQuestion, AreQuestions, IsWanted, AreRight, AreSteady, IsNext, IsNextAnswer, AreUnsettled, Stays, KeepsFront};
 
-use crate::finds::{Finds, Found};
+use crate::finds::Finds;
 use crate::member_types::{MemberTypes, key_of};
-use crate::memory::{Question, Stop};
+use crate::memory::{Question, Stop, Wanted};
 use apt_base::{MAX_TYPE_STEPS, NoMemory};
 
 /// The levels of supertypes through which a look-up goes.
@@ -18,23 +15,41 @@ pub(crate) const LEVELS: usize = MAX_TYPE_STEPS as usize;
 const MOST_QUESTIONS: usize = 65_536;
 
 impl<'a> MemberTypes<'a> {
-    // Asks a question. Its type declares none of the name, so that nothing is found without any level. Out of
-    // memory beyond 65,536 questions.
-    fn ask(&mut self, of: Found<'a>, name: String) -> Result<(), NoMemory>
-        requires placed { IsPlaced self.old.table.now (find_of of) }
-        requires none { declared_types (find_of of) (string_bytes name) ≡ Nothing }
+    // Asks a question, unless it was asked before. Its type declares none of the name, so that nothing is
+    // found without any level. Out of memory beyond 65,536 questions.
+    fn ask(&mut self, wanted: Wanted<'a>) -> Result<(), NoMemory>
+        requires wanted { IsQuestion self.old.table.now wanted }
         requires right { AreRight self.old }
         ensures right { AreRight self.new }
         ensures stays { Stays self.old self.new }
+        ensures front { KeepsFront self.old self.new (vec_len self.old.questions) }
     {
+        let Wanted { of, name } = wanted;
         let place = self.questions.len();
         if place >= MOST_QUESTIONS {
             return Err(NoMemory);
         }
         let key = key_of(self.alloc, &of, name.as_str())?;
+        if self.places.contains_key(key.as_str()) {
+            return Ok(());
+        }
         let answers = vec![in self.alloc; Finds::Nothing]?;
         self.questions.push(Question { of, name, answers })?;
         self.places.insert(key, place)?;
+        Ok(())
+    }
+
+    // Asks those of these questions that were not asked before.
+    fn ask_all(&mut self, all: Vec<Wanted<'a>>) -> Result<(), NoMemory>
+        requires wanted { AreQuestions self.old.table.now all.items }
+        requires right { AreRight self.old }
+        ensures right { AreRight self.new }
+        ensures stays { Stays self.old self.new }
+        ensures front { KeepsFront self.old self.new (vec_len self.old.questions) }
+    {
+        for wanted in all {
+            self.ask(wanted)?;
+        }
         Ok(())
     }
 
@@ -61,19 +76,21 @@ impl<'a> MemberTypes<'a> {
         requires next { IsNextAnswer self.old place finds }
         ensures right { AreRight self.new }
         ensures stays { Stays self.old self.new }
+        ensures front { KeepsFront self.old self.new place }
     {
         self.questions[place].answers.push(finds)?;
         Ok(())
     }
 
     // Gives the questions from a place on their answers with up to this many levels. What these ask for is
-    // asked, and gets its own answers before.
+    // asked, and gets its own answers before. Those in front of the place stay as they are.
     #[cycle(answering)]
     fn answer_from(&mut self, first: usize, levels: usize) -> Result<(), NoMemory>
         requires unsettled { AreUnsettled self.old first }
         requires right { AreRight self.old }
         ensures right { AreRight self.new }
         ensures stays { Stays self.old self.new }
+        ensures front { KeepsFront self.old self.new first }
     {
         let mut place = first;
         for _ in 0..usize::MAX {
@@ -84,26 +101,40 @@ impl<'a> MemberTypes<'a> {
                 place += 1;
                 continue;
             }
-            match self.next_answer(place) {
-                Ok(finds) => self.add_answer(place, finds)?,
-                Err(Stop::Memory) => return Err(NoMemory),
-                Err(Stop::Wanted(of, name)) => self.ask_below(of, name, levels)?,
-            }
+            self.answer_next(place, levels)?;
         }
         Err(NoMemory)
     }
 
-    // Asks a question, and gives it its answers with fewer levels than this.
+    // Gives a question its next answer, which is one with up to this many levels; or asks what that one needs
+    // and gives this its answers with fewer levels.
     #[cycle(answering)]
-    fn ask_below(&mut self, of: Found<'a>, name: String, levels: usize) -> Result<(), NoMemory>
-        requires placed { IsPlaced self.old.table.now (find_of of) }
-        requires none { declared_types (find_of of) (string_bytes name) ≡ Nothing }
+    fn answer_next(&mut self, place: usize, levels: usize) -> Result<(), NoMemory>
+        requires known { place < length self.old.questions.items }
+        requires unsettled { AreUnsettled self.old place }
         requires right { AreRight self.old }
         ensures right { AreRight self.new }
         ensures stays { Stays self.old self.new }
+        ensures front { KeepsFront self.old self.new place }
+    {
+        match self.next_answer(place) {
+            Ok(finds) => self.add_answer(place, finds),
+            Err(Stop::Memory) => Err(NoMemory),
+            Err(Stop::Wanted(wanted)) => self.ask_below(wanted, levels),
+        }
+    }
+
+    // Asks questions, and gives them their answers with fewer levels than this.
+    #[cycle(answering)]
+    fn ask_below(&mut self, wanted: Vec<Wanted<'a>>, levels: usize) -> Result<(), NoMemory>
+        requires wanted { AreQuestions self.old.table.now wanted.items }
+        requires right { AreRight self.old }
+        ensures right { AreRight self.new }
+        ensures stays { Stays self.old self.new }
+        ensures front { KeepsFront self.old self.new (vec_len self.old.questions) }
     {
         let place = self.questions.len();
-        self.ask(of, name)?;
+        self.ask_all(wanted)?;
         for fewer in 1..levels {
             self.answer_from(place, fewer)?;
         }
@@ -131,6 +162,7 @@ impl<'a> MemberTypes<'a> {
         requires right { AreRight self.old }
         ensures right { AreRight self.new }
         ensures table { self.new.table.now ≡ self.old.table.now }
+        ensures questions { self.new.questions.items ≡ self.old.questions.items }
         ensures unsettled { result ≡ false → self.new.settled ≡ self.old.settled }
     {
         if !self.are_steady(fewer, levels) {
@@ -140,18 +172,18 @@ impl<'a> MemberTypes<'a> {
         true
     }
 
-    /// Asks a question that was not asked before, and gives it and all that it asks for in turn their
-    /// answers: with no level, with one and so on, until none of them changes any more or all 64 levels are
-    /// gone through. Out of memory beyond 65,536 questions, or where the look-up has no steps left.
-    pub(crate) fn learn(&mut self, of: Found<'a>, name: String) -> Result<(), NoMemory>
-        requires placed { IsPlaced self.old.table.now (find_of of) }
-        requires none { declared_types (find_of of) (string_bytes name) ≡ Nothing }
+    // Asks questions and gives them their answers, as `learn` does. Where it runs out of memory those that
+    // were asked before are as they were, and none of the new ones is settled.
+    fn search(&mut self, wanted: Vec<Wanted<'a>>) -> Result<(), NoMemory>
+        requires wanted { AreQuestions self.old.table.now wanted.items }
         requires right { AreRight self.old }
         ensures right { AreRight self.new }
         ensures table { self.new.table.now ≡ self.old.table.now }
+        ensures front { KeepsFront self.old self.new (vec_len self.old.questions) }
+        ensures unsettled { OnErr result (self.new.settled ≡ self.old.settled) }
     {
         let first = self.questions.len();
-        self.ask(of, name)?;
+        self.ask_all(wanted)?;
         for fewer in 0..LEVELS {
             self.answer_from(first, fewer + 1)?;
             if self.settle(fewer, fewer + 1) {
@@ -159,5 +191,36 @@ impl<'a> MemberTypes<'a> {
             }
         }
         Ok(())
+    }
+
+    // Forgets the questions from a place on, and where they stand.
+    fn forget_from(&mut self, place: usize)
+        ensures questions { self.new.questions.items ≡ take place self.old.questions.items }
+        ensures places { self.new.places.entries ≡ filter (λ e. nat_lt e.1 place) self.old.places.entries }
+        ensures stays { Stays self.old self.new }
+    {
+        self.questions.truncate(place);
+        self.places.retain(|_, at| *at < place);
+    }
+
+    /// Asks questions that were not asked before, and gives them and all that they ask for in turn their
+    /// answers: with no level, with one and so on, until none of them changes any more or all 64 levels are
+    /// gone through. Out of memory beyond 65,536 questions, or where the look-up has no steps left: then all
+    /// that was asked is forgotten again, so that no question is left with too few answers.
+    pub(crate) fn learn(&mut self, wanted: Vec<Wanted<'a>>) -> Result<(), NoMemory>
+        requires wanted { AreQuestions self.old.table.now wanted.items }
+        requires right { AreRight self.old }
+        ensures right { AreRight self.new }
+        ensures table { self.new.table.now ≡ self.old.table.now }
+        ensures forgotten { OnErr result (self.new.questions.items ≡ self.old.questions.items) }
+    {
+        let first = self.questions.len();
+        match self.search(wanted) {
+            Ok(()) => Ok(()),
+            Err(fault) => {
+                self.forget_from(first);
+                Err(fault)
+            }
+        }
     }
 }

@@ -1,15 +1,16 @@
 // Whole names, and the member types that a type inherits.
 ghost use Rattle.std.specs.Prelude.{IfErr};
-ghost use Rattle.name_resolve.specs.Meaning.{scope_of, qualifier, found, supertype_found, inherited};
+ghost use Rattle.name_resolve.specs.Meaning.{scope_of, members_of, qualifier, found, supertype_found, inherited};
 ghost use Rattle.name_resolve.specs.Parts.{lent};
 ghost use Rattle.name_resolve.specs.Placed.{IsPlaced};
 ghost use Rattle.name_resolve.specs.Remembered.{IsWanted, AreRight, Tells, tops_in};
 ghost use Rattle.name_resolve.specs.Shown.{find_of, super_of};
 
-use crate::finds::{Finds, Found, both, is_nothing};
+use crate::finds::{Finds, Found, is_nothing};
+use crate::gathering::gathered;
 use crate::headers::{Supertype, supertypes};
 use crate::member_types::MemberTypes;
-use crate::memory::Stop;
+use crate::memory::{Stop, Wanted};
 use crate::names::names_in;
 
 impl<'a> MemberTypes<'a> {
@@ -97,6 +98,24 @@ impl<'a> MemberTypes<'a> {
         }
     }
 
+    // The member types of this name that one supertype of a type has.
+    fn through(
+        &self,
+        levels: usize,
+        of: &Found<'a>,
+        each: Supertype<'a>,
+        name: &str,
+    ) -> Result<Finds<'a>, Stop<'a>>
+        requires placed { IsPlaced self.now.table.now (find_of of.now) }
+        requires right { AreRight self.now }
+        ensures value { Tells result self.now levels (λ members. members_of members (supertype_found (tops_in self.now) members (find_of of.now) (super_of each.entry)) name.now) }
+        ensures wanted { IfErr result (IsWanted self.now.table.now) }
+    {
+        let above = self.supertype(levels, of, each)?;
+        let finds = self.member_of(levels, above, name)?;
+        Ok(finds)
+    }
+
     /// The member types of this name that all supertypes of a type have.
     pub(crate) fn inherited(
         &self,
@@ -110,12 +129,14 @@ impl<'a> MemberTypes<'a> {
         ensures wanted { IfErr result (IsWanted self.now.table.now) }
     {
         let list = supertypes(self.alloc, of)?;
-        let mut finds = Finds::Nothing;
+        let mut all: Result<Finds<'a>, Vec<Wanted<'a>>> = Ok(Finds::Nothing);
         for each in &list {
-            let above = self.supertype(levels, of, *each)?;
-            let more = self.member_of(levels, above, name)?;
-            finds = both(finds, more);
+            let more = self.through(levels, of, *each, name);
+            all = gathered(all, more)?;
         }
-        Ok(finds)
+        match all {
+            Ok(finds) => Ok(finds),
+            Err(wanted) => Err(Stop::Wanted(wanted)),
+        }
     }
 }

@@ -1,29 +1,46 @@
-use Rattle.std.proofs.Common.{sym, ap, subst, ◌∙◌, map, arith}
-use Rattle.name_resolve.specs.Finds.{both}
-use Rattle.name_resolve.specs.Meaning.{members_of}
-use Rattle.name_resolve.specs.Parts.{left}
-use Rattle.name_resolve.specs.Placed.{ArePlaced}
-use Rattle.name_resolve.specs.Shown.{find_of, finds_of, super_of}
-use Rattle.name_resolve.proofs.LookSteps.{supers_all, each_step, each_done}
-use Rattle.name_resolve.proofs.PlacedLemmas.{supertype-placed}
-use Rattle.name_resolve.proofs.RememberedLemmas.{left-agrees}
+use Rattle.std.proofs.Common.{sym, ap, ◌∙◌, map, arith}
+use Rattle.name_resolve.specs.Finds.{Nothing}
+use Rattle.name_resolve.specs.Meaning.{members_of, supertype_found, inherited}
+use Rattle.name_resolve.specs.Remembered.{tops_in}
+use Rattle.name_resolve.specs.Shown.{find_of, super_of}
+use Rattle.name_resolve.proofs.GatheredFinds.{more-found, all-found, more-wanted, all-wanted}
+use Rattle.name_resolve.proofs.LookSteps.{supers_all, each_shown}
 use Rattle.name_resolve.proofs.member_types.MemberTypes.inherited.Goals as goal
 
 pub loop-each-init : goal.loop-each-init
-loop-each-init c = λ members agrees. supers_all _ members _ _ _ (ap (map super_of) c.deref-each-items.ensures.value ∙ c.in_ok-list.ensures)
-
--- what a supertype means is of the table
-pub member_of-requires : goal.member_of-requires
-member_of-requires c =
-    let table = c.args.self.now.table.now in
-    let above = c.in_ok-above.ensures.value (left table c.args.levels) (left-agrees c.args.self.now c.requires.right c.args.levels) in
-    record { placed = subst (ArePlaced table) (sym above) (supertype-placed table c.args.levels (find_of c.args.of.now) c.requires.placed (super_of c.each-item.result)); right = c.requires.right }
+loop-each-init c =
+    let tops = tops_in c.args.self.now in
+    let of = find_of c.args.of.now in
+    let name = c.args.name.now in
+    let items = c.deref-each-items.result.now in
+    record {
+      found = λ members agrees.
+          each_shown (λ s. members_of members (supertype_found tops members of s) name) super_of Nothing items
+          ∙ supers_all tops members of name (map super_of items) (ap (map super_of) c.deref-each-items.ensures.value ∙ c.in_ok-list.ensures);
+      wanted = tt;
+    }
 
 pub loop-each-preserved : goal.loop-each-preserved
-loop-each-preserved c = λ members agrees.
-    each_step _ super_of c.deref-each-items.result.now c.loop-each.each-index c.each-item.result (finds_of c.loop-each.finds) (finds_of c.both-finds.result) c.loop-each-test.true (sym c.each-item.is)
-    (c.both-finds.ensures ∙ ap (both (finds_of c.loop-each.finds)) (c.in_ok-more.ensures.value members agrees ∙ ap (λ x. members_of members x c.args.name.now) (c.in_ok-above.ensures.value members agrees)))
-    ∙ c.loop-each.invariant members agrees
+loop-each-preserved c =
+    let memory = c.args.self.now in
+    let of = find_of c.args.of.now in
+    let name = c.args.name.now in
+    let items = c.deref-each-items.result.now in
+    let more = c.through-more.result in
+    record {
+      found = more-found memory c.args.levels (λ members s. members_of members (supertype_found (tops_in memory) members of (super_of s)) name) (λ members. inherited (tops_in memory) members of name)
+          items c.loop-each.each-index c.each-item.result c.loop-each-test.true (sym c.each-item.is) c.loop-each.all more c.in_ok-all.all c.in_ok-all.ensures c.loop-each.invariant.found
+          c.through-more.ensures.value;
+      wanted = more-wanted memory.table.now c.loop-each.all more c.in_ok-all.all c.in_ok-all.ensures c.loop-each.invariant.wanted c.through-more.ensures.wanted;
+    }
 
-pub returns-clause-value : goal.returns-clause-value
-returns-clause-value c = λ members agrees. sym (each_done _ super_of c.deref-each-items.result.now c.loop-each.each-index _ (omega arith)) ∙ c.loop-each.invariant members agrees
+pub returns-in-Ok-clause-value : goal.returns-in-Ok-clause-value
+returns-in-Ok-clause-value c =
+    let memory = c.args.self.now in
+    let of = find_of c.args.of.now in
+    let name = c.args.name.now in
+    all-found memory c.args.levels (λ members s. members_of members (supertype_found (tops_in memory) members of (super_of s)) name) (λ members. inherited (tops_in memory) members of name)
+    c.deref-each-items.result.now c.loop-each.each-index (omega arith) c.loop-each.all c.in-Ok.finds c.in-Ok.is c.loop-each.invariant.found
+
+pub returns-clause-wanted : goal.returns-clause-wanted
+returns-clause-wanted c = all-wanted c.args.self.now.table.now c.loop-each.all c.in-Err.wanted c.in-Err.is c.loop-each.invariant.wanted

@@ -1,15 +1,33 @@
-use Rattle.std.proofs.Common.{ap, sym, ◌∙◌, arith}
-use Rattle.name_resolve.specs.Finds.{both}
+use Rattle.std.proofs.Common.{sym, arith}
+use Rattle.name_resolve.specs.Meaning.{on_demand_import}
+use Rattle.name_resolve.specs.Parts.{demand_finds}
+use Rattle.name_resolve.specs.Remembered.{tops_in}
 use Rattle.name_resolve.specs.Shown.{finds_of}
-use Rattle.name_resolve.proofs.LookSteps.{each_more, each_over, each_behind}
+use Rattle.name_resolve.proofs.GatheredFinds.{more-found, all-found, more-wanted, all-wanted}
+use Rattle.name_resolve.proofs.LookSteps.{each_behind}
 use Rattle.name_resolve.proofs.member_types.MemberTypes.on_demand_among.Goals as goal
 
-pub loop-import-preserved : goal.loop-import-preserved
-loop-import-preserved c = λ members agrees.
-    each_more _ c.args.imports.now c.loop-import.import-index c.import-item.result (finds_of c.loop-import.finds) (finds_of c.both-finds.result) c.loop-import-test.true (sym c.import-item.is)
-    (c.both-finds.ensures ∙ ap (both (finds_of c.loop-import.finds)) (c.in_ok-more.ensures.value members agrees))
-    ∙ c.loop-import.invariant members agrees
+pub loop-import-init : goal.loop-import-init
+loop-import-init c = record { found = λ members agrees. each_behind _ (finds_of c.args.before) c.args.imports.now; wanted = tt }
 
-pub returns-clause-value : goal.returns-clause-value
-returns-clause-value c = λ members agrees.
-    sym (each_over _ c.args.imports.now c.loop-import.import-index _ (omega arith)) ∙ c.loop-import.invariant members agrees ∙ each_behind _ _ c.args.imports.now
+pub loop-import-preserved : goal.loop-import-preserved
+loop-import-preserved c =
+    let memory = c.args.self.now in
+    let imports = c.args.imports.now in
+    let more = c.on_demand_import-more.result in
+    record {
+      found = more-found memory c.args.levels (λ members. on_demand_import (tops_in memory) members c.args.part c.args.name.now) (λ members. demand_finds (tops_in memory) members c.args.part c.args.name.now (finds_of c.args.before) imports)
+          imports c.loop-import.import-index c.import-item.result c.loop-import-test.true (sym c.import-item.is) c.loop-import.all more c.in_ok-all.all c.in_ok-all.ensures c.loop-import.invariant.found
+          c.on_demand_import-more.ensures.value;
+      wanted = more-wanted memory.table.now c.loop-import.all more c.in_ok-all.all c.in_ok-all.ensures c.loop-import.invariant.wanted c.on_demand_import-more.ensures.wanted;
+    }
+
+pub returns-in-Ok-clause-value : goal.returns-in-Ok-clause-value
+returns-in-Ok-clause-value c =
+    let memory = c.args.self.now in
+    let imports = c.args.imports.now in
+    all-found memory c.args.levels (λ members. on_demand_import (tops_in memory) members c.args.part c.args.name.now) (λ members. demand_finds (tops_in memory) members c.args.part c.args.name.now (finds_of c.args.before) imports) imports
+    c.loop-import.import-index (omega arith) c.loop-import.all c.in-Ok.finds c.in-Ok.is c.loop-import.invariant.found
+
+pub returns-in-Err-clause-wanted : goal.returns-in-Err-clause-wanted
+returns-in-Err-clause-wanted c = all-wanted c.args.self.now.table.now c.loop-import.all c.in-Err.wanted c.in-Err.is c.loop-import.invariant.wanted
