@@ -6,6 +6,7 @@ use Rattle.std.proofs.lemmas.Bool.Decides.{eqb_tells}
 use Rattle.name_resolve.specs.declared.finds.Finds.{Finds}
 use Rattle.name_resolve.specs.declared.finds.Finds.TheVariants as finds
 use Rattle.name_resolve.specs.declared.member_types.MemberTypes.{MemberTypes}
+use Rattle.name_resolve.specs.declared.member_types.Settled.{Settled}
 use Rattle.name_resolve.specs.declared.memory.Question.{Question}
 use Rattle.element_table.specs.TypeTable.{IsTable}
 use Rattle.name_resolve.specs.Finds as find
@@ -52,8 +53,12 @@ module _ (old new : MemberTypes) (kept : AreKept old new) where
     first = λ answer e. r.first answer (sym (ap (λ xs. slice_get xs 0) answers) ∙ e);
     next = λ levels answer e. follows-on table levels held now (finds_of answer) of name (r.next levels answer (sym (ap (λ xs. slice_get xs (suc levels)) answers) ∙ e));
     lasting = λ is levels answer long e.
-        r.lasting (sym (ap (λ n. ltb place n) settled) ∙ is) levels answer (subst (λ xs. length xs ≤ levels) answers long) (sym (ap (λ xs. slice_get xs (length xs - 1)) answers) ∙ e)
+        r.lasting (sym (ap (λ (s : Settled). ltb place s.count) settled) ∙ is) levels answer (subst (λ xs. length xs ≤ levels) answers long) (sym (ap (λ xs. slice_get xs (length xs - 1)) answers) ∙ e)
         ∙ sym (λ i. members_within (tops_of (table i)) levels (of i) (name i));
+    even = λ is levels more.
+        (λ i. members_within (tops_of (table i)) levels (of i) (name i))
+        ∙ r.even (sym (ap (λ (s : Settled). ltb place s.count) settled) ∙ is) levels (subst (λ (s : Settled). s.levels ≤ levels) settled more)
+        ∙ sym (λ i. members_within (tops_of (table i)) (settled i).levels (of i) (name i));
   }
 
 -- what follows for the question at a place follows for whatever stands there
@@ -115,7 +120,7 @@ module _ (old new : MemberTypes) (q : Question) (right : AreRight old) (table : 
     stands = ap (λ xs. slice_get xs place) questions ∙ front_get old.questions.items q held place stands;
     of = refl;
     name = refl;
-    answers = λ levels answer e. ap (λ n. answer_of held (ltb place n) levels) settled ∙ e;
+    answers = λ levels answer e. ap (λ (s : Settled). answer_of held (ltb place s.count) levels) settled ∙ e;
   }
 
   module _ (placed : IsPlaced old.table.now (find_of q.of)) (none : declared_types (find_of q.of) (string_bytes q.name) ≡ Nothing) (answers : q.answers.items ≡ finds.Nothing ∷ []) where
@@ -126,7 +131,7 @@ module _ (old new : MemberTypes) (q : Question) (right : AreRight old) (table : 
     no_next levels answer e = let none = sym (ap (λ xs. slice_get xs (suc levels)) answers) ∙ e in absurd (cc)
 
     is-open : (place : ℕ) → place ≡ length old.questions.items → is_settled new place ≡ true → ⊥
-    is-open place at is = not_true (is_settled new place) is (ap (λ n. ltb place n) settled ∙ le-ltb place old.settled (subst (λ n. old.settled ≤ n) (sym at) right.count))
+    is-open place at is = not_true (is_settled new place) is (ap (λ (s : Settled). ltb place s.count) settled ∙ le-ltb place old.settled.count (subst (λ n. old.settled.count ≤ n) (sym at) right.count))
 
     last : (place : ℕ) → place ≡ length old.questions.items → IsRight new place q
     last place at = record {
@@ -136,6 +141,7 @@ module _ (old new : MemberTypes) (q : Question) (right : AreRight old) (table : 
       first = only_first;
       next = λ levels answer e. absurd (no_next levels answer e);
       lasting = λ is levels answer long e. absurd (is-open place at is);
+      even = λ is levels more. absurd (is-open place at is);
     }
 
     before : (place : ℕ) (held : Question) → Stands old place held → IsRight new place held
@@ -144,11 +150,11 @@ module _ (old new : MemberTypes) (q : Question) (right : AreRight old) (table : 
     pub asked-right : AreRight new
     asked-right = record {
       is_table = subst (λ t. IsTable t) (sym table) right.is_table;
-      count = subst (λ n. n ≤ length new.questions.items) (sym settled) (longer (sym (ap length questions)) right.count);
+      count = subst (λ (s : Settled). s.count ≤ length new.questions.items) (sym settled) (longer (sym (ap length questions)) right.count);
       each = λ place held stands. by_place place held (front_or_last old.questions.items q held place (sym (ap (λ xs. slice_get xs place) questions) ∙ stands));
     }
       where
-        longer : length (old.questions.items ++ q ∷ []) ≡ length new.questions.items → old.settled ≤ length old.questions.items → old.settled ≤ length new.questions.items
+        longer : length (old.questions.items ++ q ∷ []) ≡ length new.questions.items → old.settled.count ≤ length old.questions.items → old.settled.count ≤ length new.questions.items
         longer e h = let one = length-append old.questions.items (q ∷ []) in omega (arith, e, h, one)
 
         by_place : (place : ℕ) (held : Question) → (slice_get old.questions.items place ≡ Some held) ⊎ ((place ≡ length old.questions.items) × (q ≡ held)) → IsRight new place held
@@ -164,13 +170,13 @@ module _ (old new : MemberTypes) (right : AreRight old) (table : new.table.now �
     stands = ap (λ xs. slice_get xs place) questions ∙ stands;
     of = refl;
     name = refl;
-    answers = λ levels answer e. ap (λ n. answer_of held (ltb place n) levels) settled ∙ e;
+    answers = λ levels answer e. ap (λ (s : Settled). answer_of held (ltb place s.count) levels) settled ∙ e;
   }
 
   pub same-right : AreRight new
   same-right = record {
     is_table = subst (λ t. IsTable t) (sym table) right.is_table;
-    count = subst (λ n. n ≤ length new.questions.items) (sym settled) (subst (λ xs. old.settled ≤ length xs) (sym questions) right.count);
+    count = subst (λ (s : Settled). s.count ≤ length new.questions.items) (sym settled) (subst (λ xs. old.settled.count ≤ length xs) (sym questions) right.count);
     each = λ place held stands. still-right old new same-kept table settled place held held refl refl refl (right.each place held (sym (ap (λ xs. slice_get xs place) questions) ∙ stands));
   }
 
@@ -193,7 +199,7 @@ module _ (old new : MemberTypes) (place : ℕ) (q more : Question) (table : new.
         stands = others-stand other apart ∙ is;
         of = refl;
         name = refl;
-        answers = λ levels answer e. ap (λ n. answer_of held (ltb other n) levels) settled ∙ e;
+        answers = λ levels answer e. ap (λ (s : Settled). answer_of held (ltb other s.count) levels) settled ∙ e;
       }
       by_place (inl here) =
           let same : q ≡ held = some_is q held (sym stands ∙ ap (slice_get old.questions.items) here ∙ is) in
@@ -202,7 +208,7 @@ module _ (old new : MemberTypes) (place : ℕ) (q more : Question) (table : new.
   replaced-right : AreRight old → IsKept old new place q → IsRight new place more → AreRight new
   replaced-right right kept here = record {
     is_table = subst (λ t. IsTable t) (sym table) right.is_table;
-    count = subst (λ n. n ≤ length new.questions.items) (sym settled) (subst (λ n. old.settled ≤ n) (sym (ap length questions ∙ length-set old.questions.items place more)) right.count);
+    count = subst (λ (s : Settled). s.count ≤ length new.questions.items) (sym settled) (subst (λ n. old.settled.count ≤ n) (sym (ap length questions ∙ length-set old.questions.items place more)) right.count);
     each = λ other held is. by_place other held is (same_place place other);
   }
     where
@@ -222,7 +228,7 @@ module _ (old new : MemberTypes) (place : ℕ) (q more : Question) (right : AreR
     of = of;
     name = name;
     answers = λ levels answer e.
-        (λ i. option_or (slice_get (answers i) levels) (if ltb place (settled i) then slice_get (answers i) (length (answers i) - 1) else None)) ∙ e;
+        (λ i. option_or (slice_get (answers i) levels) (if ltb place (settled i).count then slice_get (answers i) (length (answers i) - 1) else None)) ∙ e;
   }
 
   pub unanswered-right : AreRight new
@@ -232,9 +238,9 @@ module _ (old new : MemberTypes) (place : ℕ) (q more : Question) (right : AreR
 
 -- ---- a question is answered
 
-module _ (old new : MemberTypes) (place : ℕ) (q more : Question) (found : Finds) (right : AreRight old) (table : new.table.now ≡ old.table.now) (settled : new.settled ≡ old.settled) (stands : Stands old place q) (open_place : old.settled ≤ place) (questions : new.questions.items ≡ set old.questions.items place more) (of : find_of more.of ≡ find_of q.of) (name : string_bytes more.name ≡ string_bytes q.name) (answers : more.answers.items ≡ q.answers.items ++ found ∷ []) (next : IsNextAnswer old place found) where
+module _ (old new : MemberTypes) (place : ℕ) (q more : Question) (found : Finds) (right : AreRight old) (table : new.table.now ≡ old.table.now) (settled : new.settled ≡ old.settled) (stands : Stands old place q) (open_place : old.settled.count ≤ place) (questions : new.questions.items ≡ set old.questions.items place more) (of : find_of more.of ≡ find_of q.of) (name : string_bytes more.name ≡ string_bytes q.name) (answers : more.answers.items ≡ q.answers.items ++ found ∷ []) (next : IsNextAnswer old place found) where
   is-unsettled : (m : MemberTypes) → m.settled ≡ old.settled → is_settled m place ≡ false
-  is-unsettled m same = ap (λ n. ltb place n) same ∙ le-ltb place old.settled open_place
+  is-unsettled m same = ap (λ (s : Settled). ltb place s.count) same ∙ le-ltb place old.settled.count open_place
 
   or_none : {A : Type 0} (o : Option A) → option_or o None ≡ o
   or_none None = refl
@@ -282,6 +288,7 @@ module _ (old new : MemberTypes) (place : ℕ) (q more : Question) (found : Find
     first = first;
     next = following;
     lasting = λ is levels answer long e. absurd (not_true (is_settled new place) is (is-unsettled new settled));
+    even = λ is levels more. absurd (not_true (is_settled new place) is (is-unsettled new settled));
   }
 
   pub answered-right : AreRight new

@@ -74,7 +74,7 @@ none_there : {A : Type 0} (xs : List A) (i : ℕ) (x : A) → xs ≡ [] → slic
 none_there {A = A} xs i x none e = let past = sym (ap (λ (ys : List A). slice_get ys i) none) ∙ e in absurd (cc)
 
 -- nothing was asked yet
-pub none-right : (memory : MemberTypes) → IsTable memory.table.now → memory.questions.items ≡ [] → memory.settled ≡ 0 → AreRight memory
+pub none-right : (memory : MemberTypes) → IsTable memory.table.now → memory.questions.items ≡ [] → memory.settled.count ≡ 0 → AreRight memory
 none-right memory is none settled = record {
   is_table = is;
   count = omega (arith, settled);

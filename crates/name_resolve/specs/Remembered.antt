@@ -49,11 +49,9 @@ abbrev pub AreSame : Option Finds → Option Finds → Type 0
 AreSame (Some one) (Some other) = same_finds (finds_of one) (finds_of other) ≡ true
 AreSame _ _ = ⊥
 
--- the same is found with the first number of levels as with the second one, which is the next; and a settled question has no answer for more levels than the second, so that
--- its last answer is found with all further ones
-pub record IsSteady (q : Question) (settled : Bool) (fewer levels : ℕ) : Type 0 where
-  pub same : AreSame (answer_of q settled fewer) (answer_of q settled levels)
-  pub last : settled ≡ true → length q.answers.items - 1 ≤ levels
+-- a question that is not settled has the same answer with the first number of levels as with the second one
+abbrev pub IsSteady : Question → ℕ → ℕ → Type 0
+IsSteady q fewer levels = AreSame (answer_of q false fewer) (answer_of q false levels)
 
 -- ---- ways to find member types
 
@@ -67,7 +65,7 @@ abbrev pub Stands : MemberTypes → ℕ → Question → Type 0
 Stands memory place q = slice_get memory.questions.items place ≡ Some q
 
 abbrev pub is_settled : MemberTypes → ℕ → Bool
-is_settled memory place = nat_lt place memory.settled
+is_settled memory place = nat_lt place memory.settled.count
 
 -- it gives each question that has an answer with this many levels that answer
 pub record Agrees (memory : MemberTypes) (levels : ℕ) (members : Members) : Type 0 where
@@ -130,10 +128,13 @@ pub record IsRight (memory : MemberTypes) (place : ℕ) (q : Question) : Type 0 
   pub lasting : is_settled memory place ≡ true → (levels : ℕ) (answer : Finds) → length q.answers.items ≤ levels
       → slice_get q.answers.items (length q.answers.items - 1) ≡ Some answer
       → finds_of answer ≡ members_within (tops_in memory) levels (find_of q.of) (string_bytes q.name)
+  -- of a settled question the same is found with all levels from the settled ones on
+  pub even : is_settled memory place ≡ true → (levels : ℕ) → memory.settled.levels ≤ levels
+      → members_within (tops_in memory) levels (find_of q.of) (string_bytes q.name) ≡ members_within (tops_in memory) memory.settled.levels (find_of q.of) (string_bytes q.name)
 
 pub record AreRight (memory : MemberTypes) : Type 0 where
   pub is_table : IsTable memory.table.now
-  pub count : memory.settled ≤ length memory.questions.items
+  pub count : memory.settled.count ≤ length memory.questions.items
   pub each : (place : ℕ) (q : Question) → Stands memory place q → IsRight memory place q
 
 -- this is the answer of the question at a place with one level more than in its last answer
@@ -143,8 +144,10 @@ IsNextAnswer memory place finds = (q : Question) (levels : ℕ) → Stands memor
 abbrev pub IsNext : {E : Type 0} → MemberTypes → ℕ → Result Finds E → Type 0
 IsNext memory place result = IfOk result (IsNextAnswer memory place)
 
-abbrev pub AreSteady : MemberTypes → ℕ → ℕ → Type 0
-AreSteady memory fewer levels = (place : ℕ) (q : Question) → Stands memory place q → IsSteady q (is_settled memory place) fewer levels
+-- the settled levels are no more than the first number, and each question that is not settled has the same answer with it as with the second one
+pub record AreSteady (memory : MemberTypes) (fewer levels : ℕ) : Type 0 where
+  pub settled : memory.settled.levels ≤ fewer
+  pub each : (place : ℕ) (q : Question) → memory.settled.count ≤ place → Stands memory place q → IsSteady q fewer levels
 
 -- the table stays, and what is settled
 pub record Stays (old new : MemberTypes) : Type 0 where
@@ -153,7 +156,7 @@ pub record Stays (old new : MemberTypes) : Type 0 where
 
 -- all from this place on are questions that are not settled
 abbrev pub AreUnsettled : MemberTypes → ℕ → Type 0
-AreUnsettled memory place = memory.settled ≤ place
+AreUnsettled memory place = memory.settled.count ≤ place
 
 -- the first questions stay, as many as this
 abbrev pub KeepsFront : MemberTypes → MemberTypes → ℕ → Type 0

@@ -20,6 +20,16 @@ use element_table::{Part, Table};
 use std::alloc::Global;
 use std::collections::BTreeMap;
 
+/// How far questions are settled.
+#[derive(Drop)]
+pub(crate) struct Settled {
+    /// How many of the first ones are: what is found with their last number of levels is found with all
+    /// further ones too.
+    pub count: usize,
+    /// From how many levels on the same is found of each of these.
+    pub levels: usize,
+}
+
 /// The questions that were asked over one table, in their order, with their answers.
 #[derive(Drop)]
 pub(crate) struct MemberTypes<'a> {
@@ -28,9 +38,7 @@ pub(crate) struct MemberTypes<'a> {
     pub questions: Vec<Question<'a>>,
     /// Where each stands among them, by its key.
     pub places: BTreeMap<String, usize>,
-    /// How many of the first ones are settled: what is found with their last number of levels is found with
-    /// all further ones too.
-    pub settled: usize,
+    pub settled: Settled,
     pub budget: Budget,
 }
 
@@ -62,7 +70,10 @@ impl<'a> MemberTypes<'a> {
             table,
             questions: Vec::new(alloc),
             places: BTreeMap::new(alloc),
-            settled: 0,
+            settled: Settled {
+                count: 0,
+                levels: 0,
+            },
             budget: Budget::new(),
         }
     }
@@ -113,7 +124,7 @@ impl<'a> MemberTypes<'a> {
         if !question.asks(of, name) {
             return Ok(None);
         }
-        match question.answer(*place < self.settled, levels) {
+        match question.answer(*place < self.settled.count, levels) {
             None => Err(NoMemory),
             Some(finds) => {
                 let copy = copied_finds(self.alloc, finds)?;

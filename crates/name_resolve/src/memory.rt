@@ -144,23 +144,17 @@ impl<'a> Question<'a> {
         }
     }
 
-    /// Whether the same is found with a number of levels and with the next one, and with all further ones
-    /// where the question is settled.
-    pub fn is_steady(&self, is_settled: bool, fewer: usize, levels: usize) -> bool
-        ensures { result ≡ true → IsSteady self.now is_settled fewer levels }
+    /// Whether the same is found of a question that is not settled with a number of levels and with another
+    /// one. It is not where either is not known.
+    pub fn is_steady(&self, fewer: usize, levels: usize) -> bool
+        ensures { result ≡ true → IsSteady self.now fewer levels }
     {
-        let Some(before) = self.answer(is_settled, fewer) else {
+        let Some(before) = self.answer(false, fewer) else {
             return false;
         };
-        let Some(after) = self.answer(is_settled, levels) else {
+        let Some(after) = self.answer(false, levels) else {
             return false;
         };
-        let Some(last) = self.answers.len().checked_sub(1) else {
-            return false;
-        };
-        if is_settled && last > levels {
-            return false;
-        }
         is_same_finds(before, after)
     }
 }

@@ -4,7 +4,7 @@ ghost use Rattle.std.specs.Prelude.{◌≡◌, ◌+◌, ◌<◌, true, false, le
 ghost use Rattle.name_resolve.specs.Remembered.{IsQuestion, AreQuestions, IsWanted, AreRight, AreSteady, IsNext, IsNextAnswer, AreUnsettled, Stays, KeepsFront};
 
 use crate::finds::Finds;
-use crate::member_types::{MemberTypes, key_of};
+use crate::member_types::{MemberTypes, Settled, key_of};
 use crate::memory::{Question, Stop, Wanted};
 use apt_base::{MAX_TYPE_STEPS, NoMemory};
 
@@ -141,14 +141,17 @@ impl<'a> MemberTypes<'a> {
         Ok(())
     }
 
-    // Whether the same is found of each question with a number of levels and with the next one, and with all
-    // further ones of those that are settled.
+    // Whether the same is found of each question with a number of levels and with the next one, and of those
+    // that are settled with all from the first number on. Only those that are not settled are looked at.
     fn are_steady(&self, fewer: usize, levels: usize) -> bool
         ensures { result ≡ true → AreSteady self.now fewer levels }
     {
-        for place in 0..self.questions.len() {
+        if fewer < self.settled.levels {
+            return false;
+        }
+        for place in self.settled.count..self.questions.len() {
             let question = &self.questions[place];
-            if !question.is_steady(place < self.settled, fewer, levels) {
+            if !question.is_steady(fewer, levels) {
                 return false;
             }
         }
@@ -168,7 +171,11 @@ impl<'a> MemberTypes<'a> {
         if !self.are_steady(fewer, levels) {
             return false;
         }
-        self.settled = self.questions.len();
+        let count = self.questions.len();
+        self.settled = Settled {
+            count,
+            levels: fewer,
+        };
         true
     }
 

@@ -1,4 +1,5 @@
 use Rattle.std.proofs.Common.{◌<◌, ◌≤◌, length, vec_len, sym, subst, ◌∙◌, arith, rules}
+use Rattle.name_resolve.specs.declared.member_types.Settled.{Settled}
 use Rattle.name_resolve.proofs.KeptFronts.{fewer-front, front-on}
 use Rattle.name_resolve.proofs.member_types.MemberTypes.+answering.Goals as goal
 
@@ -8,7 +9,7 @@ answer_from-loop-preserved t c =
     record {
       right = c.in_ok-answer_next.ensures.right;
       stays = record { table = stays.table ∙ c.loop.invariant.stays.table; settled = stays.settled ∙ c.loop.invariant.stays.settled };
-      unsettled = subst (λ n. n ≤ c.loop.place) (sym stays.settled) c.loop.invariant.unsettled;
+      unsettled = subst (λ (s : Settled). s.count ≤ c.loop.place) (sym stays.settled) c.loop.invariant.unsettled;
       behind = c.loop.invariant.behind;
       front = front-on c.args.first c.loop.place c.args.self.now.questions.items c.loop.self.questions.items _ c.loop.invariant.front c.in_ok-answer_next.ensures.front c.loop.invariant.behind;
     }
@@ -32,7 +33,7 @@ ask_below-loop-fewer-preserved t c =
     record {
       right = c.in_ok-answer_from.ensures.right;
       stays = record { table = stays.table ∙ c.loop-fewer.invariant.stays.table; settled = stays.settled ∙ c.loop-fewer.invariant.stays.settled };
-      unsettled = subst (λ n. n ≤ c.len-place.result) (sym stays.settled) c.loop-fewer.invariant.unsettled;
+      unsettled = subst (λ (s : Settled). s.count ≤ c.len-place.result) (sym stays.settled) c.loop-fewer.invariant.unsettled;
       front = front-on (vec_len questions) c.len-place.result questions.items c.loop-fewer.self.questions.items _ c.loop-fewer.invariant.front c.in_ok-answer_from.ensures.front
           (omega (arith, c.len-place.ensures));
     }

@@ -1,4 +1,5 @@
 use Rattle.std.proofs.Common.{◌≤◌, vec_len, take, sym, ap, subst, ◌∙◌, arith}
+use Rattle.name_resolve.specs.declared.member_types.Settled.{Settled}
 use Rattle.name_resolve.proofs.KeptFronts.{front-on}
 use Rattle.name_resolve.proofs.member_types.MemberTypes.search.Goals as goal
 
@@ -10,7 +11,7 @@ loop-fewer-preserved c =
     record {
       right = c.settle.ensures.right;
       stays = record { table = c.settle.ensures.table ∙ stays.table ∙ c.loop-fewer.invariant.stays.table; settled = settled ∙ c.loop-fewer.invariant.stays.settled };
-      unsettled = subst (λ n. n ≤ c.len-first.result) (sym settled) c.loop-fewer.invariant.unsettled;
+      unsettled = subst (λ (s : Settled). s.count ≤ c.len-first.result) (sym settled) c.loop-fewer.invariant.unsettled;
       front = ap (take (vec_len questions)) c.settle.ensures.questions
           ∙ front-on (vec_len questions) c.len-first.result questions.items c.loop-fewer.self.questions.items _ c.loop-fewer.invariant.front c.in_ok-answer_from.ensures.front (omega (arith, c.len-first.ensures));
     }
