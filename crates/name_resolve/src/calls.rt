@@ -11,7 +11,9 @@ use apt_base::NoMemory;
 use element_table::Table;
 use std::alloc::Global;
 
-/// The type or the type parameter that a name means where it is written (JLS 6.4, 6.5.5): in an element of the table, as a condition, or in the `extends` or `implements` clause of one. `Nothing` where it means none, and `Several` where it is ambiguous. The parts of the name are those that dots join.
+/// The type or the type parameter that a name means where it is written (JLS 6.4, 6.5.5): in an element of the
+/// table, as a condition, or in the `extends` or `implements` clause of one. `Nothing` where it means none, and
+/// `Several` where it is ambiguous. The parts of the name are those that dots join.
 pub fn name_meaning<'a>(
     alloc: Global,
     table: &'a Table,

@@ -51,7 +51,8 @@ pub(crate) fn is_same(one: &Found<'_>, other: &Found<'_>) -> bool
         && one.path.as_slice() == other.path.as_slice()
 }
 
-/// All that is found at one place, from two look-ups there: two different finds are ambiguous. It takes no memory.
+/// All that is found at one place, from two look-ups there: two different finds are ambiguous. It takes no
+/// memory.
 pub fn both<'a>(one: Finds<'a>, other: Finds<'a>) -> Finds<'a>
     ensures { finds_of result ≡ both (finds_of one.entry) (finds_of other.entry) }
 {

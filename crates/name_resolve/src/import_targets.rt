@@ -47,7 +47,8 @@ impl<'a> MemberTypes<'a> {
         first: &str,
         others: &[&str],
     ) -> Result<Finds<'a>, NoMemory>
-        ensures { Gives result (by_prefix (tops_in self.now) declared_types part (prefixes_of first.now others.now)) }
+        ensures { Gives result
+            (by_prefix (tops_in self.now) declared_types part (prefixes_of first.now others.now)) }
     {
         let here = self.top(part, first)?;
         if !is_nothing(&here) {

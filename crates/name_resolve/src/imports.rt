@@ -27,7 +27,8 @@ impl<'a> MemberTypes<'a> {
         name: &str,
     ) -> Result<Finds<'a>, Stop<'a>>
         requires right { AreRight self.now }
-        ensures value { Tells result self.now levels (λ members. members_of members (imported (tops_in self.now) part (lent names.now)) name.now) }
+        ensures value { Tells result self.now levels
+            (λ members. members_of members (imported (tops_in self.now) part (lent names.now)) name.now) }
         ensures wanted { IfErr result (IsWanted self.now.table.now) }
     {
         let of = self.imported(part, names)?;
@@ -56,7 +57,8 @@ impl<'a> MemberTypes<'a> {
         names: &[&str],
     ) -> Result<Finds<'a>, Stop<'a>>
         requires right { AreRight self.now }
-        ensures value { Tells result self.now levels (λ members. single_by (tops_in self.now) members part name.now (lent names.now) StaticSingle) }
+        ensures value { Tells result self.now levels
+            (λ members. single_by (tops_in self.now) members part name.now (lent names.now) StaticSingle) }
         ensures wanted { IfErr result (IsWanted self.now.table.now) }
     {
         let Some((last, front)) = names.split_last() else {
@@ -78,7 +80,8 @@ impl<'a> MemberTypes<'a> {
         import: &Import,
     ) -> Result<Finds<'a>, Stop<'a>>
         requires right { AreRight self.now }
-        ensures value { Tells result self.now levels (λ members. single_import (tops_in self.now) members part name.now import.now) }
+        ensures value { Tells result self.now levels
+            (λ members. single_import (tops_in self.now) members part name.now import.now) }
         ensures wanted { IfErr result (IsWanted self.now.table.now) }
     {
         match import.kind {
@@ -106,7 +109,8 @@ impl<'a> MemberTypes<'a> {
         import: &Import,
     ) -> Result<Finds<'a>, Stop<'a>>
         requires right { AreRight self.now }
-        ensures value { Tells result self.now levels (λ members. on_demand_import (tops_in self.now) members part name.now import.now) }
+        ensures value { Tells result self.now levels
+            (λ members. on_demand_import (tops_in self.now) members part name.now import.now) }
         ensures wanted { IfErr result (IsWanted self.now.table.now) }
     {
         match import.kind {
@@ -133,7 +137,8 @@ impl<'a> MemberTypes<'a> {
         imports: &[Import],
     ) -> Result<Finds<'a>, Stop<'a>>
         requires right { AreRight self.now }
-        ensures value { Tells result self.now levels (λ members. single_finds (tops_in self.now) members part name.now imports.now) }
+        ensures value { Tells result self.now levels
+            (λ members. single_finds (tops_in self.now) members part name.now imports.now) }
         ensures wanted { IfErr result (IsWanted self.now.table.now) }
     {
         let mut all: Result<Finds<'a>, Vec<Wanted<'a>>> = Ok(Finds::Nothing);
@@ -155,7 +160,8 @@ impl<'a> MemberTypes<'a> {
         name: &str,
     ) -> Result<Finds<'a>, Stop<'a>>
         requires right { AreRight self.now }
-        ensures value { Tells result self.now levels (λ members. single_finds (tops_in self.now) members at.now.part name.now at.now.unit.now.imports) }
+        ensures value { Tells result self.now levels (λ members. single_finds (tops_in self.now) members
+            at.now.part name.now at.now.unit.now.imports) }
         ensures wanted { IfErr result (IsWanted self.now.table.now) }
     {
         let imports = at.unit.text().imports.get().as_slice();
@@ -173,7 +179,8 @@ impl<'a> MemberTypes<'a> {
         before: Finds<'a>,
     ) -> Result<Finds<'a>, Stop<'a>>
         requires right { AreRight self.now }
-        ensures value { Tells result self.now levels (λ members. demand_finds (tops_in self.now) members part name.now (finds_of before.entry) imports.now) }
+        ensures value { Tells result self.now levels (λ members. demand_finds (tops_in self.now) members
+            part name.now (finds_of before.entry) imports.now) }
         ensures wanted { IfErr result (IsWanted self.now.table.now) }
     {
         let mut all: Result<Finds<'a>, Vec<Wanted<'a>>> = Ok(before);
@@ -195,7 +202,8 @@ impl<'a> MemberTypes<'a> {
         name: &str,
     ) -> Result<Finds<'a>, Stop<'a>>
         requires right { AreRight self.now }
-        ensures value { Tells result self.now levels (λ members. on_demand_finds (tops_in self.now) members at.now.part at.now.unit.now name.now) }
+        ensures value { Tells result self.now levels
+            (λ members. on_demand_finds (tops_in self.now) members at.now.part at.now.unit.now name.now) }
         ensures wanted { IfErr result (IsWanted self.now.table.now) }
     {
         let lang = self.top_of_package(at.part, "java.lang", name)?;
@@ -215,7 +223,8 @@ impl<'a> MemberTypes<'a> {
 
     /// The type of this name of the file.
     pub(crate) fn of_file(&self, at: &Found<'a>, name: &str) -> Result<Finds<'a>, NoMemory>
-        ensures value { Gives result (file_finds_within self.now.table.now at.now.part at.now.unit.now name.now) }
+        ensures value { Gives result
+            (file_finds_within self.now.table.now at.now.part at.now.unit.now name.now) }
     {
         if is_sibling(at.unit, name) {
             return self.beside(at, name);

@@ -24,7 +24,8 @@ impl<'a> MemberTypes<'a> {
     ) -> Result<Finds<'a>, NoMemory>
         requires placed { IsPlaced self.old.table.now (find_of at.now) }
         requires right { AreRight self.old }
-        ensures value { Gives result (meaning self.old.table.now (scope_of header (find_of at.now)) (lent names.now)) }
+        ensures value { Gives result
+            (meaning self.old.table.now (scope_of header (find_of at.now)) (lent names.now)) }
         ensures right { AreRight self.new }
         ensures table { self.new.table.now ≡ self.old.table.now }
     {
@@ -48,7 +49,8 @@ impl<'a> MemberTypes<'a> {
     ) -> Result<Finds<'a>, NoMemory>
         requires placed { IsPlaced self.old.table.now (find_of at.now) }
         requires right { AreRight self.old }
-        ensures value { Gives result (qualifier_at self.old.table.now header (find_of at.now) (lent names.now)) }
+        ensures value { Gives result
+            (qualifier_at self.old.table.now header (find_of at.now) (lent names.now)) }
         ensures right { AreRight self.new }
         ensures table { self.new.table.now ≡ self.old.table.now }
     {

@@ -176,7 +176,8 @@ impl<'a> MemberTypes<'a> {
     pub fn member_of(&self, levels: usize, of: Finds<'a>, name: &str) -> Result<Finds<'a>, Stop<'a>>
         requires placed { ArePlaced self.now.table.now (finds_of of) }
         requires right { AreRight self.now }
-        ensures value { Tells result self.now levels (λ members. members_of members (finds_of of.entry) name.now) }
+        ensures value { Tells result self.now levels
+            (λ members. members_of members (finds_of of.entry) name.now) }
         ensures wanted { IfErr result (IsWanted self.now.table.now) }
     {
         match of {

@@ -23,7 +23,8 @@ impl<'a> MemberTypes<'a> {
     ) -> Result<Finds<'a>, Stop<'a>>
         requires placed { ArePlaced self.now.table.now (finds_of start) }
         requires right { AreRight self.now }
-        ensures value { Tells result self.now levels (λ members. along members (finds_of start.entry) (lent names.now)) }
+        ensures value { Tells result self.now levels
+            (λ members. along members (finds_of start.entry) (lent names.now)) }
         ensures wanted { IfErr result (IsWanted self.now.table.now) }
         ensures placed { IfOk result (λ f. ArePlaced self.now.table.now (finds_of f)) }
     {
@@ -43,7 +44,8 @@ impl<'a> MemberTypes<'a> {
         others: &[&str],
     ) -> Result<Finds<'a>, Stop<'a>>
         requires right { AreRight self.now }
-        ensures value { Tells result self.now levels (λ members. by_prefix (tops_in self.now) members part (prefixes_of first.now others.now)) }
+        ensures value { Tells result self.now levels
+            (λ members. by_prefix (tops_in self.now) members part (prefixes_of first.now others.now)) }
         ensures wanted { IfErr result (IsWanted self.now.table.now) }
     {
         let here = self.top(part, first)?;
@@ -71,7 +73,8 @@ impl<'a> MemberTypes<'a> {
         names: &[&str],
     ) -> Result<Finds<'a>, Stop<'a>>
         requires right { AreRight self.now }
-        ensures value { Tells result self.now levels (λ members. by_prefix (tops_in self.now) members part (prefixes (lent names.now))) }
+        ensures value { Tells result self.now levels
+            (λ members. by_prefix (tops_in self.now) members part (prefixes (lent names.now))) }
         ensures wanted { IfErr result (IsWanted self.now.table.now) }
     {
         let Some((first, others)) = names.split_first() else {

@@ -24,7 +24,8 @@ impl<'a> MemberTypes<'a> {
     fn in_element(&self, levels: usize, at: &Found<'a>, name: &str) -> Result<Finds<'a>, Stop<'a>>
         requires placed { IsPlaced self.now.table.now (find_of at.now) }
         requires right { AreRight self.now }
-        ensures value { Tells result self.now levels (λ members. element_finds members (find_of at.now) name.now) }
+        ensures value { Tells result self.now levels
+            (λ members. element_finds members (find_of at.now) name.now) }
         ensures wanted { IfErr result (IsWanted self.now.table.now) }
     {
         let own = self.declared(at, name)?;
@@ -49,7 +50,8 @@ impl<'a> MemberTypes<'a> {
         requires placed { IsPlaced self.now.table.now (find_of innermost) }
         requires there { is_some (node_at innermost.unit.now innermost.path.items) ≡ true }
         requires right { AreRight self.now }
-        ensures value { Tells result self.now levels (λ members. enclosing_finds members (find_of innermost.entry) name.now) }
+        ensures value { Tells result self.now levels
+            (λ members. enclosing_finds members (find_of innermost.entry) name.now) }
         ensures wanted { IfErr result (IsWanted self.now.table.now) }
     {
         let mut here = innermost;
@@ -71,7 +73,8 @@ impl<'a> MemberTypes<'a> {
         requires placed { IsPlaced self.now.table.now (find_of at) }
         requires there { is_some (node_at at.unit.now at.path.items) ≡ true }
         requires right { AreRight self.now }
-        ensures value { Tells result self.now levels (λ members. header_finds members (find_of at.entry) name.now) }
+        ensures value { Tells result self.now levels
+            (λ members. header_finds members (find_of at.entry) name.now) }
         ensures wanted { IfErr result (IsWanted self.now.table.now) }
     {
         let parameters = self.parameters(&at, name)?;
@@ -97,7 +100,8 @@ impl<'a> MemberTypes<'a> {
     ) -> Result<Finds<'a>, Stop<'a>>
         requires placed { IsPlaced self.now.table.now (find_of at.now) }
         requires right { AreRight self.now }
-        ensures value { Tells result self.now levels (λ members. in_scope members name.now (scope_of header (find_of at.now))) }
+        ensures value { Tells result self.now levels
+            (λ members. in_scope members name.now (scope_of header (find_of at.now))) }
         ensures wanted { IfErr result (IsWanted self.now.table.now) }
     {
         if !is_there(at) {
@@ -116,7 +120,8 @@ impl<'a> MemberTypes<'a> {
     // `java.lang`.
     fn in_unit(&self, levels: usize, at: &Found<'a>, name: &str) -> Result<Finds<'a>, Stop<'a>>
         requires right { AreRight self.now }
-        ensures value { Tells result self.now levels (λ members. in_unit (tops_in self.now) members at.now.part at.now.unit.now name.now) }
+        ensures value { Tells result self.now levels
+            (λ members. in_unit (tops_in self.now) members at.now.part at.now.unit.now name.now) }
         ensures wanted { IfErr result (IsWanted self.now.table.now) }
     {
         let own = self.of_file(at, name)?;
@@ -145,7 +150,8 @@ impl<'a> MemberTypes<'a> {
     ) -> Result<Finds<'a>, Stop<'a>>
         requires placed { IsPlaced self.now.table.now (find_of at.now) }
         requires right { AreRight self.now }
-        ensures value { Tells result self.now levels (λ members. simple (tops_in self.now) members (scope_of header (find_of at.now)) name.now) }
+        ensures value { Tells result self.now levels
+            (λ members. simple (tops_in self.now) members (scope_of header (find_of at.now)) name.now) }
         ensures wanted { IfErr result (IsWanted self.now.table.now) }
     {
         let near = self.in_scope(levels, header, at, name)?;

@@ -25,7 +25,8 @@ impl<'a> MemberTypes<'a> {
     ) -> Result<Finds<'a>, Stop<'a>>
         requires placed { IsPlaced self.now.table.now (find_of at.now) }
         requires right { AreRight self.now }
-        ensures value { Tells result self.now levels (λ members. qualifier (tops_in self.now) members (scope_of header (find_of at.now)) (lent names.now)) }
+        ensures value { Tells result self.now levels (λ members. qualifier (tops_in self.now) members
+            (scope_of header (find_of at.now)) (lent names.now)) }
         ensures wanted { IfErr result (IsWanted self.now.table.now) }
     {
         let Some((first, others)) = names.split_first() else {
@@ -50,7 +51,8 @@ impl<'a> MemberTypes<'a> {
     ) -> Result<Finds<'a>, Stop<'a>>
         requires placed { IsPlaced self.now.table.now (find_of at.now) }
         requires right { AreRight self.now }
-        ensures value { Tells result self.now levels (λ members. found (tops_in self.now) members (scope_of header (find_of at.now)) (lent names.now)) }
+        ensures value { Tells result self.now levels (λ members. found (tops_in self.now) members
+            (scope_of header (find_of at.now)) (lent names.now)) }
         ensures wanted { IfErr result (IsWanted self.now.table.now) }
     {
         let Some((first, others)) = names.split_first() else {
@@ -73,7 +75,8 @@ impl<'a> MemberTypes<'a> {
     ) -> Result<Finds<'a>, Stop<'a>>
         requires placed { IsPlaced self.now.table.now (find_of of.now) }
         requires right { AreRight self.now }
-        ensures value { Tells result self.now levels (λ members. supertype_found (tops_in self.now) members (find_of of.now) (super_of each.entry)) }
+        ensures value { Tells result self.now levels
+            (λ members. supertype_found (tops_in self.now) members (find_of of.now) (super_of each.entry)) }
         ensures wanted { IfErr result (IsWanted self.now.table.now) }
     {
         match each {
@@ -108,7 +111,8 @@ impl<'a> MemberTypes<'a> {
     ) -> Result<Finds<'a>, Stop<'a>>
         requires placed { IsPlaced self.now.table.now (find_of of.now) }
         requires right { AreRight self.now }
-        ensures value { Tells result self.now levels (λ members. members_of members (supertype_found (tops_in self.now) members (find_of of.now) (super_of each.entry)) name.now) }
+        ensures value { Tells result self.now levels (λ members. members_of members
+            (supertype_found (tops_in self.now) members (find_of of.now) (super_of each.entry)) name.now) }
         ensures wanted { IfErr result (IsWanted self.now.table.now) }
     {
         let above = self.supertype(levels, of, each)?;
@@ -125,7 +129,8 @@ impl<'a> MemberTypes<'a> {
     ) -> Result<Finds<'a>, Stop<'a>>
         requires placed { IsPlaced self.now.table.now (find_of of.now) }
         requires right { AreRight self.now }
-        ensures value { Tells result self.now levels (λ members. inherited (tops_in self.now) members (find_of of.now) name.now) }
+        ensures value { Tells result self.now levels
+            (λ members. inherited (tops_in self.now) members (find_of of.now) name.now) }
         ensures wanted { IfErr result (IsWanted self.now.table.now) }
     {
         let list = supertypes(self.alloc, of)?;
