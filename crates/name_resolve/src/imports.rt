@@ -8,6 +8,7 @@ ghost use Rattle.name_resolve.specs.Parts.{lent, tops_beside, by_single_import, 
 ghost use Rattle.name_resolve.specs.Remembered.{IsWanted, AreRight, Tells, tops_in};
 ghost use Rattle.name_resolve.specs.Shown.{finds_of, Gives};
 
+use crate::effort::Effort;
 use crate::finds::{Finds, Found, is_sibling};
 use crate::gathering::gathered;
 use crate::member_types::MemberTypes;
@@ -25,26 +26,33 @@ impl<'a> MemberTypes<'a> {
         part: Part,
         names: &[&str],
         name: &str,
+        effort: &mut Effort,
     ) -> Result<Finds<'a>, Stop<'a>>
         requires right { AreRight self.now }
         ensures value { Tells result self.now levels
             (λ members. members_of members (imported (tops_in self.now) part (lent names.now)) name.now) }
         ensures wanted { IfErr result (IsWanted self.now.table.now) }
     {
-        let of = self.imported(part, names)?;
-        let finds = self.member_of(levels, of, name)?;
+        let of = self.imported(part, names, effort)?;
+        let finds = self.member_of(levels, of, name, effort)?;
         Ok(finds)
     }
 
     // A single import by its names.
-    fn by_single(&self, part: Part, name: &str, names: &[&str]) -> Result<Finds<'a>, NoMemory>
+    fn by_single(
+        &self,
+        part: Part,
+        name: &str,
+        names: &[&str],
+        effort: &mut Effort,
+    ) -> Result<Finds<'a>, NoMemory>
         requires { IsTable self.now.table.now }
         ensures { Gives result (by_single_import (tops_in self.now) part name.now (lent names.now)) }
     {
         if !ends_in(names, name) {
             return Ok(Finds::Nothing);
         }
-        let finds = self.imported(part, names)?;
+        let finds = self.imported(part, names, effort)?;
         Ok(finds)
     }
 
@@ -55,6 +63,7 @@ impl<'a> MemberTypes<'a> {
         part: Part,
         name: &str,
         names: &[&str],
+        effort: &mut Effort,
     ) -> Result<Finds<'a>, Stop<'a>>
         requires right { AreRight self.now }
         ensures value { Tells result self.now levels
@@ -65,7 +74,7 @@ impl<'a> MemberTypes<'a> {
             return Ok(Finds::Nothing);
         };
         if *last == name {
-            let finds = self.imported_member(levels, part, front, name)?;
+            let finds = self.imported_member(levels, part, front, name, effort)?;
             return Ok(finds);
         }
         Ok(Finds::Nothing)
@@ -78,6 +87,7 @@ impl<'a> MemberTypes<'a> {
         part: Part,
         name: &str,
         import: &Import,
+        effort: &mut Effort,
     ) -> Result<Finds<'a>, Stop<'a>>
         requires right { AreRight self.now }
         ensures value { Tells result self.now levels
@@ -87,12 +97,12 @@ impl<'a> MemberTypes<'a> {
         match import.kind {
             ImportKind::Single => {
                 let names = split(self.alloc, import.name.as_str())?;
-                let finds = self.by_single(part, name, names.as_slice())?;
+                let finds = self.by_single(part, name, names.as_slice(), effort)?;
                 Ok(finds)
             }
             ImportKind::StaticSingle => {
                 let names = split(self.alloc, import.name.as_str())?;
-                let finds = self.by_static_single(levels, part, name, names.as_slice())?;
+                let finds = self.by_static_single(levels, part, name, names.as_slice(), effort)?;
                 Ok(finds)
             }
             ImportKind::OnDemand => Ok(Finds::Nothing),
@@ -107,6 +117,7 @@ impl<'a> MemberTypes<'a> {
         part: Part,
         name: &str,
         import: &Import,
+        effort: &mut Effort,
     ) -> Result<Finds<'a>, Stop<'a>>
         requires right { AreRight self.now }
         ensures value { Tells result self.now levels
@@ -118,12 +129,12 @@ impl<'a> MemberTypes<'a> {
             ImportKind::StaticSingle => Ok(Finds::Nothing),
             ImportKind::OnDemand => {
                 let names = split_with(self.alloc, import.name.as_str(), name)?;
-                let finds = self.imported(part, names.as_slice())?;
+                let finds = self.imported(part, names.as_slice(), effort)?;
                 Ok(finds)
             }
             ImportKind::StaticOnDemand => {
                 let names = split(self.alloc, import.name.as_str())?;
-                let finds = self.imported_member(levels, part, names.as_slice(), name)?;
+                let finds = self.imported_member(levels, part, names.as_slice(), name, effort)?;
                 Ok(finds)
             }
         }
@@ -135,6 +146,7 @@ impl<'a> MemberTypes<'a> {
         part: Part,
         name: &str,
         imports: &[Import],
+        effort: &mut Effort,
     ) -> Result<Finds<'a>, Stop<'a>>
         requires right { AreRight self.now }
         ensures value { Tells result self.now levels
@@ -143,7 +155,7 @@ impl<'a> MemberTypes<'a> {
     {
         let mut all: Result<Finds<'a>, Vec<Wanted<'a>>> = Ok(Finds::Nothing);
         for import in imports {
-            let more = self.single_import(levels, part, name, import);
+            let more = self.single_import(levels, part, name, import, effort);
             all = gathered(all, more)?;
         }
         match all {
@@ -158,6 +170,7 @@ impl<'a> MemberTypes<'a> {
         levels: usize,
         at: &Found<'a>,
         name: &str,
+        effort: &mut Effort,
     ) -> Result<Finds<'a>, Stop<'a>>
         requires right { AreRight self.now }
         ensures value { Tells result self.now levels (λ members. single_finds (tops_in self.now) members
@@ -165,7 +178,7 @@ impl<'a> MemberTypes<'a> {
         ensures wanted { IfErr result (IsWanted self.now.table.now) }
     {
         let imports = at.unit.text().imports.get().as_slice();
-        let finds = self.single_among(levels, at.part, name, imports)?;
+        let finds = self.single_among(levels, at.part, name, imports, effort)?;
         Ok(finds)
     }
 
@@ -177,6 +190,7 @@ impl<'a> MemberTypes<'a> {
         name: &str,
         imports: &[Import],
         before: Finds<'a>,
+        effort: &mut Effort,
     ) -> Result<Finds<'a>, Stop<'a>>
         requires right { AreRight self.now }
         ensures value { Tells result self.now levels (λ members. demand_finds (tops_in self.now) members
@@ -185,7 +199,7 @@ impl<'a> MemberTypes<'a> {
     {
         let mut all: Result<Finds<'a>, Vec<Wanted<'a>>> = Ok(before);
         for import in imports {
-            let more = self.on_demand_import(levels, part, name, import);
+            let more = self.on_demand_import(levels, part, name, import, effort);
             all = gathered(all, more)?;
         }
         match all {
@@ -200,42 +214,59 @@ impl<'a> MemberTypes<'a> {
         levels: usize,
         at: &Found<'a>,
         name: &str,
+        effort: &mut Effort,
     ) -> Result<Finds<'a>, Stop<'a>>
         requires right { AreRight self.now }
         ensures value { Tells result self.now levels
             (λ members. on_demand_finds (tops_in self.now) members at.now.part at.now.unit.now name.now) }
         ensures wanted { IfErr result (IsWanted self.now.table.now) }
     {
-        let lang = self.top_of_package(at.part, "java.lang", name)?;
+        let lang = self.top_of_package(at.part, "java.lang", name, effort)?;
         let imports = at.unit.text().imports.get().as_slice();
-        let finds = self.on_demand_among(levels, at.part, name, imports, lang)?;
+        let finds = self.on_demand_among(levels, at.part, name, imports, lang, effort)?;
         Ok(finds)
     }
 
     // The top-level type of this simple name of a package.
-    fn top_of_package(&self, part: Part, package: &str, name: &str) -> Result<Finds<'a>, NoMemory>
+    fn top_of_package(
+        &self,
+        part: Part,
+        package: &str,
+        name: &str,
+        effort: &mut Effort,
+    ) -> Result<Finds<'a>, NoMemory>
         ensures { Gives result (tops_in self.now part (in_package «package».now name.now)) }
     {
         let whole = in_package(self.alloc, package, name)?;
-        let finds = self.top(part, whole.as_str())?;
+        let finds = self.top(part, whole.as_str(), effort)?;
         Ok(finds)
     }
 
     /// The type of this name of the file.
-    pub(crate) fn of_file(&self, at: &Found<'a>, name: &str) -> Result<Finds<'a>, NoMemory>
+    pub(crate) fn of_file(
+        &self,
+        at: &Found<'a>,
+        name: &str,
+        effort: &mut Effort,
+    ) -> Result<Finds<'a>, NoMemory>
         ensures value { Gives result
             (file_finds_within self.now.table.now at.now.part at.now.unit.now name.now) }
     {
         if is_sibling(at.unit, name) {
-            return self.beside(at, name);
+            return self.beside(at, name, effort);
         }
         Ok(Finds::Nothing)
     }
 
     /// The type of this name of the unit's package.
-    pub(crate) fn beside(&self, at: &Found<'a>, name: &str) -> Result<Finds<'a>, NoMemory>
+    pub(crate) fn beside(
+        &self,
+        at: &Found<'a>,
+        name: &str,
+        effort: &mut Effort,
+    ) -> Result<Finds<'a>, NoMemory>
         ensures value { Gives result (tops_beside self.now.table.now at.now.part at.now.unit.now name.now) }
     {
-        self.top_of_package(at.part, at.unit.text().package.as_str(), name)
+        self.top_of_package(at.part, at.unit.text().package.as_str(), name, effort)
     }
 }

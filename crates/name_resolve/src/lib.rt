@@ -19,9 +19,9 @@
 //! memory is there.
 #![tactic(auto)]
 
-mod budget;
 mod calls;
 mod children;
+mod effort;
 mod finds;
 mod gathering;
 mod headers;

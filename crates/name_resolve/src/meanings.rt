@@ -7,7 +7,7 @@ ghost use Rattle.name_resolve.specs.Placed.{IsPlaced};
 ghost use Rattle.name_resolve.specs.Remembered.{AreRight};
 ghost use Rattle.name_resolve.specs.Shown.{find_of, Gives};
 
-use crate::budget::Budget;
+use crate::effort::Effort;
 use crate::finds::{Finds, Found};
 use crate::member_types::MemberTypes;
 use crate::memory::Stop;
@@ -29,12 +29,12 @@ impl<'a> MemberTypes<'a> {
         ensures right { AreRight self.new }
         ensures table { self.new.table.now ≡ self.old.table.now }
     {
-        self.budget = Budget::new();
+        let mut effort = Effort::new();
         for _ in 0..usize::MAX {
-            match self.found(LEVELS, header, at, names) {
+            match self.found(LEVELS, header, at, names, &mut effort) {
                 Ok(finds) => return Ok(finds),
                 Err(Stop::Memory) => return Err(NoMemory),
-                Err(Stop::Wanted(wanted)) => self.learn(wanted)?,
+                Err(Stop::Wanted(wanted)) => self.learn(wanted, &mut effort)?,
             }
         }
         Err(NoMemory)
@@ -54,12 +54,12 @@ impl<'a> MemberTypes<'a> {
         ensures right { AreRight self.new }
         ensures table { self.new.table.now ≡ self.old.table.now }
     {
-        self.budget = Budget::new();
+        let mut effort = Effort::new();
         for _ in 0..usize::MAX {
-            match self.qualifier(LEVELS, header, at, names) {
+            match self.qualifier(LEVELS, header, at, names, &mut effort) {
                 Ok(finds) => return Ok(finds),
                 Err(Stop::Memory) => return Err(NoMemory),
-                Err(Stop::Wanted(wanted)) => self.learn(wanted)?,
+                Err(Stop::Wanted(wanted)) => self.learn(wanted, &mut effort)?,
             }
         }
         Err(NoMemory)

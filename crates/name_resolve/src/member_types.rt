@@ -8,8 +8,8 @@ ghost use Rattle.name_resolve.specs.Placed.{IsPlaced, ArePlaced};
 ghost use Rattle.name_resolve.specs.Remembered.{IsWanted, AreRight, Tells, TellsSome, tops_in};
 ghost use Rattle.name_resolve.specs.Shown.{find_of, finds_of};
 
-use crate::budget::{Budget, STEPS_OF_LOOK_UP};
 use crate::children::{children_count, declared_parameters, declared_types};
+use crate::effort::{Effort, STEPS_OF_LOOK_UP};
 use crate::finds::{Finds, Found, is_nothing, simple_name};
 use crate::headers::has_supertypes;
 use crate::memory::{Question, Stop, Wanted, alone, copied, copied_finds};
@@ -39,7 +39,6 @@ pub(crate) struct MemberTypes<'a> {
     /// Where each stands among them, by its key.
     pub places: BTreeMap<String, usize>,
     pub settled: Settled,
-    pub budget: Budget,
 }
 
 /// A text that no other question has: the name, the type's unit, and its path there.
@@ -74,31 +73,40 @@ impl<'a> MemberTypes<'a> {
                 count: 0,
                 levels: 0,
             },
-            budget: Budget::new(),
         }
     }
 
     /// The member types of this name that a type declares.
-    pub fn declared(&self, of: &Found<'a>, name: &str) -> Result<Finds<'a>, NoMemory>
+    pub fn declared(
+        &self,
+        of: &Found<'a>,
+        name: &str,
+        effort: &mut Effort,
+    ) -> Result<Finds<'a>, NoMemory>
         ensures { IfOk result (λ f. finds_of f ≡ declared_types (find_of of.now) name.now) }
     {
-        self.budget.take(children_count(of))?;
+        effort.take(children_count(of))?;
         declared_types(self.alloc, of, name)
     }
 
     /// The type parameters of this name that an element declares.
-    pub fn parameters(&self, of: &Found<'a>, name: &str) -> Result<Finds<'a>, NoMemory>
+    pub fn parameters(
+        &self,
+        of: &Found<'a>,
+        name: &str,
+        effort: &mut Effort,
+    ) -> Result<Finds<'a>, NoMemory>
         ensures { IfOk result (λ f. finds_of f ≡ declared_parameters (find_of of.now) name.now) }
     {
-        self.budget.take(children_count(of))?;
+        effort.take(children_count(of))?;
         declared_parameters(self.alloc, of, name)
     }
 
     /// The top-level type of this canonical name that a unit of a part meets.
-    pub fn top(&self, part: Part, name: &str) -> Result<Finds<'a>, NoMemory>
+    pub fn top(&self, part: Part, name: &str, effort: &mut Effort) -> Result<Finds<'a>, NoMemory>
         ensures { IfOk result (λ f. finds_of f ≡ tops_in self.now part name.now) }
     {
-        self.budget.take(STEPS_OF_LOOK_UP)?;
+        effort.take(STEPS_OF_LOOK_UP)?;
         top_named(self.alloc, self.table, part, name)
     }
 
@@ -108,12 +116,13 @@ impl<'a> MemberTypes<'a> {
         levels: usize,
         of: &Found<'a>,
         name: &str,
+        effort: &mut Effort,
     ) -> Result<Option<Finds<'a>>, NoMemory>
         requires placed { IsPlaced self.now.table.now (find_of of.now) }
         requires right { AreRight self.now }
         ensures { TellsSome result self.now levels (λ members. members (find_of of.now) name.now) }
     {
-        self.budget.take(STEPS_OF_LOOK_UP)?;
+        effort.take(STEPS_OF_LOOK_UP)?;
         let key = key_of(self.alloc, of, name)?;
         let Some(place) = self.places.get(key.as_str()) else {
             return Ok(None);
@@ -135,7 +144,13 @@ impl<'a> MemberTypes<'a> {
 
     /// The member types of this name, with this many levels of supertypes left, of a type that declares none:
     /// as far as they were asked for, and nothing where there is no supertype.
-    pub fn above(&self, levels: usize, of: &Found<'a>, name: &str) -> Result<Finds<'a>, Stop<'a>>
+    pub fn above(
+        &self,
+        levels: usize,
+        of: &Found<'a>,
+        name: &str,
+        effort: &mut Effort,
+    ) -> Result<Finds<'a>, Stop<'a>>
         requires placed { IsPlaced self.now.table.now (find_of of.now) }
         requires right { AreRight self.now }
         requires none { declared_types (find_of of.now) name.now ≡ Nothing }
@@ -145,7 +160,7 @@ impl<'a> MemberTypes<'a> {
         if !has_supertypes(of) {
             return Ok(Finds::Nothing);
         }
-        let known = self.recalled(levels, of, name)?;
+        let known = self.recalled(levels, of, name, effort)?;
         match known {
             Some(finds) => Ok(finds),
             None => {
@@ -158,22 +173,34 @@ impl<'a> MemberTypes<'a> {
     }
 
     /// The member types of this name, with this many levels of supertypes left.
-    pub fn members(&self, levels: usize, of: &Found<'a>, name: &str) -> Result<Finds<'a>, Stop<'a>>
+    pub fn members(
+        &self,
+        levels: usize,
+        of: &Found<'a>,
+        name: &str,
+        effort: &mut Effort,
+    ) -> Result<Finds<'a>, Stop<'a>>
         requires placed { IsPlaced self.now.table.now (find_of of.now) }
         requires right { AreRight self.now }
         ensures value { Tells result self.now levels (λ members. members (find_of of.now) name.now) }
         ensures wanted { IfErr result (IsWanted self.now.table.now) }
     {
-        let own = self.declared(of, name)?;
+        let own = self.declared(of, name, effort)?;
         if !is_nothing(&own) {
             return Ok(own);
         }
-        let finds = self.above(levels, of, name)?;
+        let finds = self.above(levels, of, name, effort)?;
         Ok(finds)
     }
 
     /// The members of what was found; what is ambiguous has none.
-    pub fn member_of(&self, levels: usize, of: Finds<'a>, name: &str) -> Result<Finds<'a>, Stop<'a>>
+    pub fn member_of(
+        &self,
+        levels: usize,
+        of: Finds<'a>,
+        name: &str,
+        effort: &mut Effort,
+    ) -> Result<Finds<'a>, Stop<'a>>
         requires placed { ArePlaced self.now.table.now (finds_of of) }
         requires right { AreRight self.now }
         ensures value { Tells result self.now levels
@@ -181,7 +208,7 @@ impl<'a> MemberTypes<'a> {
         ensures wanted { IfErr result (IsWanted self.now.table.now) }
     {
         match of {
-            Finds::One(find) => self.members(levels, &find, name),
+            Finds::One(find) => self.members(levels, &find, name, effort),
             Finds::Nothing => Ok(Finds::Nothing),
             Finds::Several => Ok(Finds::Nothing),
         }

@@ -7,6 +7,7 @@ ghost use Rattle.name_resolve.specs.Placed.{ArePlaced};
 ghost use Rattle.name_resolve.specs.Remembered.{IsWanted, AreRight, Tells, tops_in};
 ghost use Rattle.name_resolve.specs.Shown.{finds_of};
 
+use crate::effort::Effort;
 use crate::finds::{Finds, is_nothing};
 use crate::member_types::MemberTypes;
 use crate::memory::Stop;
@@ -20,6 +21,7 @@ impl<'a> MemberTypes<'a> {
         levels: usize,
         start: Finds<'a>,
         names: &[&str],
+        effort: &mut Effort,
     ) -> Result<Finds<'a>, Stop<'a>>
         requires placed { ArePlaced self.now.table.now (finds_of start) }
         requires right { AreRight self.now }
@@ -30,7 +32,7 @@ impl<'a> MemberTypes<'a> {
     {
         let mut finds = start;
         for name in names {
-            finds = self.member_of(levels, finds, *name)?;
+            finds = self.member_of(levels, finds, *name, effort)?;
         }
         Ok(finds)
     }
@@ -42,23 +44,24 @@ impl<'a> MemberTypes<'a> {
         part: Part,
         first: &str,
         others: &[&str],
+        effort: &mut Effort,
     ) -> Result<Finds<'a>, Stop<'a>>
         requires right { AreRight self.now }
         ensures value { Tells result self.now levels
             (λ members. by_prefix (tops_in self.now) members part (prefixes_of first.now others.now)) }
         ensures wanted { IfErr result (IsWanted self.now.table.now) }
     {
-        let here = self.top(part, first)?;
+        let here = self.top(part, first, effort)?;
         if !is_nothing(&here) {
-            let finds = self.along(levels, here, others)?;
+            let finds = self.along(levels, here, others, effort)?;
             return Ok(finds);
         }
         let mut prefix = owned(self.alloc, first)?;
         for (at, name) in others.iter().enumerate() {
             prefix = longer(self.alloc, prefix.as_str(), *name)?;
-            let here = self.top(part, prefix.as_str())?;
+            let here = self.top(part, prefix.as_str(), effort)?;
             if !is_nothing(&here) {
-                let finds = self.along(levels, here, &others[at + 1..])?;
+                let finds = self.along(levels, here, &others[at + 1..], effort)?;
                 return Ok(finds);
             }
         }
@@ -71,6 +74,7 @@ impl<'a> MemberTypes<'a> {
         levels: usize,
         part: Part,
         names: &[&str],
+        effort: &mut Effort,
     ) -> Result<Finds<'a>, Stop<'a>>
         requires right { AreRight self.now }
         ensures value { Tells result self.now levels
@@ -80,7 +84,7 @@ impl<'a> MemberTypes<'a> {
         let Some((first, others)) = names.split_first() else {
             return Ok(Finds::Nothing);
         };
-        let finds = self.by_prefixes(levels, part, *first, others)?;
+        let finds = self.by_prefixes(levels, part, *first, others, effort)?;
         Ok(finds)
     }
 }

@@ -7,6 +7,7 @@ ghost use Rattle.name_resolve.specs.Placed.{IsPlaced};
 ghost use Rattle.name_resolve.specs.Remembered.{IsWanted, AreRight, Tells, tops_in};
 ghost use Rattle.name_resolve.specs.Shown.{find_of};
 
+use crate::effort::Effort;
 use crate::finds::{Finds, Found, is_nothing};
 use crate::member_types::MemberTypes;
 use crate::memory::{Stop, copied};
@@ -21,22 +22,28 @@ fn is_there(at: &Found<'_>) -> bool
 impl<'a> MemberTypes<'a> {
     // In one element: the member types that it declares, its type parameters, and the member types that it
     // inherits.
-    fn in_element(&self, levels: usize, at: &Found<'a>, name: &str) -> Result<Finds<'a>, Stop<'a>>
+    fn in_element(
+        &self,
+        levels: usize,
+        at: &Found<'a>,
+        name: &str,
+        effort: &mut Effort,
+    ) -> Result<Finds<'a>, Stop<'a>>
         requires placed { IsPlaced self.now.table.now (find_of at.now) }
         requires right { AreRight self.now }
         ensures value { Tells result self.now levels
             (λ members. element_finds members (find_of at.now) name.now) }
         ensures wanted { IfErr result (IsWanted self.now.table.now) }
     {
-        let own = self.declared(at, name)?;
+        let own = self.declared(at, name, effort)?;
         if !is_nothing(&own) {
             return Ok(own);
         }
-        let parameters = self.parameters(at, name)?;
+        let parameters = self.parameters(at, name, effort)?;
         if !is_nothing(&parameters) {
             return Ok(parameters);
         }
-        let finds = self.above(levels, at, name)?;
+        let finds = self.above(levels, at, name, effort)?;
         Ok(finds)
     }
 
@@ -46,6 +53,7 @@ impl<'a> MemberTypes<'a> {
         levels: usize,
         innermost: Found<'a>,
         name: &str,
+        effort: &mut Effort,
     ) -> Result<Finds<'a>, Stop<'a>>
         requires placed { IsPlaced self.now.table.now (find_of innermost) }
         requires there { is_some (node_at innermost.unit.now innermost.path.items) ≡ true }
@@ -56,7 +64,7 @@ impl<'a> MemberTypes<'a> {
     {
         let mut here = innermost;
         loop {
-            let finds = self.in_element(levels, &here, name)?;
+            let finds = self.in_element(levels, &here, name, effort)?;
             if !is_nothing(&finds) {
                 return Ok(finds);
             }
@@ -69,7 +77,13 @@ impl<'a> MemberTypes<'a> {
 
     // In the `extends` or `implements` clause of an element that is there: its type parameters, and then what
     // is around it.
-    fn in_header(&self, levels: usize, at: Found<'a>, name: &str) -> Result<Finds<'a>, Stop<'a>>
+    fn in_header(
+        &self,
+        levels: usize,
+        at: Found<'a>,
+        name: &str,
+        effort: &mut Effort,
+    ) -> Result<Finds<'a>, Stop<'a>>
         requires placed { IsPlaced self.now.table.now (find_of at) }
         requires there { is_some (node_at at.unit.now at.path.items) ≡ true }
         requires right { AreRight self.now }
@@ -77,7 +91,7 @@ impl<'a> MemberTypes<'a> {
             (λ members. header_finds members (find_of at.entry) name.now) }
         ensures wanted { IfErr result (IsWanted self.now.table.now) }
     {
-        let parameters = self.parameters(&at, name)?;
+        let parameters = self.parameters(&at, name, effort)?;
         if !is_nothing(&parameters) {
             return Ok(parameters);
         }
@@ -85,7 +99,7 @@ impl<'a> MemberTypes<'a> {
         match above.path.pop() {
             None => Ok(Finds::Nothing),
             Some(_) => {
-                let finds = self.in_elements(levels, above, name)?;
+                let finds = self.in_elements(levels, above, name, effort)?;
                 Ok(finds)
             }
         }
@@ -97,6 +111,7 @@ impl<'a> MemberTypes<'a> {
         header: bool,
         at: &Found<'a>,
         name: &str,
+        effort: &mut Effort,
     ) -> Result<Finds<'a>, Stop<'a>>
         requires placed { IsPlaced self.now.table.now (find_of at.now) }
         requires right { AreRight self.now }
@@ -109,34 +124,40 @@ impl<'a> MemberTypes<'a> {
         }
         let innermost = copied(self.alloc, at)?;
         if header {
-            let finds = self.in_header(levels, innermost, name)?;
+            let finds = self.in_header(levels, innermost, name, effort)?;
             return Ok(finds);
         }
-        let finds = self.in_elements(levels, innermost, name)?;
+        let finds = self.in_elements(levels, innermost, name, effort)?;
         Ok(finds)
     }
 
     // The types of the file, single imports, the types of the package, and imports on demand together with
     // `java.lang`.
-    fn in_unit(&self, levels: usize, at: &Found<'a>, name: &str) -> Result<Finds<'a>, Stop<'a>>
+    fn in_unit(
+        &self,
+        levels: usize,
+        at: &Found<'a>,
+        name: &str,
+        effort: &mut Effort,
+    ) -> Result<Finds<'a>, Stop<'a>>
         requires right { AreRight self.now }
         ensures value { Tells result self.now levels
             (λ members. in_unit (tops_in self.now) members at.now.part at.now.unit.now name.now) }
         ensures wanted { IfErr result (IsWanted self.now.table.now) }
     {
-        let own = self.of_file(at, name)?;
+        let own = self.of_file(at, name, effort)?;
         if !is_nothing(&own) {
             return Ok(own);
         }
-        let single = self.single_imports(levels, at, name)?;
+        let single = self.single_imports(levels, at, name, effort)?;
         if !is_nothing(&single) {
             return Ok(single);
         }
-        let beside = self.beside(at, name)?;
+        let beside = self.beside(at, name, effort)?;
         if !is_nothing(&beside) {
             return Ok(beside);
         }
-        let finds = self.on_demand_imports(levels, at, name)?;
+        let finds = self.on_demand_imports(levels, at, name, effort)?;
         Ok(finds)
     }
 
@@ -147,6 +168,7 @@ impl<'a> MemberTypes<'a> {
         header: bool,
         at: &Found<'a>,
         name: &str,
+        effort: &mut Effort,
     ) -> Result<Finds<'a>, Stop<'a>>
         requires placed { IsPlaced self.now.table.now (find_of at.now) }
         requires right { AreRight self.now }
@@ -154,11 +176,11 @@ impl<'a> MemberTypes<'a> {
             (λ members. simple (tops_in self.now) members (scope_of header (find_of at.now)) name.now) }
         ensures wanted { IfErr result (IsWanted self.now.table.now) }
     {
-        let near = self.in_scope(levels, header, at, name)?;
+        let near = self.in_scope(levels, header, at, name, effort)?;
         if !is_nothing(&near) {
             return Ok(near);
         }
-        let finds = self.in_unit(levels, at, name)?;
+        let finds = self.in_unit(levels, at, name, effort)?;
         Ok(finds)
     }
 }

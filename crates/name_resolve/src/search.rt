@@ -3,6 +3,7 @@
 ghost use Rattle.std.specs.Prelude.{◌≡◌, ◌+◌, ◌<◌, true, false, length, take, filter, nat_lt, vec_len, IfErr, OnErr};
 ghost use Rattle.name_resolve.specs.Remembered.{IsQuestion, AreQuestions, IsWanted, AreRight, AreSteady, IsNext, IsNextAnswer, AreUnsettled, Stays, KeepsFront};
 
+use crate::effort::Effort;
 use crate::finds::Finds;
 use crate::member_types::{MemberTypes, Settled, key_of};
 use crate::memory::{Question, Stop, Wanted};
@@ -54,7 +55,7 @@ impl<'a> MemberTypes<'a> {
     }
 
     // What is found of a question with one level more than in its last answer.
-    fn next_answer(&self, place: usize) -> Result<Finds<'a>, Stop<'a>>
+    fn next_answer(&self, place: usize, effort: &mut Effort) -> Result<Finds<'a>, Stop<'a>>
         requires known { place < length self.now.questions.items }
         requires right { AreRight self.now }
         ensures value { IsNext self.now place result }
@@ -64,7 +65,7 @@ impl<'a> MemberTypes<'a> {
         let Some(levels) = question.answers.len().checked_sub(1) else {
             return Err(Stop::Memory);
         };
-        let finds = self.inherited(levels, &question.of, question.name.as_str())?;
+        let finds = self.inherited(levels, &question.of, question.name.as_str(), effort)?;
         Ok(finds)
     }
 
@@ -85,7 +86,12 @@ impl<'a> MemberTypes<'a> {
     // Gives the questions from a place on their answers with up to this many levels. What these ask for is
     // asked, and gets its own answers before. Those in front of the place stay as they are.
     #[cycle(answering)]
-    fn answer_from(&mut self, first: usize, levels: usize) -> Result<(), NoMemory>
+    fn answer_from(
+        &mut self,
+        first: usize,
+        levels: usize,
+        effort: &mut Effort,
+    ) -> Result<(), NoMemory>
         requires unsettled { AreUnsettled self.old first }
         requires right { AreRight self.old }
         ensures right { AreRight self.new }
@@ -101,7 +107,7 @@ impl<'a> MemberTypes<'a> {
                 place += 1;
                 continue;
             }
-            self.answer_next(place, levels)?;
+            self.answer_next(place, levels, effort)?;
         }
         Err(NoMemory)
     }
@@ -109,7 +115,12 @@ impl<'a> MemberTypes<'a> {
     // Gives a question its next answer, which is one with up to this many levels; or asks what that one needs
     // and gives this its answers with fewer levels.
     #[cycle(answering)]
-    fn answer_next(&mut self, place: usize, levels: usize) -> Result<(), NoMemory>
+    fn answer_next(
+        &mut self,
+        place: usize,
+        levels: usize,
+        effort: &mut Effort,
+    ) -> Result<(), NoMemory>
         requires known { place < length self.old.questions.items }
         requires unsettled { AreUnsettled self.old place }
         requires right { AreRight self.old }
@@ -117,16 +128,21 @@ impl<'a> MemberTypes<'a> {
         ensures stays { Stays self.old self.new }
         ensures front { KeepsFront self.old self.new place }
     {
-        match self.next_answer(place) {
+        match self.next_answer(place, effort) {
             Ok(finds) => self.add_answer(place, finds),
             Err(Stop::Memory) => Err(NoMemory),
-            Err(Stop::Wanted(wanted)) => self.ask_below(wanted, levels),
+            Err(Stop::Wanted(wanted)) => self.ask_below(wanted, levels, effort),
         }
     }
 
     // Asks questions, and gives them their answers with fewer levels than this.
     #[cycle(answering)]
-    fn ask_below(&mut self, wanted: Vec<Wanted<'a>>, levels: usize) -> Result<(), NoMemory>
+    fn ask_below(
+        &mut self,
+        wanted: Vec<Wanted<'a>>,
+        levels: usize,
+        effort: &mut Effort,
+    ) -> Result<(), NoMemory>
         requires wanted { AreQuestions self.old.table.now wanted.items }
         requires right { AreRight self.old }
         ensures right { AreRight self.new }
@@ -136,7 +152,7 @@ impl<'a> MemberTypes<'a> {
         let place = self.questions.len();
         self.ask_all(wanted)?;
         for fewer in 1..levels {
-            self.answer_from(place, fewer)?;
+            self.answer_from(place, fewer, effort)?;
         }
         Ok(())
     }
@@ -181,7 +197,7 @@ impl<'a> MemberTypes<'a> {
 
     // Asks questions and gives them their answers, as `learn` does. Where it runs out of memory those that
     // were asked before are as they were, and none of the new ones is settled.
-    fn search(&mut self, wanted: Vec<Wanted<'a>>) -> Result<(), NoMemory>
+    fn search(&mut self, wanted: Vec<Wanted<'a>>, effort: &mut Effort) -> Result<(), NoMemory>
         requires wanted { AreQuestions self.old.table.now wanted.items }
         requires right { AreRight self.old }
         ensures right { AreRight self.new }
@@ -192,7 +208,7 @@ impl<'a> MemberTypes<'a> {
         let first = self.questions.len();
         self.ask_all(wanted)?;
         for fewer in 0..LEVELS {
-            self.answer_from(first, fewer + 1)?;
+            self.answer_from(first, fewer + 1, effort)?;
             if self.settle(fewer, fewer + 1) {
                 return Ok(());
             }
@@ -214,7 +230,11 @@ impl<'a> MemberTypes<'a> {
     /// answers: with no level, with one and so on, until none of them changes any more or all 64 levels are
     /// gone through. Out of memory beyond 65,536 questions, or where the look-up has no steps left: then all
     /// that was asked is forgotten again, so that no question is left with too few answers.
-    pub(crate) fn learn(&mut self, wanted: Vec<Wanted<'a>>) -> Result<(), NoMemory>
+    pub(crate) fn learn(
+        &mut self,
+        wanted: Vec<Wanted<'a>>,
+        effort: &mut Effort,
+    ) -> Result<(), NoMemory>
         requires wanted { AreQuestions self.old.table.now wanted.items }
         requires right { AreRight self.old }
         ensures right { AreRight self.new }
@@ -222,7 +242,7 @@ impl<'a> MemberTypes<'a> {
         ensures forgotten { OnErr result (self.new.questions.items ≡ self.old.questions.items) }
     {
         let first = self.questions.len();
-        match self.search(wanted) {
+        match self.search(wanted, effort) {
             Ok(()) => Ok(()),
             Err(fault) => {
                 self.forget_from(first);

@@ -6,6 +6,7 @@ ghost use Rattle.name_resolve.specs.Placed.{IsPlaced};
 ghost use Rattle.name_resolve.specs.Remembered.{IsWanted, AreRight, Tells, tops_in};
 ghost use Rattle.name_resolve.specs.Shown.{find_of, super_of};
 
+use crate::effort::Effort;
 use crate::finds::{Finds, Found, is_nothing};
 use crate::gathering::gathered;
 use crate::headers::{Supertype, supertypes};
@@ -22,6 +23,7 @@ impl<'a> MemberTypes<'a> {
         header: bool,
         at: &Found<'a>,
         names: &[&str],
+        effort: &mut Effort,
     ) -> Result<Finds<'a>, Stop<'a>>
         requires placed { IsPlaced self.now.table.now (find_of at.now) }
         requires right { AreRight self.now }
@@ -32,12 +34,12 @@ impl<'a> MemberTypes<'a> {
         let Some((first, others)) = names.split_first() else {
             return Ok(Finds::Nothing);
         };
-        let near = self.simple(levels, header, at, *first)?;
+        let near = self.simple(levels, header, at, *first, effort)?;
         if is_nothing(&near) {
-            let finds = self.by_prefix(levels, at.part, names)?;
+            let finds = self.by_prefix(levels, at.part, names, effort)?;
             return Ok(finds);
         }
-        let finds = self.along(levels, near, others)?;
+        let finds = self.along(levels, near, others, effort)?;
         Ok(finds)
     }
 
@@ -48,6 +50,7 @@ impl<'a> MemberTypes<'a> {
         header: bool,
         at: &Found<'a>,
         names: &[&str],
+        effort: &mut Effort,
     ) -> Result<Finds<'a>, Stop<'a>>
         requires placed { IsPlaced self.now.table.now (find_of at.now) }
         requires right { AreRight self.now }
@@ -59,10 +62,10 @@ impl<'a> MemberTypes<'a> {
             return Ok(Finds::Nothing);
         };
         if others.is_empty() {
-            let finds = self.simple(levels, header, at, *first)?;
+            let finds = self.simple(levels, header, at, *first, effort)?;
             return Ok(finds);
         }
-        let finds = self.qualifier(levels, header, at, names)?;
+        let finds = self.qualifier(levels, header, at, names, effort)?;
         Ok(finds)
     }
 
@@ -72,6 +75,7 @@ impl<'a> MemberTypes<'a> {
         levels: usize,
         of: &Found<'a>,
         each: Supertype<'a>,
+        effort: &mut Effort,
     ) -> Result<Finds<'a>, Stop<'a>>
         requires placed { IsPlaced self.now.table.now (find_of of.now) }
         requires right { AreRight self.now }
@@ -82,20 +86,20 @@ impl<'a> MemberTypes<'a> {
         match each {
             Supertype::Written(text) => {
                 let names = names_in(self.alloc, text)?;
-                let finds = self.found(levels, true, of, names.as_slice())?;
+                let finds = self.found(levels, true, of, names.as_slice(), effort)?;
                 Ok(finds)
             }
             Supertype::Object => {
-                let finds = self.top(of.part, "java.lang.Object")?;
+                let finds = self.top(of.part, "java.lang.Object", effort)?;
                 Ok(finds)
             }
             Supertype::Enum => {
-                let finds = self.top(of.part, "java.lang.Enum")?;
+                let finds = self.top(of.part, "java.lang.Enum", effort)?;
                 Ok(finds)
             }
             Supertype::Annotation => {
                 let name = "java.lang.annotation.Annotation";
-                let finds = self.top(of.part, name)?;
+                let finds = self.top(of.part, name, effort)?;
                 Ok(finds)
             }
         }
@@ -108,6 +112,7 @@ impl<'a> MemberTypes<'a> {
         of: &Found<'a>,
         each: Supertype<'a>,
         name: &str,
+        effort: &mut Effort,
     ) -> Result<Finds<'a>, Stop<'a>>
         requires placed { IsPlaced self.now.table.now (find_of of.now) }
         requires right { AreRight self.now }
@@ -115,8 +120,8 @@ impl<'a> MemberTypes<'a> {
             (supertype_found (tops_in self.now) members (find_of of.now) (super_of each.entry)) name.now) }
         ensures wanted { IfErr result (IsWanted self.now.table.now) }
     {
-        let above = self.supertype(levels, of, each)?;
-        let finds = self.member_of(levels, above, name)?;
+        let above = self.supertype(levels, of, each, effort)?;
+        let finds = self.member_of(levels, above, name, effort)?;
         Ok(finds)
     }
 
@@ -126,6 +131,7 @@ impl<'a> MemberTypes<'a> {
         levels: usize,
         of: &Found<'a>,
         name: &str,
+        effort: &mut Effort,
     ) -> Result<Finds<'a>, Stop<'a>>
         requires placed { IsPlaced self.now.table.now (find_of of.now) }
         requires right { AreRight self.now }
@@ -136,7 +142,7 @@ impl<'a> MemberTypes<'a> {
         let list = supertypes(self.alloc, of)?;
         let mut all: Result<Finds<'a>, Vec<Wanted<'a>>> = Ok(Finds::Nothing);
         for each in &list {
-            let more = self.through(levels, of, *each, name);
+            let more = self.through(levels, of, *each, name, effort);
             all = gathered(all, more)?;
         }
         match all {

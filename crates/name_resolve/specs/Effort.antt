@@ -1,0 +1,6 @@
+-- What a look-up may take.
+use Rattle.std.specs.Prelude.{ℕ}
+
+-- how many steps there are
+abbrev pub most_steps : ℕ
+most_steps = 67108864
