@@ -19,7 +19,7 @@ use apt_base::{ElementRef, List, Name, NoMemory};
 use decl_elements::{Place, place_at};
 use decl_tree::{Member, TypeText, Unit};
 use element_table::Table;
-use name_resolve::{Finds, Found, Supertype, interfaces_at, superclass_at, top_level};
+use name_resolve::{Finds, Found, Looks, Supertype, interfaces_at, superclass_at, top_level};
 use std::alloc::Global;
 use type_mirror::{BaseMirror, Mirror};
 
@@ -38,7 +38,8 @@ fn mirror_at<'a>(
         header: false,
         at,
     };
-    mirror(alloc, &scope, text)
+    let mut looks = Looks::new(alloc, table);
+    mirror(alloc, &mut looks, &scope, text)
 }
 
 // The same in a package without a unit. Who calls holds the bare unit and lets it go.
@@ -112,13 +113,20 @@ fn itself(alloc: Global, of: &Found<'_>) -> Result<List<Mirror>, NoMemory>
 
 // The mirror of a supertype in the header of its type.
 #[tactic(auto, unfolding(name_resolve::specs::Mirrors::type_meaning))]
-fn supertype(alloc: Global, scope: &Scope<'_>, each: Supertype<'_>) -> Result<Mirror, NoMemory>
+fn supertype<'a>(
+    alloc: Global,
+    looks: &mut Looks<'a>,
+    scope: &Scope<'a>,
+    each: Supertype<'_>,
+) -> Result<Mirror, NoMemory>
     requires scope { IsScope scope.now }
     requires header { scope.now.header ≡ true }
-    ensures { IfOk result (λ m. m ≡ supertype_in scope.now each.entry) }
+    requires table { looks.old ≡ scope.now.table.now }
+    ensures value { IfOk result (λ m. m ≡ supertype_in scope.now each.entry) }
+    ensures kept { looks.new ≡ looks.old }
 {
     match each {
-        Supertype::Written(text) => mirror(alloc, scope, text),
+        Supertype::Written(text) => mirror(alloc, looks, scope, text),
         Supertype::Object => implied(alloc, scope, "java.lang.Object", List::new(alloc)),
         Supertype::Enum => {
             let arguments = itself(alloc, &scope.at)?;
@@ -141,7 +149,10 @@ fn superclass_in(alloc: Global, scope: &Scope<'_>) -> Result<Mirror, NoMemory>
 {
     match superclass_at(&scope.at) {
         None => Ok(Mirror::plain(alloc, BaseMirror::Nothing)),
-        Some(each) => supertype(alloc, scope, each),
+        Some(each) => {
+            let mut looks = Looks::new(alloc, scope.table);
+            supertype(alloc, &mut looks, scope, each)
+        }
     }
 }
 
@@ -154,9 +165,10 @@ fn all_supertypes(
     requires header { scope.now.header ≡ true }
     ensures { IfOk result (λ all. all ≡ supertypes_in scope.now list.now) }
 {
+    let mut looks = Looks::new(alloc, scope.table);
     let mut mirrors = List::new(alloc);
     for each in list {
-        let one = supertype(alloc, scope, *each)?;
+        let one = supertype(alloc, &mut looks, scope, *each)?;
         mirrors.push(one)?;
     }
     Ok(mirrors)

@@ -110,19 +110,29 @@ fn found_type(
     }
 }
 
-fn whole<'a>(alloc: Global, scope: &Scope<'a>, names: &[&str]) -> Result<Finds<'a>, NoMemory>
-    requires { IsScope scope.now }
-    ensures { Gives result ((look_in scope.now).whole (lent names.now)) }
+fn whole<'a>(
+    looks: &mut Looks<'a>,
+    scope: &Scope<'a>,
+    names: &[&str],
+) -> Result<Finds<'a>, NoMemory>
+    requires scope { IsScope scope.now }
+    requires table { looks.old ≡ scope.now.table.now }
+    ensures value { Gives result ((look_in scope.now).whole (lent names.now)) }
+    ensures kept { looks.new ≡ looks.old }
 {
-    let mut looks = Looks::new(alloc, scope.table);
     looks.meaning(scope.header, &scope.at, names)
 }
 
-fn front<'a>(alloc: Global, scope: &Scope<'a>, names: &[&str]) -> Result<Finds<'a>, NoMemory>
-    requires { IsScope scope.now }
-    ensures { Gives result ((look_in scope.now).front (lent names.now)) }
+fn front<'a>(
+    looks: &mut Looks<'a>,
+    scope: &Scope<'a>,
+    names: &[&str],
+) -> Result<Finds<'a>, NoMemory>
+    requires scope { IsScope scope.now }
+    requires table { looks.old ≡ scope.now.table.now }
+    ensures value { Gives result ((look_in scope.now).front (lent names.now)) }
+    ensures kept { looks.new ≡ looks.old }
 {
-    let mut looks = Looks::new(alloc, scope.table);
     looks.qualifier_meaning(scope.header, &scope.at, names)
 }
 
@@ -137,81 +147,117 @@ fn or_none(alloc: Global, arguments: Option<List<Mirror>>) -> List<Mirror>
 }
 
 // What all names of a class type mean.
-fn whole_type(
+fn whole_type<'a>(
     alloc: Global,
-    scope: &Scope<'_>,
+    looks: &mut Looks<'a>,
+    scope: &Scope<'a>,
     names: &[&str],
     parts: &[NamedPart],
     enclosing: Option<Mirror>,
     arguments: Option<List<Mirror>>,
 ) -> Result<Mirror, NoMemory>
-    requires { IsScope scope.now }
-    ensures { IfOk result (λ m. m ≡ whole_in scope.now (lent names.now) parts.now enclosing arguments) }
+    requires scope { IsScope scope.now }
+    requires table { looks.old ≡ scope.now.table.now }
+    ensures value { IfOk result (λ m. m ≡ whole_in scope.now (lent names.now) parts.now enclosing arguments) }
+    ensures kept { looks.new ≡ looks.old }
 {
-    let finds = whole(alloc, scope, names)?;
+    let finds = whole(looks, scope, names)?;
     found_type(alloc, &finds, parts, enclosing, or_none(alloc, arguments))
 }
 
 // What encloses the next name: what the names so far mean, where arguments are written on one of them.
-fn next_enclosing(
+fn next_enclosing<'a>(
     alloc: Global,
-    scope: &Scope<'_>,
+    looks: &mut Looks<'a>,
+    scope: &Scope<'a>,
     names: &[&str],
     parts: &[NamedPart],
     enclosing: Option<Mirror>,
     arguments: Option<List<Mirror>>,
 ) -> Result<Option<Mirror>, NoMemory>
-    requires { IsScope scope.now }
-    ensures { IfOk result (λ o. o ≡ enclosing_in scope.now (lent names.now) parts.now enclosing arguments) }
+    requires scope { IsScope scope.now }
+    requires table { looks.old ≡ scope.now.table.now }
+    ensures value { IfOk result (λ o. o ≡ enclosing_in scope.now (lent names.now) parts.now enclosing arguments) }
+    ensures kept { looks.new ≡ looks.old }
 {
     if enclosing.is_some() || arguments.is_some() {
-        let finds = front(alloc, scope, names)?;
+        let finds = front(looks, scope, names)?;
         let here = found_type(alloc, &finds, parts, enclosing, or_none(alloc, arguments))?;
         return Ok(Some(here));
     }
     Ok(None)
 }
 
-/// The mirror that a type means in a scope.
+/// The mirror that a type means in a scope, by look-ups over its table.
 #[cycle(mirror)]
 #[tactic(auto, using(crate::proofs::MirrorLemmas::by_parts))]
-pub(crate) fn mirror(alloc: Global, scope: &Scope<'_>, text: &TypeText) -> Result<Mirror, NoMemory>
-    requires { IsScope scope.now }
-    ensures { IfOk result (λ m. m ≡ type_mirror_in scope.now text.now) }
+pub(crate) fn mirror<'a>(
+    alloc: Global,
+    looks: &mut Looks<'a>,
+    scope: &Scope<'a>,
+    text: &TypeText,
+) -> Result<Mirror, NoMemory>
+    requires scope { IsScope scope.now }
+    requires table { looks.old ≡ scope.now.table.now }
+    ensures value { IfOk result (λ m. m ≡ type_mirror_in scope.now text.now) }
+    ensures kept { looks.new ≡ looks.old }
 {
-    let base = base_type(alloc, scope, &text.base)?;
+    let base = base_type(alloc, looks, scope, &text.base)?;
     base.wrapped(alloc, &text.around)
 }
 
 #[cycle(mirror)]
 #[tactic(auto, using(crate::proofs::MirrorLemmas::by_parts))]
-fn base_type(alloc: Global, scope: &Scope<'_>, of: &BaseType) -> Result<Mirror, NoMemory>
-    requires { IsScope scope.now }
-    ensures { IfOk result (λ m. m ≡ base_mirror_in scope.now of.now) }
+fn base_type<'a>(
+    alloc: Global,
+    looks: &mut Looks<'a>,
+    scope: &Scope<'a>,
+    of: &BaseType,
+) -> Result<Mirror, NoMemory>
+    requires scope { IsScope scope.now }
+    requires table { looks.old ≡ scope.now.table.now }
+    ensures value { IfOk result (λ m. m ≡ base_mirror_in scope.now of.now) }
+    ensures kept { looks.new ≡ looks.old }
 {
     match of {
         BaseType::Primitive(kind) => Ok(Mirror::plain(alloc, primitive_base(*kind))),
-        BaseType::Named(parts) => named_type(alloc, scope, parts.as_slice()),
+        BaseType::Named(parts) => named_type(alloc, looks, scope, parts.as_slice()),
         BaseType::Wildcard => Ok(Mirror::plain(alloc, BaseMirror::Wildcard)),
     }
 }
 
 // A class type or a type variable. What the first names mean is looked up only where it encloses the next one.
 #[cycle(mirror)]
-fn named_type(alloc: Global, scope: &Scope<'_>, parts: &[NamedPart]) -> Result<Mirror, NoMemory>
-    requires { IsScope scope.now }
-    ensures { IfOk result (λ m. m ≡ class_mirror_in scope.now parts.now) }
+fn named_type<'a>(
+    alloc: Global,
+    looks: &mut Looks<'a>,
+    scope: &Scope<'a>,
+    parts: &[NamedPart],
+) -> Result<Mirror, NoMemory>
+    requires scope { IsScope scope.now }
+    requires table { looks.old ≡ scope.now.table.now }
+    ensures value { IfOk result (λ m. m ≡ class_mirror_in scope.now parts.now) }
+    ensures kept { looks.new ≡ looks.old }
 {
     let mut names: Vec<&str> = Vec::new(alloc);
     let mut enclosing = None;
     for part in parts {
         names.push(part.name.as_str())?;
-        let arguments = arguments_of(alloc, scope, part)?;
+        let arguments = arguments_of(alloc, looks, scope, part)?;
         let here = &parts[..names.len()];
         if names.len() == parts.len() {
-            return whole_type(alloc, scope, names.as_slice(), here, enclosing, arguments);
+            return whole_type(
+                alloc,
+                looks,
+                scope,
+                names.as_slice(),
+                here,
+                enclosing,
+                arguments,
+            );
         }
-        enclosing = next_enclosing(alloc, scope, names.as_slice(), here, enclosing, arguments)?;
+        let front = names.as_slice();
+        enclosing = next_enclosing(alloc, looks, scope, front, here, enclosing, arguments)?;
     }
     Ok(error_type(alloc, String::new(alloc)))
 }
@@ -219,31 +265,41 @@ fn named_type(alloc: Global, scope: &Scope<'_>, parts: &[NamedPart]) -> Result<M
 // The arguments of a name, or `None` where none are written.
 #[cycle(mirror)]
 #[tactic(auto, using(crate::proofs::MirrorLemmas::by_parts))]
-fn arguments_of(
+fn arguments_of<'a>(
     alloc: Global,
-    scope: &Scope<'_>,
+    looks: &mut Looks<'a>,
+    scope: &Scope<'a>,
     part: &NamedPart,
 ) -> Result<Option<List<Mirror>>, NoMemory>
-    requires { IsScope scope.now }
-    ensures { IfOk result (λ list. list ≡ arguments_in scope.now part.now) }
+    requires scope { IsScope scope.now }
+    requires table { looks.old ≡ scope.now.table.now }
+    ensures value { IfOk result (λ list. list ≡ arguments_in scope.now part.now) }
+    ensures kept { looks.new ≡ looks.old }
 {
     match &part.arguments {
         None => Ok(None),
         Some(list) => {
-            let mirrors = mirrors(alloc, scope, list.as_slice())?;
+            let mirrors = mirrors(alloc, looks, scope, list.as_slice())?;
             Ok(Some(mirrors))
         }
     }
 }
 
 #[cycle(mirror)]
-fn mirrors(alloc: Global, scope: &Scope<'_>, texts: &[TypeText]) -> Result<List<Mirror>, NoMemory>
-    requires { IsScope scope.now }
-    ensures { IfOk result (λ list. list ≡ map (type_mirror_in scope.now) texts.now) }
+fn mirrors<'a>(
+    alloc: Global,
+    looks: &mut Looks<'a>,
+    scope: &Scope<'a>,
+    texts: &[TypeText],
+) -> Result<List<Mirror>, NoMemory>
+    requires scope { IsScope scope.now }
+    requires table { looks.old ≡ scope.now.table.now }
+    ensures value { IfOk result (λ list. list ≡ map (type_mirror_in scope.now) texts.now) }
+    ensures kept { looks.new ≡ looks.old }
 {
     let mut list = List::new(alloc);
     for each in texts {
-        let one = mirror(alloc, scope, each)?;
+        let one = mirror(alloc, looks, scope, each)?;
         list.push(one)?;
     }
     Ok(list)

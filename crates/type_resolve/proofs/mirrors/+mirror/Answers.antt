@@ -9,15 +9,15 @@ use Rattle.type_resolve.specs.Spelling.{parts_spelled}
 use Rattle.type_resolve.proofs.MirrorLemmas.{arguments-is, class-last, class-next, names-more, counted, gives_as}
 use Rattle.type_resolve.proofs.mirrors.+mirror.Goals as goal
 
-pub arguments_of-returns-in_ok-mirrors-in-Some : goal.arguments_of-returns-in_ok-mirrors-in-Some
-arguments_of-returns-in_ok-mirrors-in-Some t c =
+pub arguments_of-returns-in_ok-mirrors-in-Some-clause-value : goal.arguments_of-returns-in_ok-mirrors-in-Some-clause-value
+arguments_of-returns-in_ok-mirrors-in-Some-clause-value t c =
     let look = look_in c.args.scope.now in
     let each : List TypeText → List Mirror = map (λ t. (meant look t).mirror) in
-    ap (λ (ms : List Mirror). Some ms) (c.in_ok-mirrors-in-Some.ensures ∙ ap each c.as_slice.ensures) ∙ ap (option_map each) (sym c.in-Some.is) ∙ sym (arguments-is look c.args.part.now)
+    ap (λ (ms : List Mirror). Some ms) (c.in_ok-mirrors-in-Some.ensures.value ∙ ap each c.as_slice.ensures) ∙ ap (option_map each) (sym c.in-Some.is) ∙ sym (arguments-is look c.args.part.now)
 
 -- the last name
-pub named_type-returns-then-len-parts : goal.named_type-returns-then-len-parts
-named_type-returns-then-len-parts t c =
+pub named_type-returns-then-len-parts-clause-value : goal.named_type-returns-then-len-parts-clause-value
+named_type-returns-then-len-parts-clause-value t c =
     let look = look_in c.args.scope.now in
     let parts = c.args.parts.now in
     let i = c.loop-part.part-index in
@@ -32,11 +32,11 @@ named_type-returns-then-len-parts t c =
     let size : c.len.result ≡ i + 1 = front ∙ many in
     let last : i + 1 ≡ length parts = omega (arith, many, tested, c.if-len-parts.true) in
     let slice : lent c.as_slice.result.now ≡ map part_name (take (i + 1) parts) = ap lent c.as_slice.ensures.value ∙ names in
-    let arguments : c.in_ok-arguments.arguments ≡ (part_meant look part).arguments = c.in_ok-arguments.ensures in
+    let arguments : c.in_ok-arguments.arguments ≡ (part_meant look part).arguments = c.in_ok-arguments.ensures.value in
     gives_as c.whole_type.result _ _
     ((λ k. whole_mirror look (slice k) (parts_spelled (take (size k) parts)) c.loop-part.enclosing (arguments k)) ∙ sym (class-last look parts i part within c.part-item.is c.loop-part.enclosing last)
     ∙ c.loop-part.invariant.1)
-    c.whole_type.ensures
+    c.whole_type.ensures.value
 
 -- any other name
 pub named_type-loop-part-preserved : goal.named_type-loop-part-preserved
@@ -54,11 +54,12 @@ named_type-loop-part-preserved t c =
     let tested : c.len-in-loop-part.result ≡ length c.push.new.self.items = search rules in
     let size : c.len.result ≡ i + 1 = front ∙ many in
     let more : i + 1 < length parts = omega (arith, within, many, tested, c.if-len-parts.false) in
-    let slice : lent c.as_slice-in-loop-part.result.now ≡ map part_name (take (i + 1) parts) = ap lent c.as_slice-in-loop-part.ensures.value ∙ names in
-    let arguments : c.in_ok-arguments.arguments ≡ (part_meant look part).arguments = c.in_ok-arguments.ensures in
+    let slice : lent c.as_slice-front.result.now ≡ map part_name (take (i + 1) parts) = ap lent c.as_slice-front.ensures.value ∙ names in
+    let arguments : c.in_ok-arguments.arguments ≡ (part_meant look part).arguments = c.in_ok-arguments.ensures.value in
     let enclosing : c.in_ok-enclosing.enclosing ≡ next_enclosing look (map part_name (take (i + 1) parts)) (parts_spelled (take (i + 1) parts)) c.loop-part.enclosing (part_meant look part).arguments =
-    c.in_ok-enclosing.ensures ∙ (λ k. next_enclosing look (slice k) (parts_spelled (take (size k) parts)) c.loop-part.enclosing (arguments k)) in (
+    c.in_ok-enclosing.ensures.value ∙ (λ k. next_enclosing look (slice k) (parts_spelled (take (size k) parts)) c.loop-part.enclosing (arguments k)) in (
       names,
       ap (λ (o : Option Mirror). class_from look (map part_name (take (i + 1) parts)) (fronts_text (take (i + 1) parts)) o (map (part_meant look) (drop (i + 1) parts))) enclosing
           ∙ sym (class-next look parts i part within c.part-item.is c.loop-part.enclosing more) ∙ c.loop-part.invariant.1,
+      cc (c.in_ok-enclosing.ensures.kept, c.in_ok-arguments.ensures.kept, c.loop-part.invariant.2),
     )
