@@ -16,6 +16,11 @@ either-none Yes = refl
 either-none Open = refl
 either-none No = refl
 
+either-yes : (a : Answer) → either a Yes ≡ Yes
+either-yes Yes = refl
+either-yes Open = refl
+either-yes No = refl
+
 either-joined : (a b c : Answer) → either a (either b c) ≡ either (either a b) c
 either-joined Yes b c = refl
 either-joined No b c = refl
@@ -116,6 +121,18 @@ module _ (listed : Listed) (c : ElementRef) (places : List ℕ) where
         ∙ ap (λ (a : Answer). either answer (either a (any (answer_at t) (drop (i + 1) places)))) (sym here)
         ∙ ap (λ (ps : List ℕ). either answer (any (answer_at t) ps)) (sym (drop_more places i 0 h))
         ∙ inv
+
+    -- one that does is enough
+    pub displaced_yes : (i : ℕ) (x : ElementRef) (answer one : Answer) → map (member_at listed c) places ≡ of_its_name listed c → AreWithin listed places → i < length places
+        → x ≡ get_or listed.list (get_or places i 0) x → one ≡ displaces listed.table t x c → one ≡ Yes
+        → either answer (any (answer_at t) (drop i places)) ≡ any (answer_at t) places → Yes ≡ is_displaced listed.table t listed.list c
+    displaced_yes i x answer one named within h e found told inv =
+        let here : answer_at t (get_or places i 0) ≡ Yes = ap (λ (m : ElementRef). displaces listed.table t m c) (stands i x within h e) ∙ sym found ∙ told in
+        sym (either-yes answer)
+        ∙ ap (λ (a : Answer). either answer (either a (any (answer_at t) (drop (i + 1) places)))) (sym here)
+        ∙ ap (λ (ps : List ℕ). either answer (any (answer_at t) ps)) (sym (drop_more places i 0 h))
+        ∙ inv
+        ∙ displaced named
 
     pub displaced_all : (i : ℕ) (answer : Answer) → map (member_at listed c) places ≡ of_its_name listed c → i ≡ length places
         → either answer (any (answer_at t) (drop i places)) ≡ any (answer_at t) places → answer ≡ is_displaced listed.table t listed.list c

@@ -1,5 +1,6 @@
 pub mod AddedMembers
 pub mod AskedMembers
+pub mod DisplacingMethods
 pub mod GatheredMembers
 pub mod MoreLevels
 pub mod OneName

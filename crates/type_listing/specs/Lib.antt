@@ -1,3 +1,4 @@
+pub mod Displacing
 pub mod Listings
 pub mod MemberLaws
 pub mod Members

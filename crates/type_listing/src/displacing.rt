@@ -1,17 +1,16 @@
 // Which members are inherited, and which a member hides or overrides.
 ghost use Rattle.std.specs.Prelude.{◌≡◌, IfOk};
 ghost use Rattle.type_elements.specs.ShownNames.{shown_name};
+ghost use Rattle.type_listing.specs.Displacing.{displaces_in, hides_by_name_in, hides_method_in};
 ghost use Rattle.type_listing.specs.Members as members;
 
 use apt_base::{ElementRef, NoMemory};
 use element_table::Table;
-use std::alloc::Global;
 use type_elements::{
     MemberName, are_namesakes, is_constructor, is_private, is_static, member_name, package_allows,
 };
 use type_levels::Answer;
-use type_numbers::Types;
-use type_overriding::{has_subsignature, overrides};
+use type_overriding::Methods;
 
 /// Whether a type inherits an element from a supertype that has it as a member, unless another member displaces it. It takes no memory.
 pub(crate) fn is_inherited(table: &Table, by: &ElementRef, at: &ElementRef) -> bool
@@ -37,39 +36,48 @@ fn hides_by_name(one: MemberName<'_>, other: MemberName<'_>) -> bool
     }
 }
 
+// The same of two members.
+fn has_same_name(table: &Table, one: &ElementRef, other: &ElementRef) -> bool
+    ensures { result ≡ hides_by_name_in table.now one.now other.now }
+{
+    hides_by_name(member_name(table, one), member_name(table, other))
+}
+
 // A static method hides those of which it has a subsignature in a type.
+#[tactic(auto, using(crate::proofs::DisplacingMethods::displacing))]
 fn hides_method(
-    alloc: Global,
     table: &Table,
-    types: &mut Types,
-    within: &ElementRef,
+    methods: &mut Methods<'_>,
     one: &ElementRef,
     other: &ElementRef,
 ) -> Result<Answer, NoMemory>
-    ensures { IfOk result (λ r. r ≡ members.hides_method table.now within.now one.now other.now) }
+    requires { methods.old.table ≡ table.now }
+    ensures answer { IfOk result (λ r. r ≡ hides_method_in table.now methods.old one.now other.now) }
+    ensures kept { methods.new ≡ methods.old }
 {
     if !is_static(table, one) || !are_namesakes(table, one, other) {
         return Ok(Answer::No);
     }
-    has_subsignature(alloc, table, types, within, one, other)
+    let answer = methods.has_subsignature(one, other)?;
+    Ok(answer)
 }
 
-/// Whether the first member hides or overrides the second one in a type.
-#[tactic(auto, unfolding(crate::specs::Members::displaces))]
+/// Whether the first member hides or overrides the second one in the type of these methods.
+#[tactic(auto, using(crate::proofs::DisplacingMethods::displacing))]
 pub(crate) fn displaces(
-    alloc: Global,
     table: &Table,
-    types: &mut Types,
-    within: &ElementRef,
+    methods: &mut Methods<'_>,
     one: &ElementRef,
     other: &ElementRef,
 ) -> Result<Answer, NoMemory>
-    ensures { IfOk result (λ r. r ≡ members.displaces table.now within.now one.now other.now) }
+    requires { methods.old.table ≡ table.now }
+    ensures answer { IfOk result (λ r. r ≡ displaces_in table.now methods.old one.now other.now) }
+    ensures kept { methods.new ≡ methods.old }
 {
-    if hides_by_name(member_name(table, one), member_name(table, other)) {
+    if has_same_name(table, one, other) {
         return Ok(Answer::Yes);
     }
-    let hidden = hides_method(alloc, table, types, within, one, other)?;
-    let overridden = overrides(alloc, table, types, one, other, within)?;
+    let hidden = hides_method(table, methods, one, other)?;
+    let overridden = methods.overrides(one, other)?;
     Ok(hidden.or(overridden))
 }

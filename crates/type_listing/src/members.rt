@@ -2,9 +2,11 @@
 ghost use Rattle.std.specs.Prelude.{◌≡◌, IfOk, OnOk};
 ghost use Rattle.apt_base.specs.Limits.{max_type_steps};
 ghost use Rattle.type_elements.specs.MemberElements as elements;
+ghost use Rattle.type_listing.specs.Displacing.{is_displaced_in, is_yes};
 ghost use Rattle.type_listing.specs.Members as members;
 ghost use Rattle.type_listing.specs.Listings.{listing_of, IsDue, AreDue};
 ghost use Rattle.type_listing.specs.Remembered.{AreKnownWithin};
+ghost use Rattle.type_overriding.specs.Methods.{container_of};
 
 use crate::budget::Compared;
 use crate::displacing::{displaces, is_inherited};
@@ -16,7 +18,7 @@ use element_table::Table;
 use std::alloc::Global;
 use type_elements::{class_elements, enclosed};
 use type_levels::Answer;
-use type_numbers::Types;
+use type_overriding::Methods;
 use type_relations::header_types;
 
 // ---- one member
@@ -35,20 +37,33 @@ fn is_among(list: &Listing<'_>, at: &ElementRef, budget: &mut Compared) -> Resul
     Ok(false)
 }
 
-// Whether one of the list hides or overrides a member in a type: those of its name are asked alone, which are counted where it is looked for among them.
+fn is_yes(answer: Answer) -> bool
+    ensures { result ≡ is_yes answer }
+{
+    match answer {
+        Answer::Yes => true,
+        Answer::Open => false,
+        Answer::No => false,
+    }
+}
+
+// Whether one of the list hides or overrides a member in the type of these methods: those of its name are asked alone, up to the first one that does. They are counted where it is looked for among them.
 fn is_displaced(
-    alloc: Global,
-    types: &mut Types,
-    within: &ElementRef,
+    methods: &mut Methods<'_>,
     list: &Listing<'_>,
     at: &ElementRef,
 ) -> Result<Answer, NoMemory>
-    ensures { IfOk result (λ r. r ≡ members.is_displaced list.now.table within.now list.now.list at.now) }
+    requires { methods.old.table ≡ list.now.table }
+    ensures answer { IfOk result (λ r. r ≡ is_displaced_in list.now.table methods.old list.now.list at.now) }
+    ensures kept { methods.new ≡ methods.old }
 {
     let places = list.places(at)?;
     let mut answer = Answer::No;
     for place in places {
-        let one = displaces(alloc, list.table(), types, within, list.get(*place), at)?;
+        let one = displaces(list.table(), methods, list.get(*place), at)?;
+        if is_yes(one) {
+            return Ok(Answer::Yes);
+        }
         answer = answer.or(one);
     }
     Ok(answer)
@@ -57,14 +72,16 @@ fn is_displaced(
 // Adds a member of a supertype, unless it is there, is not inherited, or one that is there hides or overrides it. False where the steps do not suffice to decide that, and the list is then as it was.
 fn add_inherited(
     alloc: Global,
-    types: &mut Types,
+    methods: &mut Methods<'_>,
     within: &ElementRef,
     list: &mut Listing<'_>,
     at: &ElementRef,
     budget: &mut Compared,
 ) -> Result<bool, NoMemory>
+    requires { methods.old ≡ container_of list.old.table within.now }
     ensures due { IfOk result (λ closed. IsDue closed list.old within.now at.now list.new.list) }
     ensures table { OnOk result (list.new.table ≡ list.old.table) }
+    ensures kept { methods.new ≡ methods.old }
 {
     if !is_inherited(list.table(), within, at) {
         return Ok(true);
@@ -72,7 +89,7 @@ fn add_inherited(
     if is_among(list, at, budget)? {
         return Ok(true);
     }
-    match is_displaced(alloc, types, within, list, at)? {
+    match is_displaced(methods, list, at)? {
         Answer::Yes => Ok(true),
         Answer::Open => Ok(false),
         Answer::No => {
@@ -89,17 +106,19 @@ fn add_inherited(
 // decide for one of them.
 fn add_all(
     alloc: Global,
-    types: &mut Types,
+    methods: &mut Methods<'_>,
     within: &ElementRef,
     list: &mut Listing<'_>,
     others: &[ElementRef],
     budget: &mut Compared,
 ) -> Result<bool, NoMemory>
+    requires { methods.old ≡ container_of list.old.table within.now }
     ensures due { IfOk result (λ closed. AreDue closed list.old within.now others.now list.new.list) }
     ensures table { OnOk result (list.new.table ≡ list.old.table) }
+    ensures kept { methods.new ≡ methods.old }
 {
     for each in others {
-        if !add_inherited(alloc, types, within, list, each, budget)? {
+        if !add_inherited(alloc, methods, within, list, each, budget)? {
             return Ok(false);
         }
     }
@@ -140,7 +159,6 @@ fn super_elements(
 #[cycle(listing)]
 fn known_members(
     alloc: Global,
-    types: &mut Types,
     remembered: &mut Remembered<'_>,
     levels: u32,
     at: &ElementRef,
@@ -156,15 +174,7 @@ fn known_members(
         return Ok(Some(known));
     }
     let supers = super_elements(alloc, remembered.table(), at)?;
-    match gathered(
-        alloc,
-        types,
-        remembered,
-        levels,
-        at,
-        supers.as_slice(),
-        budget,
-    )? {
+    match gathered(alloc, remembered, levels, at, supers.as_slice(), budget)? {
         None => Ok(None),
         Some(known) => {
             let copy = known.copy(alloc)?;
@@ -178,7 +188,6 @@ fn known_members(
 #[cycle(listing)]
 fn gathered(
     alloc: Global,
-    types: &mut Types,
     remembered: &mut Remembered<'_>,
     levels: u32,
     at: &ElementRef,
@@ -190,15 +199,23 @@ fn gathered(
     ensures kept { remembered.new ≡ remembered.old }
 {
     let mut list = own_listing(alloc, remembered.table(), at)?;
+    let mut methods = Methods::new(alloc, remembered.table(), at);
     let mut wanted: u32 = 0;
     for each in supers {
         if levels == 0 {
             return Ok(None);
         }
-        match known_members(alloc, types, remembered, levels - 1, each, budget)? {
+        match known_members(alloc, remembered, levels - 1, each, budget)? {
             None => return Ok(None),
             Some(above) => {
-                if !add_all(alloc, types, at, &mut list, above.list.as_slice(), budget)? {
+                if !add_all(
+                    alloc,
+                    &mut methods,
+                    at,
+                    &mut list,
+                    above.list.as_slice(),
+                    budget,
+                )? {
                     return Ok(None);
                 }
                 wanted = wanted.max(above.levels + 1);
@@ -221,17 +238,9 @@ pub fn all_members(
 ) -> Result<Option<List<ElementRef>>, NoMemory>
     ensures { IfOk result (λ list. list ≡ members.members table.now max_type_steps at.now) }
 {
-    let mut types = Types::new(alloc);
     let mut remembered = Remembered::new(alloc, table);
     let mut budget = Compared::new();
-    match known_members(
-        alloc,
-        &mut types,
-        &mut remembered,
-        MAX_TYPE_STEPS,
-        at,
-        &mut budget,
-    )? {
+    match known_members(alloc, &mut remembered, MAX_TYPE_STEPS, at, &mut budget)? {
         None => Ok(None),
         Some(known) => Ok(Some(known.list)),
     }

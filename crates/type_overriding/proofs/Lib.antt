@@ -1,7 +1,9 @@
 pub mod AskedByElements
 pub mod FirstEntries
 pub mod GrownTypes
+pub mod MethodSteps
 pub mod NodeSignatures
 pub mod OverridingSteps
+pub mod RememberedMethods
 pub mod RenamedNumbers
 pub mod SignaturesByNumbers

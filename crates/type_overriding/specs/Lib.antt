@@ -1,3 +1,4 @@
 pub mod ByElements
 pub mod ByNumbers
+pub mod Methods
 pub mod Overrides

@@ -74,7 +74,7 @@ pub fn may_override(table: &Table, one: &ElementRef, other: &ElementRef) -> bool
 
 // Of two types that may be open.
 #[tactic(auto, using(crate::proofs::OverridingSteps::signing))]
-fn signature_of(
+pub(crate) fn signature_of(
     alloc: Global,
     table: &Table,
     types: &mut Types,

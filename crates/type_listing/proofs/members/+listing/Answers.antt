@@ -1,5 +1,6 @@
 use Rattle.std.proofs.Common.{◌≡◌, ℕ, ◌+◌, ◌-◌, ◌≤◌, max, drop, None, Some, refl, sym, ap, subst, ◌∙◌, arith, rules}
 use Rattle.element_table.specs.TypeTable.{TypeTable}
+use Rattle.type_overriding.specs.Methods.{container_of}
 use Rattle.type_listing.specs.Members.{Elements, super_elements}
 use Rattle.type_listing.specs.Remembered.{AreKnownWithin, IsGathered}
 use Rattle.type_listing.proofs.GatheredMembers.{none-left, none-above, none-beside, one_gathered, all_gathered, known_here, begun, due_none, due_all, copy_known, recalled-open}
@@ -11,7 +12,11 @@ pub gathered-loop-each-init : goal.gathered-loop-each-init
 gathered-loop-each-init t c =
     let all : c.args.supers.now ≡ super_elements c.args.remembered.now c.args.at.now = search rules in
     let b = begun c.args.remembered.now c.table.result.now c.args.at.now c.args.supers.now c.in_ok-list.list c.table.ensures c.in_ok-list.ensures all in
-    (refl, b.0, omega arith, b.1)
+    (refl, b.0, omega arith, b.1, c.new-methods.ensures ∙ ap (λ (x : TypeTable). container_of x c.args.at.now) c.table-2.ensures)
+
+pub gathered-add_all-requires : goal.gathered-add_all-requires
+gathered-add_all-requires t c =
+    c.loop-each.invariant.4 ∙ ap (λ (x : TypeTable). container_of x c.args.at.now) (sym c.loop-each.invariant.1)
 
 pub gathered-returns-then-levels-eq0-clause-known : goal.gathered-returns-then-levels-eq0-clause-known
 gathered-returns-then-levels-eq0-clause-known t c =
@@ -58,6 +63,7 @@ gathered-loop-each-preserved t c =
           c.loop-each-test.true (sym c.each-item.is) c.loop-each.invariant.3 c.in-Some.above (c.args.levels - 1) c.add_all.new.list.list known
           (due_all c.args.remembered.now c.loop-each.list.table c.args.at.now c.in_ok-add_all-in-Some.field-0 c.loop-each.list.list c.as_slice.result.now c.in-Some.above.list
           c.add_all.new.list.list c.loop-each.invariant.1 c.as_slice.ensures c.if-not-branch.false c.in_ok-add_all-in-Some.ensures.due)),
+      c.in_ok-add_all-in-Some.ensures.kept ∙ c.loop-each.invariant.4,
     )
 
 pub gathered-returns-clause-known : goal.gathered-returns-clause-known
