@@ -15,7 +15,7 @@ use type_steps::direct_of;
 
 /// The types of one table by numbers, with the direct supertypes of each that was asked for them. Contracts see the table, and the types in the order of their numbers.
 #[derive(Drop)]
-pub(crate) struct KnownTypes<'a> {
+pub struct KnownTypes<'a> {
     alloc: Global,
     table: &'a Table,
     types: Types,

@@ -6,9 +6,9 @@ use type_levels::{Answer, Next, Pair, Relation};
 use type_mirror::Mirror;
 use type_subtypes::Subtypes;
 
-/// Subtypes (JLS 4.10) over the table of types that are known.
+/// Subtypes (JLS 4.10) over the table of types that are known, as a relation of types by their numbers.
 #[derive(Drop)]
-pub(crate) struct KnownSubtypes {
+pub struct KnownSubtypes {
     /// What gives memory to the search.
     pub alloc: Global,
 }

@@ -22,7 +22,7 @@ use Rattle.type_numbers.proofs.LayerMaps.{all_given}
 use Rattle.type_steps.proofs.LayersOfNumbers.{NoClass}
 use Rattle.type_subtypes.specs.Numbers.{numbered, sub_at, sup_at}
 use Rattle.type_subtypes.specs.Subtypes.{next_of}
-use Rattle.type_overriding.specs.ByElements.{next_by_elements}
+use Rattle.type_overriding.specs.ByElements.{are_of_one, next_by_elements}
 
 -- ---- the elements of class types
 
@@ -68,10 +68,6 @@ second-no-class n k denied =
     second_none (element_in (layer_of n)) ∙ ap (λ (x : Option ElementRef). same_class (element_in (layer_of n)) x) (no_element k denied)
 
 pub ruleset elements = (first-no-class, second-no-class)
-
--- two types are class types of one element
-abbrev pub are_of_one : List Mirror → Pair → Bool
-are_of_one t pair = same_class (class_element (sub_at t pair)) (class_element (sup_at t pair))
 
 -- they are where their nodes are
 pub nodes-of_one : (t : List Mirror) (pair : Pair) (n k : Node) (s : Bool) → with_types t (layer_of n) ≡ layer (sub_at t pair)
@@ -138,3 +134,27 @@ module _ (table : TypeTable) where
       subst (λ (x : TypeTable). Stands (numbered (next_of x) t') n (next_of x (sub_at t pair) (sup_at t pair))) same stands in
       stands_alike (next_of table) (next_by_elements table) t' n (next_of table (sub_at t pair) (sup_at t pair)) (next_by_elements table (sub_at t pair) (sup_at t pair))
       (sym (ap (by_test (sub_at t pair) (sup_at t pair)) (sym is ∙ e))) there
+
+-- ---- over tables of which the one asks as the other one
+
+module _ (table table' : TypeTable) (e : next_of table' ≡ next_of table) where
+  asks_alike : (a b : Mirror) → next_by_elements table' a b ≡ next_by_elements table a b
+  unfolding next_by_elements
+  asks_alike a b = ap (λ (asks : Mirror → Mirror → steps.Next Mirror). if same_class (class_element a) (class_element b) then steps.Decided Yes else asks a b) e
+
+  pub elements-alike : next_by_elements table' ≡ next_by_elements table
+  elements-alike = λ i a b. asks_alike a b i
+
+-- what a search of subtypes keeps, one by elements keeps too
+pub keeps-over : (table table' : TypeTable) (t t' : List Mirror) → numbered_types.Grows (numbered (next_of table) t) (numbered (next_of table') t')
+    → numbered_types.Grows (numbered (next_by_elements table) t) (numbered (next_by_elements table') t')
+keeps-over table table' t t' g = record { more = g.more; stands = g.stands; same = elements-alike table table' g.same }
+
+-- what subtypes ask next, where two types are not of one element
+pub elements-differ-over : (table table' : TypeTable) (t t' : List Mirror) (pair : Pair) (s : Bool) (n : Next) → s ≡ are_of_one t pair → s ≡ false
+    → Stands (numbered (next_of table') t') n (next_of table (sub_at t pair) (sup_at t pair))
+    → Stands (numbered (next_by_elements table') t') n (next_by_elements table (sub_at t pair) (sup_at t pair))
+unfolding next_by_elements by_test
+elements-differ-over table table' t t' pair s n is e stands =
+    stands_alike (next_of table') (next_by_elements table') t' n (next_of table (sub_at t pair) (sup_at t pair)) (next_by_elements table (sub_at t pair) (sup_at t pair))
+    (sym (ap (by_test table (sub_at t pair) (sup_at t pair)) (sym is ∙ e))) stands

@@ -1,6 +1,7 @@
 pub mod AskedByElements
 pub mod FirstEntries
 pub mod GrownTypes
+pub mod KnownElements
 pub mod MethodSteps
 pub mod NodeSignatures
 pub mod OverridingSteps

@@ -11,7 +11,7 @@ use Rattle.type_levels.specs.declared.answer.Answer.{Answer}
 use Rattle.type_levels.specs.declared.answer.Answer.TheVariants.{Yes, Open, No}
 use Rattle.type_numbers.specs.Numbers as numbers
 use Rattle.type_numbers.specs.Numbers.{AreKnown, OptionStands, Stands}
-use Rattle.type_numbers.proofs.NumberLaws.{grown-option, grown-stands, grows-on}
+use Rattle.type_numbers.proofs.NumberLaws.{grown-option, grown-stands, grows-itself, grows-on}
 use Rattle.type_elements.specs.TypeOf.{type_of}
 use Rattle.type_members.specs.MemberNumbers.{MemberStands}
 use Rattle.type_members.specs.MemberOf.{member_of}
@@ -40,6 +40,9 @@ grows-further old mid new g g' = record {
   element = g'.element ∙ g.element;
   types = grows-on old.types mid.types new.types g.types g'.types;
 }
+
+pub seen-same : (seen : Seen) → Grows seen seen
+seen-same seen = record { table = refl; element = refl; types = grows-itself seen.types }
 
 module _ (old new : Seen) (g : Grows old new) where
   same_member : (m : ElementRef) → as_member new m ≡ as_member old m
@@ -139,6 +142,7 @@ by-both old mid one other may signature below r g is e is' is'' joined =
 
 pub ruleset knowing = (
   grows-further,
+  seen-same,
   signature-later,
   below-later,
   signature-recalled,

@@ -14,6 +14,8 @@ use Rattle.type_numbers.proofs.NumberLaws.{grown-at, grown-known, grown-option}
 use Rattle.type_numbers.proofs.RememberedValues.{each-found, each-more, each-none, each-same, each-weaker}
 use Rattle.type_elements.specs.MemberElements.{class_element}
 use Rattle.type_members.proofs.GatheredTypes.{bare_element}
+use Rattle.type_memory.specs.Known.{Known, known_of}
+use Rattle.type_overriding.specs.ByElements.{next_by_elements}
 use Rattle.type_overriding.specs.Methods.{Seen, AreRight, IsBelow, IsFor, IsSignature, as_member, below_answer, seen_of}
 
 -- the number of an element stands for no other one
@@ -64,22 +66,28 @@ module _ (table : TypeTable) (element : ElementRef) (t t' : List Mirror) (g : nu
   below_grown : (number : ℕ) (answer : Answer) → IsBelow old number answer → IsBelow new number answer
   below_grown number answer was = (grown-known t t' number g was.0, λ m e. was.1 m (same_class number m was.0 e))
 
-  pub right-grown : (types : BTreeMap ℕ (Option ℕ)) (answers : BTreeMap ℕ Answer) → AreRight old types answers → AreRight new types answers
-  right-grown types answers right = record {
+  pub right-grown : (known : Known) (types : BTreeMap ℕ (Option ℕ)) (answers : BTreeMap ℕ Answer) → AreRight old known types answers → AreRight new known types answers
+  right-grown known types answers right = record {
+    same = right.same;
     signatures = each-weaker (IsSignature old) (IsSignature new) types signature_grown right.signatures;
     below = each-weaker (IsBelow old) (IsBelow new) answers below_grown right.below;
   }
 
 -- ---- what stands at numbers
 
-module _ (seen : Seen) where
-  pub right-none : (types : BTreeMap ℕ (Option ℕ)) (answers : BTreeMap ℕ Answer) → IsEmpty types → IsEmpty answers → AreRight seen types answers
-  right-none types answers none none' = record {
+module _ (seen : Seen) (known : Known) where
+  pub right-none : (types : BTreeMap ℕ (Option ℕ)) (answers : BTreeMap ℕ Answer) → known ≡ known_of seen.table [] → IsEmpty types → IsEmpty answers → AreRight seen known types answers
+  right-none types answers is none none' = record {
+    same = ap (λ (k : Known). next_by_elements k.table) is;
     signatures = each-none (IsSignature seen) types none;
     below = each-none (IsBelow seen) answers none';
   }
 
-  module _ (types : BTreeMap ℕ (Option ℕ)) (answers : BTreeMap ℕ Answer) (right : AreRight seen types answers) where
+  module _ (types : BTreeMap ℕ (Option ℕ)) (answers : BTreeMap ℕ Answer) (right : AreRight seen known types answers) where
+    -- types were searched
+    pub right-searched : (known' : Known) → next_by_elements known'.table ≡ next_by_elements seen.table → AreRight seen known' types answers
+    right-searched known' same = record { same = same; signatures = right.signatures; below = right.below }
+
     pub signature-found : (number : ℕ) (found : Option ℕ) → get nat_cmp types number ≡ Some found → IsSignature seen number found
     signature-found number found here = each-found (IsSignature seen) types number found right.signatures here
 
@@ -87,25 +95,35 @@ module _ (seen : Seen) where
     below-found number answer here = each-found (IsBelow seen) answers number answer right.below here
 
     -- nothing was put there
-    pub signatures-same : (types' : BTreeMap ℕ (Option ℕ)) → IsUnchanged types types' → AreRight seen types' answers
-    signatures-same types' same = record { signatures = each-same (IsSignature seen) types types' same right.signatures; below = right.below }
+    pub signatures-same : (types' : BTreeMap ℕ (Option ℕ)) → IsUnchanged types types' → AreRight seen known types' answers
+    signatures-same types' same = record {
+      same = right.same;
+      signatures = each-same (IsSignature seen) types types' same right.signatures;
+      below = right.below;
+    }
 
-    pub below-same : (answers' : BTreeMap ℕ Answer) → IsUnchanged answers answers' → AreRight seen types answers'
-    below-same answers' same = record { signatures = right.signatures; below = each-same (IsBelow seen) answers answers' same right.below }
+    pub below-same : (answers' : BTreeMap ℕ Answer) → IsUnchanged answers answers' → AreRight seen known types answers'
+    below-same answers' same = record {
+      same = right.same;
+      signatures = right.signatures;
+      below = each-same (IsBelow seen) answers answers' same right.below;
+    }
 
     -- one thing more
     pub signatures-more : (types' : BTreeMap ℕ (Option ℕ)) (number : ℕ) (found : Option ℕ)
         → ((q : ℕ) → get nat_cmp types' q ≡ cond (is_eq (nat_cmp number q)) (Some found) (get nat_cmp types q)) → IsSignature seen number found
-        → AreRight seen types' answers
+        → AreRight seen known types' answers
     signatures-more types' number found updates is = record {
+      same = right.same;
       signatures = each-more (IsSignature seen) types types' number found right.signatures updates is;
       below = right.below;
     }
 
     pub below-more : (answers' : BTreeMap ℕ Answer) (number : ℕ) (answer : Answer)
         → ((q : ℕ) → get nat_cmp answers' q ≡ cond (is_eq (nat_cmp number q)) (Some answer) (get nat_cmp answers q)) → IsBelow seen number answer
-        → AreRight seen types answers'
+        → AreRight seen known types answers'
     below-more answers' number answer updates is = record {
+      same = right.same;
       signatures = right.signatures;
       below = each-more (IsBelow seen) answers answers' number answer right.below updates is;
     }

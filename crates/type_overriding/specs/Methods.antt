@@ -18,7 +18,8 @@ use Rattle.type_elements.specs.TypeOf.{type_of}
 use Rattle.type_elements.specs.MemberElements.{class_element}
 use Rattle.type_members.specs.MemberOf.{member_of}
 use Rattle.type_relations.specs.Elements.{around_of}
-use Rattle.type_overriding.specs.ByElements.{is_below}
+use Rattle.type_memory.specs.Known.{Known}
+use Rattle.type_overriding.specs.ByElements.{is_below, next_by_elements}
 use Rattle.type_overriding.specs.Overrides as overriding
 
 -- ---- the type of which they are members
@@ -107,7 +108,8 @@ IsBelow seen number answer =
     IsKnown seen.types number
     × ((m : ElementRef) → class_element (at seen.types number) ≡ Some m → answer ≡ below_answer seen m)
 
--- what stands at each number is right
-pub record AreRight (seen : Seen) (types : BTreeMap ℕ (Option ℕ)) (answers : BTreeMap ℕ Answer) : Type 0 where
+-- what stands at each number is right, and searches go over a table that asks as this one
+pub record AreRight (seen : Seen) (known : Known) (types : BTreeMap ℕ (Option ℕ)) (answers : BTreeMap ℕ Answer) : Type 0 where
+  pub same : next_by_elements known.table ≡ next_by_elements seen.table
   pub signatures : EachHas (IsSignature seen) types
   pub below : EachHas (IsBelow seen) answers

@@ -10,7 +10,7 @@ ghost use Rattle.type_overriding.specs.Methods.{Grows, IsBelow, IsFor, IsSignatu
 ghost use Rattle.type_overriding.specs.Methods as methods;
 ghost use Rattle.type_overriding.specs.Overrides as overriding;
 
-use crate::by_elements::is_below;
+use crate::by_elements::is_below_known;
 use crate::overriding::{may_override, signature_of};
 use apt_base::{ElementRef, List, NoMemory};
 use element_table::Table;
@@ -19,6 +19,7 @@ use std::collections::BTreeMap;
 use std::marker::Model;
 use type_levels::Answer;
 use type_members::{member_of, number_of};
+use type_memory::KnownTypes;
 use type_numbers::{Node, Types};
 use type_relations::around_of;
 
@@ -29,6 +30,7 @@ pub(crate) struct KnownMethods<'a> {
     table: &'a Table,
     within: &'a ElementRef,
     types: Types,
+    known: KnownTypes<'a>,
     signatures: BTreeMap<usize, Option<usize>>,
     below: BTreeMap<usize, Answer>,
 }
@@ -42,7 +44,7 @@ impl<'a> Model for KnownMethods<'a> {
 
     ghost view = { λ a. seen_of a.table.now a.within.now a.types };
 
-    ghost invariant = { λ a. AreRight (seen_of a.table.now a.within.now a.types) a.signatures a.below };
+    ghost invariant = { λ a. AreRight (seen_of a.table.now a.within.now a.types) a.known a.signatures a.below };
 }
 
 // A number for an element, the same one each time.
@@ -82,6 +84,7 @@ impl<'a> KnownMethods<'a> {
             table,
             within,
             types: Types::new(alloc),
+            known: KnownTypes::new(alloc, table),
             signatures: BTreeMap::new(alloc),
             below: BTreeMap::new(alloc),
         }
@@ -203,14 +206,15 @@ impl<'a> KnownMethods<'a> {
         Ok(())
     }
 
+    #[tactic(auto, using(crate::proofs::MethodSteps::knowing))]
     fn search(&mut self, declaring: &ElementRef) -> Result<Answer, NoMemory>
         ensures answer { IfOk result (λ r. r ≡ methods.below_answer self.old declaring.now) }
         ensures grows { Grows self.old self.new }
     {
-        is_below(
+        is_below_known(
             self.alloc,
             self.table,
-            &mut self.types,
+            &mut self.known,
             self.within,
             declaring,
         )

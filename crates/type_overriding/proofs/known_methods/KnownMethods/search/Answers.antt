@@ -1,7 +1,11 @@
-use Rattle.type_overriding.proofs.RememberedMethods.{right-grown}
+use Rattle.type_overriding.specs.Methods.{seen_of}
+use Rattle.type_overriding.proofs.RememberedMethods.{right-searched}
 use Rattle.type_overriding.proofs.known_methods.KnownMethods.search.Goals as goal
+
+pub is_below_known-requires : goal.is_below_known-requires
+is_below_known-requires c = c.self.invariant.same
 
 pub invariant_of-self : goal.invariant_of-self
 invariant_of-self c =
-    right-grown c.self.inside.table.now c.self.inside.within.now c.self.inside.types c.is_below.new.types c.is_below.ensures.grows c.self.inside.signatures
-    c.self.inside.below c.self.invariant
+    right-searched (seen_of c.self.inside.table.now c.self.inside.within.now c.self.inside.types) c.self.inside.known c.self.inside.signatures c.self.inside.below
+    c.self.invariant c.is_below_known.new.known c.is_below_known.ensures.same
