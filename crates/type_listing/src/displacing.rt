@@ -10,7 +10,7 @@ use type_elements::{
     MemberName, are_namesakes, is_constructor, is_private, is_static, member_name, package_allows,
 };
 use type_levels::Answer;
-use type_overriding::Methods;
+use type_overriding::{Effort, Methods};
 
 /// Whether a type inherits an element from a supertype that has it as a member, unless another member displaces it. It takes no memory.
 pub(crate) fn is_inherited(table: &Table, by: &ElementRef, at: &ElementRef) -> bool
@@ -50,6 +50,7 @@ fn hides_method(
     methods: &mut Methods<'_>,
     one: &ElementRef,
     other: &ElementRef,
+    effort: &mut Effort,
 ) -> Result<Answer, NoMemory>
     requires { methods.old.table ≡ table.now }
     ensures answer { IfOk result (λ r. r ≡ hides_method_in table.now methods.old one.now other.now) }
@@ -58,7 +59,7 @@ fn hides_method(
     if !is_static(table, one) || !are_namesakes(table, one, other) {
         return Ok(Answer::No);
     }
-    let answer = methods.has_subsignature(one, other)?;
+    let answer = methods.has_subsignature(one, other, effort)?;
     Ok(answer)
 }
 
@@ -69,6 +70,7 @@ pub(crate) fn displaces(
     methods: &mut Methods<'_>,
     one: &ElementRef,
     other: &ElementRef,
+    effort: &mut Effort,
 ) -> Result<Answer, NoMemory>
     requires { methods.old.table ≡ table.now }
     ensures answer { IfOk result (λ r. r ≡ displaces_in table.now methods.old one.now other.now) }
@@ -77,7 +79,7 @@ pub(crate) fn displaces(
     if has_same_name(table, one, other) {
         return Ok(Answer::Yes);
     }
-    let hidden = hides_method(table, methods, one, other)?;
-    let overridden = methods.overrides(one, other)?;
+    let hidden = hides_method(table, methods, one, other, effort)?;
+    let overridden = methods.overrides(one, other, effort)?;
     Ok(hidden.or(overridden))
 }

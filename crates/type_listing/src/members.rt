@@ -8,7 +8,6 @@ ghost use Rattle.type_listing.specs.Listings.{listing_of, IsDue, AreDue};
 ghost use Rattle.type_listing.specs.Remembered.{AreKnownWithin};
 ghost use Rattle.type_overriding.specs.Methods.{container_of};
 
-use crate::budget::Compared;
 use crate::displacing::{displaces, is_inherited};
 use crate::known::KnownMembers;
 use crate::listing::Listing;
@@ -18,17 +17,26 @@ use element_table::Table;
 use std::alloc::Global;
 use type_elements::{class_elements, enclosed};
 use type_levels::Answer;
-use type_overriding::Methods;
+use type_overriding::{Effort, Methods};
 use type_relations::header_types;
+
+// How many elements are compared in a step, and how many steps an own member takes, one of a supertype, and one that may displace another.
+const SEEN_IN_A_STEP: usize = 16;
+
+const OF_OWN: usize = 2;
+
+const OF_INHERITED: usize = 4;
+
+const OF_PAIR: usize = 2;
 
 // ---- one member
 
-// Whether a member is in the list: those of its name are compared alone, and counted.
-fn is_among(list: &Listing<'_>, at: &ElementRef, budget: &mut Compared) -> Result<bool, NoMemory>
+// Whether a member is in the list: those of its name are compared alone.
+fn is_among(list: &Listing<'_>, at: &ElementRef, effort: &mut Effort) -> Result<bool, NoMemory>
     ensures { IfOk result (λ r. r ≡ members.is_among list.now.list at.now) }
 {
     let places = list.places(at)?;
-    budget.take(places.len())?;
+    effort.take(places.len() / SEEN_IN_A_STEP)?;
     for place in places {
         if at.is_equal(list.get(*place)) {
             return Ok(true);
@@ -47,11 +55,12 @@ fn is_yes(answer: Answer) -> bool
     }
 }
 
-// Whether one of the list hides or overrides a member in the type of these methods: those of its name are asked alone, up to the first one that does. They are counted where it is looked for among them.
+// Whether one of the list hides or overrides a member in the type of these methods: those of its name are asked alone, up to the first one that does.
 fn is_displaced(
     methods: &mut Methods<'_>,
     list: &Listing<'_>,
     at: &ElementRef,
+    effort: &mut Effort,
 ) -> Result<Answer, NoMemory>
     requires { methods.old.table ≡ list.now.table }
     ensures answer { IfOk result (λ r. r ≡ is_displaced_in list.now.table methods.old list.now.list at.now) }
@@ -60,7 +69,8 @@ fn is_displaced(
     let places = list.places(at)?;
     let mut answer = Answer::No;
     for place in places {
-        let one = displaces(list.table(), methods, list.get(*place), at)?;
+        effort.take(OF_PAIR)?;
+        let one = displaces(list.table(), methods, list.get(*place), at, effort)?;
         if is_yes(one) {
             return Ok(Answer::Yes);
         }
@@ -76,20 +86,21 @@ fn add_inherited(
     within: &ElementRef,
     list: &mut Listing<'_>,
     at: &ElementRef,
-    budget: &mut Compared,
+    effort: &mut Effort,
 ) -> Result<bool, NoMemory>
     requires { methods.old ≡ container_of list.old.table within.now }
     ensures due { IfOk result (λ closed. IsDue closed list.old within.now at.now list.new.list) }
     ensures table { OnOk result (list.new.table ≡ list.old.table) }
     ensures kept { methods.new ≡ methods.old }
 {
+    effort.take(OF_INHERITED)?;
     if !is_inherited(list.table(), within, at) {
         return Ok(true);
     }
-    if is_among(list, at, budget)? {
+    if is_among(list, at, effort)? {
         return Ok(true);
     }
-    match is_displaced(methods, list, at)? {
+    match is_displaced(methods, list, at, effort)? {
         Answer::Yes => Ok(true),
         Answer::Open => Ok(false),
         Answer::No => {
@@ -110,7 +121,7 @@ fn add_all(
     within: &ElementRef,
     list: &mut Listing<'_>,
     others: &[ElementRef],
-    budget: &mut Compared,
+    effort: &mut Effort,
 ) -> Result<bool, NoMemory>
     requires { methods.old ≡ container_of list.old.table within.now }
     ensures due { IfOk result (λ closed. AreDue closed list.old within.now others.now list.new.list) }
@@ -118,7 +129,7 @@ fn add_all(
     ensures kept { methods.new ≡ methods.old }
 {
     for each in others {
-        if !add_inherited(alloc, methods, within, list, each, budget)? {
+        if !add_inherited(alloc, methods, within, list, each, effort)? {
             return Ok(false);
         }
     }
@@ -130,12 +141,14 @@ fn own_listing<'a>(
     alloc: Global,
     table: &'a Table,
     at: &ElementRef,
+    effort: &mut Effort,
 ) -> Result<Listing<'a>, NoMemory>
     ensures { IfOk result (λ list. list ≡ listing_of table.now (elements.enclosed table.now at.now)) }
 {
     let mut list = Listing::new(alloc, table);
     let own = enclosed(alloc, table, at)?;
     for each in own.into_vec() {
+        effort.take(OF_OWN)?;
         list.push(each)?;
     }
     Ok(list)
@@ -162,7 +175,7 @@ fn known_members(
     remembered: &mut Remembered<'_>,
     levels: u32,
     at: &ElementRef,
-    budget: &mut Compared,
+    effort: &mut Effort,
 ) -> Result<Option<KnownMembers>, NoMemory>
     ensures known { IfOk result (λ known. AreKnownWithin remembered.old at.now levels known) }
     ensures kept { remembered.new ≡ remembered.old }
@@ -174,7 +187,7 @@ fn known_members(
         return Ok(Some(known));
     }
     let supers = super_elements(alloc, remembered.table(), at)?;
-    match gathered(alloc, remembered, levels, at, supers.as_slice(), budget)? {
+    match gathered(alloc, remembered, levels, at, supers.as_slice(), effort)? {
         None => Ok(None),
         Some(known) => {
             let copy = known.copy(alloc)?;
@@ -192,20 +205,20 @@ fn gathered(
     levels: u32,
     at: &ElementRef,
     supers: &[ElementRef],
-    budget: &mut Compared,
+    effort: &mut Effort,
 ) -> Result<Option<KnownMembers>, NoMemory>
     requires { supers.now ≡ members.super_elements remembered.old at.now }
     ensures known { IfOk result (λ known. AreKnownWithin remembered.old at.now levels known) }
     ensures kept { remembered.new ≡ remembered.old }
 {
-    let mut list = own_listing(alloc, remembered.table(), at)?;
+    let mut list = own_listing(alloc, remembered.table(), at, effort)?;
     let mut methods = Methods::new(alloc, remembered.table(), at);
     let mut wanted: u32 = 0;
     for each in supers {
         if levels == 0 {
             return Ok(None);
         }
-        match known_members(alloc, remembered, levels - 1, each, budget)? {
+        match known_members(alloc, remembered, levels - 1, each, effort)? {
             None => return Ok(None),
             Some(above) => {
                 if !add_all(
@@ -214,7 +227,7 @@ fn gathered(
                     at,
                     &mut list,
                     above.list.as_slice(),
-                    budget,
+                    effort,
                 )? {
                     return Ok(None);
                 }
@@ -230,7 +243,7 @@ fn gathered(
 
 /// The members of a type (JLS 8.2, 9.2), its own first and then those that it inherits of the superclass and of the interfaces in order; `None` where the supertypes go on behind 64 levels, or where a question on hiding or overriding between two of them has no answer within 64 steps.
 ///
-/// Each type is listed once, and a member is compared with those of its name alone. Out of memory comes also where more than 1,048,576 pairs of one name would be compared: each member that a type may inherit is a pair with each one of its name that the list has by then.
+/// Each type is listed once, a member is compared with those of its name alone, and its signature is resolved once for a type. Out of memory comes also where the lists take more than 1,048,576 steps: two for each own member, four for each member of a supertype, two for each other one of its name that may displace it, and for each comparison of two signatures three and one for each layer of the second one.
 pub fn all_members(
     alloc: Global,
     table: &Table,
@@ -239,8 +252,8 @@ pub fn all_members(
     ensures { IfOk result (λ list. list ≡ members.members table.now max_type_steps at.now) }
 {
     let mut remembered = Remembered::new(alloc, table);
-    let mut budget = Compared::new();
-    match known_members(alloc, &mut remembered, MAX_TYPE_STEPS, at, &mut budget)? {
+    let mut effort = Effort::new();
+    match known_members(alloc, &mut remembered, MAX_TYPE_STEPS, at, &mut effort)? {
         None => Ok(None),
         Some(known) => Ok(Some(known.list)),
     }

@@ -185,6 +185,13 @@ impl Types {
         self.put(key, node, sizes)
     }
 
+    /// How many layers the type with this number has as a tree, each counted where it stands; at most 4,294,967,295. It takes one step.
+    pub fn layers(&self, number: usize) -> u32
+        requires { IsKnown self.now number }
+    {
+        self.entries[number].sizes.layers
+    }
+
     // Whether the type is small enough as a tree to be given back as one.
     pub(crate) fn is_small(&self, number: usize) -> bool
         requires { IsKnown self.now number }

@@ -11,6 +11,7 @@ ghost use Rattle.type_overriding.specs.Methods as methods;
 ghost use Rattle.type_overriding.specs.Overrides as overriding;
 
 use crate::by_elements::is_below_known;
+use crate::effort::{Effort, steps_of, steps_of_names, steps_of_search};
 use crate::overriding::{may_override, signature_of};
 use apt_base::{ElementRef, List, NoMemory};
 use element_table::Table;
@@ -132,21 +133,37 @@ impl<'a> KnownMethods<'a> {
         signature_in(self.alloc, self.table, &mut self.types, self.within, at)
     }
 
+    // What it took to look up the names in a method.
+    fn steps_of_names(&self, signature: Option<usize>) -> usize
+        requires { AreKnown self.now.types (option_to_list signature) }
+    {
+        match signature {
+            None => 0,
+            Some(number) => steps_of_names(&self.types, number),
+        }
+    }
+
     // Resolves the one of the method that a number stands for, and remembers it.
     #[tactic(auto, using(crate::proofs::MethodSteps::knowing))]
-    fn found_signature(&mut self, number: usize, at: &ElementRef) -> Result<Option<usize>, NoMemory>
+    fn found_signature(
+        &mut self,
+        number: usize,
+        at: &ElementRef,
+        effort: &mut Effort,
+    ) -> Result<Option<usize>, NoMemory>
         requires { IsFor self.old number at.now }
         ensures stands { IfOk result (λ n. OptionStands self.new.types n (as_member self.old at.now)) }
         ensures grows { Grows self.old self.new }
     {
         let found = self.resolve(at)?;
+        effort.take(self.steps_of_names(found))?;
         self.remember_signature(number, found)?;
         Ok(found)
     }
 
     // The number of the type of a method as a member: it is resolved once.
     #[tactic(auto, using(crate::proofs::MethodSteps::knowing))]
-    fn signature(&mut self, at: &ElementRef) -> Result<Option<usize>, NoMemory>
+    fn signature(&mut self, at: &ElementRef, effort: &mut Effort) -> Result<Option<usize>, NoMemory>
         ensures stands { IfOk result (λ n. OptionStands self.new.types n (as_member self.old at.now)) }
         ensures grows { Grows self.old self.new }
     {
@@ -154,9 +171,19 @@ impl<'a> KnownMethods<'a> {
         match self.recalled_signature(number) {
             Some(found) => Ok(found),
             None => {
-                let found = self.found_signature(number, at)?;
+                let found = self.found_signature(number, at, effort)?;
                 Ok(found)
             }
+        }
+    }
+
+    // What it takes to compare a signature with this one.
+    fn steps_of(&self, signature: Option<usize>) -> usize
+        requires { AreKnown self.now.types (option_to_list signature) }
+    {
+        match signature {
+            None => 3,
+            Some(number) => steps_of(&self.types, number),
         }
     }
 
@@ -176,12 +203,14 @@ impl<'a> KnownMethods<'a> {
         &mut self,
         one: &ElementRef,
         other: &ElementRef,
+        effort: &mut Effort,
     ) -> Result<Answer, NoMemory>
         ensures answer { IfOk result (λ r. r ≡ methods.seen_signature self.old one.now other.now) }
         ensures grows { Grows self.old self.new }
     {
-        let first = self.signature(one)?;
-        let second = self.signature(other)?;
+        let first = self.signature(one, effort)?;
+        let second = self.signature(other, effort)?;
+        effort.take(self.steps_of(second))?;
         let answer = self.compare(first, second)?;
         Ok(answer)
     }
@@ -220,21 +249,33 @@ impl<'a> KnownMethods<'a> {
         )
     }
 
+    // How many types searches went over.
+    fn searched(&self) -> usize {
+        self.known.types().len()
+    }
+
     // Searches for the answer about the element that a number stands for, and remembers it.
     #[tactic(auto, using(crate::proofs::MethodSteps::knowing))]
-    fn found_below(&mut self, number: usize, declaring: &ElementRef) -> Result<Answer, NoMemory>
+    fn found_below(
+        &mut self,
+        number: usize,
+        declaring: &ElementRef,
+        effort: &mut Effort,
+    ) -> Result<Answer, NoMemory>
         requires { IsFor self.old number declaring.now }
         ensures answer { IfOk result (λ r. r ≡ methods.below_answer self.old declaring.now) }
         ensures grows { Grows self.old self.new }
     {
+        let before = self.searched();
         let answer = self.search(declaring)?;
+        effort.take(steps_of_search(before, self.searched()))?;
         self.remember_below(number, answer)?;
         Ok(answer)
     }
 
     // Whether the type is below that of an element: it is asked once.
     #[tactic(auto, using(crate::proofs::MethodSteps::knowing))]
-    fn is_below(&mut self, declaring: &ElementRef) -> Result<Answer, NoMemory>
+    fn is_below(&mut self, declaring: &ElementRef, effort: &mut Effort) -> Result<Answer, NoMemory>
         ensures answer { IfOk result (λ r. r ≡ methods.below_answer self.old declaring.now) }
         ensures grows { Grows self.old self.new }
     {
@@ -242,7 +283,7 @@ impl<'a> KnownMethods<'a> {
         match self.recalled_below(number) {
             Some(answer) => Ok(answer),
             None => {
-                let answer = self.found_below(number, declaring)?;
+                let answer = self.found_below(number, declaring, effort)?;
                 Ok(answer)
             }
         }
@@ -257,22 +298,27 @@ impl<'a> KnownMethods<'a> {
 
     // Whether the type is below the one that declares a method.
     #[tactic(auto, using(crate::proofs::MethodSteps::knowing))]
-    fn is_below_around(&mut self, at: &ElementRef) -> Result<Answer, NoMemory>
+    fn is_below_around(&mut self, at: &ElementRef, effort: &mut Effort) -> Result<Answer, NoMemory>
         ensures answer { IfOk result (λ r. r ≡ methods.below_declaring self.old at.now) }
         ensures grows { Grows self.old self.new }
     {
         let around = self.around(at)?;
-        let answer = self.is_below(&around)?;
+        let answer = self.is_below(&around, effort)?;
         Ok(answer)
     }
 
     #[tactic(auto, using(crate::proofs::MethodSteps::knowing))]
-    fn is_below_both(&mut self, one: &ElementRef, other: &ElementRef) -> Result<Answer, NoMemory>
+    fn is_below_both(
+        &mut self,
+        one: &ElementRef,
+        other: &ElementRef,
+        effort: &mut Effort,
+    ) -> Result<Answer, NoMemory>
         ensures answer { IfOk result (λ r. r ≡ methods.seen_below_both self.old one.now other.now) }
         ensures grows { Grows self.old self.new }
     {
-        let first = self.is_below_around(one)?;
-        let second = self.is_below_around(other)?;
+        let first = self.is_below_around(one, effort)?;
+        let second = self.is_below_around(other, effort)?;
         Ok(first.and(second))
     }
 
@@ -287,18 +333,23 @@ impl<'a> KnownMethods<'a> {
 
     /// Whether the first method overrides the second one. Their signatures are compared first, since where they differ no type has to be looked at.
     #[tactic(auto, using(crate::proofs::MethodSteps::knowing))]
-    pub fn overrides(&mut self, one: &ElementRef, other: &ElementRef) -> Result<Answer, NoMemory>
+    pub fn overrides(
+        &mut self,
+        one: &ElementRef,
+        other: &ElementRef,
+        effort: &mut Effort,
+    ) -> Result<Answer, NoMemory>
         ensures answer { IfOk result (λ r. r ≡ methods.seen_overrides self.old one.now other.now) }
         ensures grows { Grows self.old self.new }
     {
         if !self.allows(one, other) {
             return Ok(Answer::No);
         }
-        let signature = self.has_subsignature(one, other)?;
+        let signature = self.has_subsignature(one, other, effort)?;
         match signature {
             Answer::No => Ok(Answer::No),
             _ => {
-                let below = self.is_below_both(one, other)?;
+                let below = self.is_below_both(one, other, effort)?;
                 Ok(below.and(signature))
             }
         }

@@ -4,16 +4,18 @@
 //!
 //! What the methods themselves settle takes no memory and looks at no type. Else the work is that of two searches over subtypes, of the types of the two methods as members of the type, and of a comparison of their parameters, each of which is replaced and erased once. The types go by their numbers, so that the parameters of a method far up a chain that doubles a type at each step cost what they write.
 //!
-//! `Methods` are for many questions about one type: each signature is resolved once, and a comparison is then that of the numbers of parameters.
+//! `Methods` are for many questions about one type: each signature is resolved once, the header of a type is looked up once, and a comparison is then that of the numbers of parameters. `Effort` bounds what all comparisons take.
 //!
-//! Not promised: that memory is there, which is also said to be wanted where a search would name more than 65,536 arguments and supertypes, and beyond the budgets of `type_numbers`.
+//! Not promised: that memory is there, which is also said to be wanted where a search would name more than 65,536 arguments and supertypes, beyond the budgets of `type_numbers`, and where the comparisons of an `Effort` take more than 1,048,576 steps.
 #![tactic(auto)]
 
 mod by_elements;
+mod effort;
 mod known_methods;
 mod methods;
 mod overriding;
 mod signatures;
 
+pub use effort::Effort;
 pub use methods::Methods;
 pub use overriding::{has_subsignature, may_override, overrides};

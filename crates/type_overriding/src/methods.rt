@@ -3,6 +3,7 @@ ghost use Rattle.std.specs.Prelude.{◌≡◌, IfOk};
 ghost use Rattle.type_overriding.specs.Methods.{container_of};
 ghost use Rattle.type_overriding.specs.Methods as methods;
 
+use crate::effort::Effort;
 use crate::known_methods::KnownMethods;
 use apt_base::{ElementRef, NoMemory};
 use element_table::Table;
@@ -49,19 +50,25 @@ impl<'a> Methods<'a> {
         &mut self,
         one: &ElementRef,
         other: &ElementRef,
+        effort: &mut Effort,
     ) -> Result<Answer, NoMemory>
         ensures answer { IfOk result (λ r. r ≡ methods.has_subsignature self.old one.now other.now) }
         ensures kept { self.new ≡ self.old }
     {
-        self.known.has_subsignature(one, other)
+        self.known.has_subsignature(one, other, effort)
     }
 
     /// Whether the first method overrides the second one in the type (JLS 8.4.8.1, 9.4.1.1), as `overrides` tells without a memory.
     #[tactic(auto, using(crate::proofs::MethodSteps::keeping))]
-    pub fn overrides(&mut self, one: &ElementRef, other: &ElementRef) -> Result<Answer, NoMemory>
+    pub fn overrides(
+        &mut self,
+        one: &ElementRef,
+        other: &ElementRef,
+        effort: &mut Effort,
+    ) -> Result<Answer, NoMemory>
         ensures answer { IfOk result (λ r. r ≡ methods.overrides self.old one.now other.now) }
         ensures kept { self.new ≡ self.old }
     {
-        self.known.overrides(one, other)
+        self.known.overrides(one, other, effort)
     }
 }

@@ -6,7 +6,7 @@
 //!
 //! With `Questions` a type is added once, and each question goes by the numbers of two. A question that was answered is one look-up, and any other one takes the direct supertypes of those types alone that no search came to before. What a question is answered does not depend on those before: it is what `is_subtype` and `contains` give, exactly. A caller that adds a second type has the first one still, by `proofs/AddedTypesLaws`, whose rules `there` close what `is_subtype` and `contains` ask of the two numbers.
 //!
-//! Not promised: that memory is there, which is also said to be wanted where a search would name more than 65,536 arguments and supertypes, where a list of members would compare more than 1,048,576 pairs of one name, and where all questions of one value of `Questions` come to more than 1,048,576 types, and that Java's compiler says the same where `docs/DECISIONS.md` tells a difference.
+//! Not promised: that memory is there, which is also said to be wanted where a search would name more than 65,536 arguments and supertypes, where a list of members takes more than 1,048,576 steps, and where all questions of one value of `Questions` come to more than 1,048,576 types, and that Java's compiler says the same where `docs/DECISIONS.md` tells a difference.
 #![tactic(auto)]
 
 mod calls;
