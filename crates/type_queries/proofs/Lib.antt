@@ -2,9 +2,7 @@ pub mod AddedTypesLaws
 pub mod BoxQuestions
 pub mod JudgedQuestions
 pub mod ListedMembers
-pub mod ListedTexts
 pub mod MemberAnswers
 pub mod NamedElements
 pub mod NodeKinds
 pub mod TypeQuestions
-pub mod TypeTexts

@@ -14,7 +14,7 @@ use Rattle.type_elements.specs.TypeOf.{type_of}
 use Rattle.type_subtypes.specs.Assignable.{assignable}
 use Rattle.type_subtypes.specs.Subsignature.{subsignature}
 use Rattle.type_subtypes.specs.Subtypes.{subtype, contained}
-use Rattle.type_queries.specs.Print.{text_of}
+use Rattle.type_texts.specs.Print.{text_of}
 use Rattle.type_queries.specs.Verdicts.{Verdict, Given, value, truth, judged, are_there}
 
 -- mirrors of any kind

@@ -6,7 +6,6 @@ ghost use Rattle.type_queries.specs.Verdicts.{Gives};
 
 use crate::fault::QueryFault;
 use crate::kinds::{is_executable, is_package};
-use crate::printing::printed;
 use crate::there::are_there;
 use apt_base::{ElementRef, List, MAX_TYPE_STEPS, Name};
 use element_table::Table;
@@ -14,6 +13,7 @@ use std::alloc::Global;
 use type_elements::type_of_element;
 use type_mirror::{BaseMirror, Mirror};
 use type_relations::{box_of, boxed_kind, direct, erasure_within, is_there, primitive_of};
+use type_texts::text_of;
 
 /// Whether both are the same type, as `isSameType` of `javax.lang.model.util.Types` tells: equal mirrors, of which a wildcard is the same as nothing. `NoSuch` where one names an element that is not there, which is the only fault that comes: it takes no memory.
 #[tactic(auto, unfolding(crate::specs::Questions::same_question))]
@@ -50,7 +50,7 @@ pub fn print(alloc: Global, table: &Table, of: &Mirror) -> Result<Name, QueryFau
     if !are_there(table, of) {
         return Err(QueryFault::NoSuch);
     }
-    let text = printed(alloc, table, of)?;
+    let text = text_of(alloc, table, of)?;
     Ok(text)
 }
 

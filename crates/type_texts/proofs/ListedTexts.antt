@@ -2,7 +2,7 @@
 use Rattle.std.proofs.Common.{◌≡◌, ℕ, ◌+◌, ◌<◌, length, get_or, drop, Bool, true, false, List, [], ◌∷◌, ◌++◌, map, refl, sym, ap, ◌∙◌, append_assoc, append-nil}
 use Rattle.std.specs.List.{join_with_byte}
 use Rattle.std.proofs.lemmas.List.{drop_more}
-use Rattle.type_queries.specs.Spelling.{comma, behind, listed_from}
+use Rattle.type_texts.specs.Spelling.{comma, behind, listed_from}
 
 joined-behind : (x : List ℕ) (xs : List (List ℕ)) → join_with_byte 44 (x ∷ xs) ≡ x ++ behind xs
 joined-behind x [] = sym (append-nil x)

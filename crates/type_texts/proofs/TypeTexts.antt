@@ -14,8 +14,8 @@ use Rattle.type_mirror.specs.declared.mirror.ExecutableMirror.{ExecutableMirror,
 use Rattle.type_layers.specs.Layers.{around_step}
 use Rattle.type_layers.proofs.BaseLayers.{by_layers-around, by_layers-Primitive, by_layers-Declared, by_layers-Error, by_layers-Variable, by_layers-Wildcard, by_layers-Executable, by_layers-Nothing, by_layers-Void, by_layers-Null, by_layers-Package}
 use Rattle.type_relations.specs.Elements.{parameter_name, name_by}
-use Rattle.type_queries.specs.Print.{primitive_text, class_text, arguments_text, layer_text, text_of}
-use Rattle.type_queries.specs.Spelling.{front_of, back_of, base_text, declared_text, executable_text, types_text}
+use Rattle.type_texts.specs.Print.{primitive_text, class_text, arguments_text, layer_text, text_of}
+use Rattle.type_texts.specs.Spelling.{front_of, back_of, base_text, declared_text, executable_text, types_text}
 
 -- ---- what stands around a base
 

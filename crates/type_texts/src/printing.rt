@@ -1,8 +1,8 @@
 // The texts of types.
 ghost use Rattle.std.specs.Prelude.{◌≡◌, map, IfOk};
 ghost use Rattle.std.specs.List.{flat_map};
-ghost use Rattle.type_queries.specs.Print.{primitive_text, arguments_text, text_of};
-ghost use Rattle.type_queries.specs.Spelling.{front_of, back_of, comma, base_text, name_text, declared_text, executable_text, types_text, IsAdded};
+ghost use Rattle.type_texts.specs.Print.{primitive_text, arguments_text, text_of};
+ghost use Rattle.type_texts.specs.Spelling.{front_of, back_of, comma, base_text, name_text, declared_text, executable_text, types_text, IsAdded};
 
 use apt_base::{Boxed, ElementRef, Name, NoMemory};
 use element_table::Table;
@@ -205,8 +205,8 @@ fn add_executable(
     add_type(alloc, table, text, of.result.get())
 }
 
-/// The text of a type.
-pub(crate) fn printed(alloc: Global, table: &Table, of: &Mirror) -> Result<Name, NoMemory>
+/// The text of a type, with canonical names. A name of an element that is not there is empty.
+pub fn text_of(alloc: Global, table: &Table, of: &Mirror) -> Result<Name, NoMemory>
     ensures { IfOk result (λ name. name ≡ text_of table.now of.now) }
 {
     let mut text = String::new(alloc);

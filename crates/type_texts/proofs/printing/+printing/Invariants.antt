@@ -1,7 +1,7 @@
 use Rattle.std.proofs.Common.{◌≡◌, ◌++◌, map, drop, string_bytes}
-use Rattle.type_queries.specs.Print.{text_of}
-use Rattle.type_queries.specs.Spelling.{types_text, listed_from}
-use Rattle.type_queries.proofs.printing.+printing.Given as goal
+use Rattle.type_texts.specs.Print.{text_of}
+use Rattle.type_texts.specs.Spelling.{types_text, listed_from}
+use Rattle.type_texts.proofs.printing.+printing.Given as goal
 
 -- the text so far with what is left is the whole
 abbrev pub invariant-add_types-loop-each : goal.invariant-add_types-loop-each

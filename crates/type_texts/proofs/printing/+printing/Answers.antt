@@ -3,11 +3,11 @@ use Rattle.apt_base.proofs.Written.{written}
 use Rattle.type_mirror.specs.declared.mirror.Mirror.{out-Mirror}
 use Rattle.type_mirror.specs.declared.mirror.DeclaredMirror.{out-DeclaredMirror}
 use Rattle.type_mirror.specs.declared.mirror.ExecutableMirror.{out-ExecutableMirror}
-use Rattle.type_queries.specs.Print.{text_of, class_text, arguments_text}
-use Rattle.type_queries.specs.Spelling.{front_of, back_of, base_text, declared_text, executable_text, types_text}
-use Rattle.type_queries.proofs.ListedTexts.{listed-step}
-use Rattle.type_queries.proofs.TypeTexts.{text_of-is, declared_text-is, executable_text-is, bracketed}
-use Rattle.type_queries.proofs.printing.+printing.Goals as goal
+use Rattle.type_texts.specs.Print.{text_of, class_text, arguments_text}
+use Rattle.type_texts.specs.Spelling.{front_of, back_of, base_text, declared_text, executable_text, types_text}
+use Rattle.type_texts.proofs.ListedTexts.{listed-step}
+use Rattle.type_texts.proofs.TypeTexts.{text_of-is, declared_text-is, executable_text-is, bracketed}
+use Rattle.type_texts.proofs.printing.+printing.Goals as goal
 
 pub add_type-returns : goal.add_type-returns
 add_type-returns t c =

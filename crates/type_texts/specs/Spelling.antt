@@ -13,7 +13,7 @@ use Rattle.type_mirror.specs.declared.mirror.BaseMirror.TheVariants as base
 use Rattle.type_mirror.specs.declared.mirror.DeclaredMirror.{DeclaredMirror}
 use Rattle.type_mirror.specs.declared.mirror.ExecutableMirror.{ExecutableMirror}
 use Rattle.type_mirror.specs.Parts.{plain}
-use Rattle.type_queries.specs.Print.{class_text, text_of}
+use Rattle.type_texts.specs.Print.{class_text, text_of}
 
 -- where there was memory this was added to a text
 abbrev pub IsAdded : {E : Type 0} → String Global → String Global → Result (Unit {0}) E → List ℕ → Type 0

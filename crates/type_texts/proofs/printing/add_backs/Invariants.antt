@@ -1,7 +1,7 @@
 use Rattle.std.proofs.Common.{◌≡◌, ◌++◌, take, string_bytes}
 use Rattle.std.specs.List.{flat_map}
-use Rattle.type_queries.specs.Spelling.{back_of}
-use Rattle.type_queries.proofs.printing.add_backs.Given as goal
+use Rattle.type_texts.specs.Spelling.{back_of}
+use Rattle.type_texts.proofs.printing.add_backs.Given as goal
 
 -- what stands behind the base so far
 abbrev pub invariant-loop-each : goal.invariant-loop-each

@@ -1,0 +1,2 @@
+pub mod ListedTexts
+pub mod TypeTexts
