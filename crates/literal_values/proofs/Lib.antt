@@ -1,0 +1,4 @@
+pub mod BoundedNumbers
+pub mod BoundedValues
+pub mod QuotedLemmas
+pub mod QuotedValues

@@ -1,0 +1,5 @@
+pub mod Literals
+pub mod NumeralParts
+pub mod Numerals
+pub mod Quoted
+pub mod QuotedParts
