@@ -1,10 +1,10 @@
 -- Numbers of integer literals up to a bound that is in no type.
-use Rattle.std.proofs.Common.{◌≡◌, ℕ, zero, suc, ◌+◌, ◌*◌, ◌<◌, ◌≤◌, ◌==◌, ◌⊎◌, inl, inr, Bool, true, false, List, [], ◌∷◌, length, drop, get_or, min, Option, None, Some, option_map, if◌then◌else◌, ◌≢◌, ne_eqb, refl, sym, ap, ◌∙◌, arith}
+use Rattle.std.proofs.Common.{◌≡◌, ℕ, ◌+◌, ◌*◌, ◌<◌, ◌≤◌, ◌==◌, inl, inr, Bool, true, false, List, [], ◌∷◌, length, drop, get_or, Option, None, Some, option_map, if◌then◌else◌, ◌≢◌, ne_eqb, refl, sym, ap, ◌∙◌, arith}
 use Rattle.std.proofs.lemmas.Bool.{cases_lt}
 use Rattle.std.proofs.lemmas.List.{drop_more, drop_all}
 use Rattle.std.proofs.lemmas.Nat.{mul-le}
 use Rattle.std.specs.Option.{option_and_then}
-use Rattle.literal_values.specs.Numerals.{Numeral, digit_in, digits_from}
+use Rattle.literal_values.specs.Numerals.{digit_in, digits_from}
 use Rattle.literal_values.specs.NumeralParts.{bound, bounded}
 
 pub bounded-small : (n : ℕ) → n ≤ bound → bounded n ≡ n

@@ -1,11 +1,11 @@
 -- The values of numerals by their numbers up to the bound, and the literals that are numerals.
-use Rattle.std.proofs.Common.{◌≡◌, ◌≢◌, ℕ, ℤ, ◌+◌, ◌*◌, ◌<◌, ◌≤◌, ◌==◌, Bool, true, false, List, [], ◌∷◌, length, get_or, Option, None, Some, option_map, if◌then◌else◌, refl, sym, ap, ◌∙◌, arith, inl, inr, le-ltb, ne_eqb, codes, ◌++◌}
+use Rattle.std.proofs.Common.{◌≡◌, ◌≢◌, ℕ, ℤ, ◌+◌, ◌*◌, ◌<◌, ◌≤◌, Bool, true, false, List, [], ◌∷◌, length, get_or, Option, None, Some, option_map, if◌then◌else◌, refl, sym, ap, ◌∙◌, arith, inl, inr, le-ltb, ne_eqb, codes, ◌++◌}
 use borrow.Author.Tests.{lt-leb}
 use Rattle.std.proofs.lemmas.Bool.{cases_lt}
 use Rattle.type_mirror.specs.declared.value.WholeKind.{WholeKind}
 use Rattle.type_mirror.specs.declared.value.WholeKind.TheVariants as whole
-use Rattle.literal_values.specs.Numerals.{Numeral, half, positive, negative, digits_number, numeral_in, numeral_of, is_long, whole_kind}
-use Rattle.literal_values.specs.NumeralParts.{bound, bounded, bounded_numeral}
+use Rattle.literal_values.specs.Numerals.{Numeral, half, positive, negative, digits_number, numeral_in, numeral_of, whole_kind}
+use Rattle.literal_values.specs.NumeralParts.{bound, bounded_numeral}
 use Rattle.literal_values.specs.Literals.{whole_or, numeral_value, negated_numeral}
 use Rattle.literal_values.proofs.BoundedNumbers.{bounded-small, bounded-large}
 
@@ -75,8 +75,3 @@ unfolding numeral_of digits_number
 numeral_of-other [] other = refl
 numeral_of-other (c ∷ []) other = refl
 numeral_of-other (c ∷ d ∷ cs) other = rw (ne_eqb c 48 other) refl
-
-pub long-is_something : (text : List ℕ) → is_long text ≡ true → 1 ≤ length text
-unfolding is_long
-long-is_something [] long = absurd cc
-long-is_something (c ∷ cs) long = omega arith

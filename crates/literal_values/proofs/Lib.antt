@@ -1,4 +1,5 @@
 pub mod BoundedNumbers
 pub mod BoundedValues
+pub mod Endings
 pub mod QuotedLemmas
 pub mod QuotedValues

@@ -1,5 +1,5 @@
 -- The value of a literal in quotes, by what stands behind its first quote.
-use Rattle.std.proofs.Common.{◌≡◌, ℕ, List, ◌∷◌, chars, refl, ap, ◌∙◌}
+use Rattle.std.proofs.Common.{◌≡◌, ℕ, List, ◌∷◌, chars, ap, ◌∙◌}
 use Rattle.literal_values.specs.declared.quoted.Reading.TheVariants.{Plain}
 use Rattle.literal_values.specs.Quoted.{unquoted}
 use Rattle.literal_values.specs.Literals.{character_value, text_value, quoted_value}

@@ -1,3 +1,4 @@
+pub mod Floating
 pub mod Literals
 pub mod NumeralParts
 pub mod Numerals

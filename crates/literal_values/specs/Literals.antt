@@ -1,4 +1,4 @@
--- The values of literals (JLS 3.10), each by its text alone: whatever type is wanted, nothing is converted. A text that is no literal of its form has no value but itself.
+-- The values of literals (JLS 3.10), each by its text alone: whatever type is wanted, nothing is converted. A text that is no literal has no value, and is kept.
 use Rattle.std.specs.Prelude.{ℕ, ◌==◌, ◌||◌, Bool, true, false, ℤ, List, [], ◌∷◌, ◌++◌}
 use Rattle.std.specs.Prelude.{codes, chars, encode_utf8_all, Option, None, Some, option_and_then, if◌then◌else◌}
 use Rattle.std.specs.Option.{option_map_or}
@@ -8,6 +8,7 @@ use Rattle.type_mirror.specs.declared.value.WholeKind.{WholeKind}
 use Rattle.type_mirror.specs.declared.value.Value.{Value}
 use Rattle.type_mirror.specs.declared.value.Value.TheVariants as value
 use Rattle.literal_values.specs.declared.quoted.Reading.TheVariants.{Plain}
+use Rattle.literal_values.specs.Floating.{is_floating}
 use Rattle.literal_values.specs.Numerals.{Numeral, whole_kind, integer_of, positive, negative}
 use Rattle.literal_values.specs.Quoted.{unquoted, only_character}
 
@@ -23,14 +24,17 @@ abbrev pub begins_numeral : List ℕ → Bool
 begins_numeral [] = false
 begins_numeral (c ∷ cs) = is_ascii_digit c || (c == 46)
 
--- one that is no integer literal is a floating-point literal (JLS 3.10.2), which keeps its text
+-- a floating-point literal keeps its text, and so does what is no literal at all
+abbrev pub floating_or : List ℕ → List ℕ → Bool → Value
+floating_or literal other is_literal = if is_literal then value.Floating literal else value.Other other
+
 abbrev pub numeral_value : List ℕ → Option Numeral → Value
-numeral_value text None = value.Floating text
+numeral_value text None = floating_or text text (is_floating text)
 numeral_value text (Some n) = whole_or text (whole_kind text) (positive (whole_kind text) n)
 
 -- behind a `-`: two tokens are joined by a space, and a `-` stands directly before a floating-point literal
 abbrev pub negated_numeral : List ℕ → Option Numeral → Value
-negated_numeral text None = value.Floating (codes "-" ++ text)
+negated_numeral text None = floating_or (codes "-" ++ text) (codes "- " ++ text) (is_floating text)
 negated_numeral text (Some n) = whole_or (codes "- " ++ text) (whole_kind text) (negative (whole_kind text) n)
 
 unfoldable pub negated_value : List ℕ → Value

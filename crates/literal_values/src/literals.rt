@@ -1,9 +1,11 @@
 // The values of literals.
-ghost use Rattle.std.specs.Prelude.{◌≡◌, ◌++◌, chars, encode_utf8_all, string_bytes, option_map, IfOk};
+ghost use Rattle.std.specs.Prelude.{◌≡◌, ◌++◌, chars, encode_utf8_all, IfOk};
 ghost use Rattle.type_mirror.specs.declared.value.Value.TheVariants as value;
+ghost use Rattle.literal_values.specs.Floating.{is_floating};
 ghost use Rattle.literal_values.specs.Numerals as numerals;
 ghost use Rattle.literal_values.specs.Literals as literals;
 
+use crate::floating::is_floating;
 use crate::numerals::{integer_of, negative, positive, whole_kind};
 use crate::quoted::{only_character, unquoted};
 use apt_base::{List, Name, NoMemory};
@@ -24,6 +26,16 @@ fn other(alloc: Global, prefix: &str, text: &str) -> Result<Value, NoMemory>
     ensures { IfOk result (λ v. v ≡ value.Other (prefix.now ++ text.now)) }
 {
     Ok(Value::Other(prefixed(alloc, prefix, text)?))
+}
+
+// A floating-point literal behind a prefix, or what is no literal behind another one.
+fn floating_or(alloc: Global, prefix: &str, separated: &str, text: &str) -> Result<Value, NoMemory>
+    ensures { IfOk result (λ v. v ≡ literals.floating_or (prefix.now ++ text.now) (separated.now ++ text.now) (is_floating text.now)) }
+{
+    if is_floating(text.as_bytes()) {
+        return Ok(Value::Floating(prefixed(alloc, prefix, text)?));
+    }
+    other(alloc, separated, text)
 }
 
 fn whole_or(
@@ -55,7 +67,7 @@ fn numeral_value(alloc: Global, text: &str) -> Result<Value, NoMemory>
     ensures { IfOk result (λ v. v ≡ literals.numeral_value text.now (numerals.integer_of text.now)) }
 {
     let numeral = match integer_of(text.as_bytes()) {
-        None => return Ok(Value::Floating(prefixed(alloc, "", text)?)),
+        None => return floating_or(alloc, "", "", text),
         Some(numeral) => numeral,
     };
     let kind = whole_kind(text.as_bytes());
@@ -71,7 +83,7 @@ pub fn negated_value(alloc: Global, text: &str) -> Result<Value, NoMemory>
         return other(alloc, "- ", text);
     }
     let numeral = match integer_of(text.as_bytes()) {
-        None => return Ok(Value::Floating(prefixed(alloc, "-", text)?)),
+        None => return floating_or(alloc, "-", "- ", text),
         Some(numeral) => numeral,
     };
     let kind = whole_kind(text.as_bytes());

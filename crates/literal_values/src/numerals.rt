@@ -61,9 +61,9 @@ fn digits_from(radix: u32, first: u128, rest: &[u8]) -> Option<u128>
     if wanted { None } else { Some(number) }
 }
 
-// The number that digits spell.
+/// The number that digits spell.
 #[tactic(auto, unfolding(crate::specs::Numerals::digits_number))]
-fn digits_number(radix: u32, digits: &[u8]) -> Option<u128>
+pub(crate) fn digits_number(radix: u32, digits: &[u8]) -> Option<u128>
     requires lower_bound { 2 ≤ radix }
     requires upper_bound { radix ≤ 16 }
     ensures { result ≡ option_map bounded (numerals.digits_number radix digits.now) }

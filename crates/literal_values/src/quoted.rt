@@ -1,5 +1,5 @@
 // The characters of character and string literals.
-ghost use Rattle.std.specs.Prelude.{ℕ, ◌≡◌, ◌++◌, ◌<◌, chars, OnOk, IfOk, IfSome, option_map};
+ghost use Rattle.std.specs.Prelude.{◌≡◌, ◌++◌, ◌<◌, chars, OnOk, IfOk, IfSome, option_map};
 ghost use Rattle.std.specs.Option.{option_to_list};
 ghost use Rattle.literal_values.specs.declared.quoted.Reading.TheVariants as reading;
 ghost use Rattle.literal_values.specs.Numerals.{digit_in};
@@ -147,8 +147,8 @@ fn add(found: &mut List<char>, c: Option<char>) -> Result<(), NoMemory>
     }
 }
 
-/// The characters of a literal up to its closing quote, each for itself or by an escape; `None` where the text
-/// doesn't end there.
+/// The characters of a literal up to its closing quote, each for itself or by an escape; `None` where the
+/// text doesn't end there.
 pub(crate) fn unquoted(
     alloc: Global,
     quote: char,

@@ -1,4 +1,4 @@
-use Rattle.std.proofs.Common.{◌∙◌, rules, arith}
+use Rattle.std.proofs.Common.{rules, arith}
 use Rattle.literal_values.proofs.BoundedNumbers.{read-digit}
 use Rattle.literal_values.proofs.numerals.digits_from.Goals as goal
 

@@ -1,5 +1,5 @@
 use Rattle.std.proofs.Common.{sym}
-use Rattle.literal_values.proofs.BoundedValues.{long-is_something}
+use Rattle.literal_values.proofs.Endings.{long-is_something}
 use Rattle.literal_values.proofs.numerals.integer_of.Goals as goal
 
 pub slice_bounds-numeral_of-count : goal.slice_bounds-numeral_of-count

@@ -1,10 +1,10 @@
-use Rattle.std.proofs.Common.{length, refl, sym, subst, ◌∙◌, arith}
+use Rattle.std.proofs.Common.{length, refl, arith}
 use Rattle.std.proofs.lemmas.Iterator.{YieldsList-from_chars}
 use Rattle.std.proofs.lemmas.Iterator.Consumers.{YieldsList-turn, YieldsList-end}
 use Rattle.std.proofs.lemmas.List.{length_push}
 use Rattle.std.specs.Str.{chars}
 use Rattle.literal_values.specs.QuotedParts.{shown}
-use Rattle.literal_values.proofs.QuotedLemmas.{IsRead, read-nothing, read-step, read-closed, read-open}
+use Rattle.literal_values.proofs.QuotedLemmas.{read-nothing, read-step, read-closed, read-open}
 use Rattle.literal_values.proofs.quoted.unquoted.Goals as goal
 
 pub returns-in-None-read_step : goal.returns-in-None-read_step
