@@ -1,65 +1,46 @@
--- Counting types, a declaration at a time.
-use Rattle.std.proofs.Common.{◌≡◌, ℕ, ◌+◌, ◌<◌, ◌≤◌, cond, Some, None, ◌⊎◌, inl, inr, sym, ap, ◌∙◌, arith}
-use Rattle.std.specs.List.{sum_by}
-use Rattle.std.proofs.lemmas.List.Sums.{sum-map}
-use Rattle.std.proofs.lemmas.Bool.{lt-leb, le-leb}
-use Rattle.decl_tree.specs.declared.declaration.Member.TheVariants as member
-use Rattle.decl_tree.specs.declared.declaration.Member.TheOpen.{Member-F}
-use Rattle.decl_tree.specs.declared.declaration.Member.TheFolds.{fold-roll-Member, fold_out-TypeDecl}
-use Rattle.decl_tree.specs.declared.member.FieldDecl.{FieldDecl}
-use Rattle.decl_tree.specs.declared.member.MethodDecl.{MethodDecl}
-use Rattle.decl_tree.specs.declared.member.ConstructorDecl.{ConstructorDecl}
-use Rattle.decl_tree.specs.declared.member.ConstantDecl.{ConstantDecl}
-use Rattle.decl_tree.specs.declared.declaration.Member.{Member}
-use Rattle.decl_tree.specs.declared.declaration.TypeDecl.{TypeDecl}
-use Rattle.element_table.specs.TypeCounts.{member_step, declaration_step, member_types, declaration_types}
+-- Counting the types of a unit along the walk over it, up to one more than the most.
+use Rattle.std.proofs.Common.{◌≡◌, ℕ, ◌+◌, ◌<◌, ◌≤◌, min, true, false, ◌&&◌, cond, List, [], ◌∷◌, Some, None, refl, sym, ap, ◌∙◌, arith}
+use Rattle.std.specs.Prelude.{nat_le, if◌then◌else◌}
+use Rattle.std.specs.List.{FoldsTo, count_by}
+use Rattle.std.proofs.lemmas.List.Sums.{sum_by-cons}
+use Rattle.std.proofs.lemmas.Bool.{lt-leb, le-leb, leb-true, leb-false}
+use Rattle.decl_elements.specs.Walk.{Place}
+use Rattle.element_table.specs.TypeCounts.{counts}
 use Rattle.element_table.specs.TypeTable.{most_types, up_to_most}
 
-pub member_types-Field : (field : FieldDecl) → member_types (member.Field field) ≡ 0
-unfolding member_types
-member_types-Field field = ap member_types (sym (member.rolls-Field field)) ∙ fold-roll-Member ℕ ℕ member_step declaration_step (Member-F.Field field)
+module _ {V : Type 0} (types : V → ℕ) (most : ℕ) where
+  abbrev CountsOn : V → Place → V → Type 0
+  CountsOn old at new = types new ≡ (if counts at.node && nat_le (types old) most then types old + 1 else types old)
 
-pub member_types-Method : (method : MethodDecl) → member_types (member.Method method) ≡ 0
-unfolding member_types
-member_types-Method method = ap member_types (sym (member.rolls-Method method)) ∙ fold-roll-Member ℕ ℕ member_step declaration_step (Member-F.Method method)
+  one_more : (a j n : ℕ) → a ≤ most + 1 → j ≡ (if nat_le a most then a + 1 else a) → (j ≤ most + 1) × (min (j + n) (most + 1) ≡ min (a + (1 + n)) (most + 1))
+  one_more a j n within step =
+      elim (nat_le a most) as (λ b. nat_le a most ≡ b → j ≡ (if b then a + 1 else a) → (j ≤ most + 1) × (min (j + n) (most + 1) ≡ min (a + (1 + n)) (most + 1))) [
+        | true ↦ λ is step. let le : a ≤ most = leb-true a most is in (omega arith, omega arith)
+        | false ↦ λ is step. let lt : most < a = leb-false a most is in (omega arith, omega arith)
+      ] refl step
 
-pub member_types-Constructor : (constructor : ConstructorDecl) → member_types (member.Constructor constructor) ≡ 0
-unfolding member_types
-member_types-Constructor constructor = ap member_types (sym (member.rolls-Constructor constructor)) ∙ fold-roll-Member ℕ ℕ member_step declaration_step (Member-F.Constructor constructor)
+  pub counted : (a b : V) (ats : List Place) → types a ≤ most + 1 → FoldsTo CountsOn a ats b → types b ≡ min (types a + count_by (λ (at : Place). counts at.node) ats) (most + 1)
+  counted a b [] within folds = let same : types a ≡ types b = ap types folds in omega arith
+  counted a b (at ∷ ats) within folds =
+      let n : ℕ = count_by (λ (at : Place). counts at.node) ats in
+      let same : types b ≡ min (types a + (cond (counts at.node) 1 0 + n)) (most + 1) =
+      elim (counts at.node) as (λ yes. types folds.0 ≡ (if yes && nat_le (types a) most then types a + 1 else types a) → types b ≡ min (types a + (cond yes 1 0 + n)) (most + 1)) [
+        | true ↦ λ step. let more = one_more (types a) (types folds.0) n within step in counted folds.0 b ats more.0 folds.2 ∙ more.1
+        | false ↦ λ step.
+            let none : types folds.0 + n ≡ types a + (0 + n) = omega arith in
+            counted folds.0 b ats (omega arith) folds.2 ∙ ap (λ k. min k (most + 1)) none
+      ] folds.1
+      in
+      same ∙ ap (λ k. min (types a + k) (most + 1)) (sym (sum_by-cons (λ (at : Place). cond (counts at.node) 1 0) at ats))
 
-pub member_types-Constant : (constant : ConstantDecl) → member_types (member.Constant constant) ≡ 0
-unfolding member_types
-member_types-Constant constant = ap member_types (sym (member.rolls-Constant constant)) ∙ fold-roll-Member ℕ ℕ member_step declaration_step (Member-F.Constant constant)
+-- ---- up to the most
 
-pub member_types-Nested : (declaration : TypeDecl) → member_types (member.Nested declaration) ≡ declaration_types declaration
-unfolding member_types declaration_types
-member_types-Nested declaration = ap member_types (sym (member.rolls-Nested declaration)) ∙ fold-roll-Member ℕ ℕ member_step declaration_step (Member-F.Nested declaration)
+pub within_most : (types all : ℕ) → types ≡ min all (most_types + 1) → types ≤ most_types → Some types ≡ up_to_most all
+within_most types all is within =
+    let same : types ≡ all = omega arith in
+    sym (ap (λ b. cond b (Some types) None) (le-leb types most_types within)) ∙ ap up_to_most same
 
-pub declaration_types-is : (d : TypeDecl) → declaration_types d ≡ 1 + sum_by member_types d.members
-unfolding member_types declaration_types
-declaration_types-is d = fold_out-TypeDecl ℕ ℕ member_step declaration_step d ∙ ap (λ (n : ℕ). 1 + n) (sum-map member_types d.members)
-
--- what a member is that is no type
-abbrev pub IsNoType : Member → Type 0
-IsNoType m =
-    ((x : FieldDecl) × (m ≡ member.Field x)) ⊎ ((x : MethodDecl) × (m ≡ member.Method x)) ⊎ ((x : ConstructorDecl) × (m ≡ member.Constructor x)) ⊎ ((x : ConstantDecl) × (m ≡ member.Constant x))
-
-pub no_types : (m : Member) → IsNoType m → member_types m ≡ 0
-no_types m (inl is) = ap member_types is.1 ∙ member_types-Field is.0
-no_types m (inr (inl is)) = ap member_types is.1 ∙ member_types-Method is.0
-no_types m (inr (inr (inl is))) = ap member_types is.1 ∙ member_types-Constructor is.0
-no_types m (inr (inr (inr is))) = ap member_types is.1 ∙ member_types-Constant is.0
-
--- ---- up to the limit
-
-pub up_to_most-within : (types : ℕ) → types ≤ most_types → up_to_most types ≡ Some types
-up_to_most-within types within = ap (λ b. cond b (Some types) None) (le-leb types most_types within)
-
-pub up_to_most-above : (types : ℕ) → most_types < types → up_to_most types ≡ None
-up_to_most-above types above = ap (λ b. cond b (Some types) None) (lt-leb types most_types above)
-
--- a member that is no type adds none
-pub adds_none : (counted more : ℕ) → more ≡ 0 → counted ≤ most_types → Some counted ≡ up_to_most (counted + more)
-adds_none counted more none within =
-    let same : counted ≡ counted + more = omega arith in
-    sym (up_to_most-within counted within) ∙ ap up_to_most same
+pub above_most : (types all : ℕ) → types ≡ min all (most_types + 1) → most_types < types → None ≡ up_to_most all
+above_most types all is above =
+    let more : most_types < all = omega arith in
+    sym (ap (λ b. cond b (Some all) None) (lt-leb all most_types more))

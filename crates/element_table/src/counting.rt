@@ -1,61 +1,59 @@
 // Counting types up to the limit of a table.
-ghost use Rattle.std.specs.Prelude.{◌≡◌, ◌+◌, ◌≤◌};
-ghost use Rattle.std.specs.List.{sum_by};
-ghost use Rattle.element_table.specs.TypeCounts.{declaration_types, member_types, unit_types};
+ghost use Rattle.std.specs.Prelude.{◌≡◌, ◌+◌, ◌≤◌, ◌&&◌, nat_le, if◌then◌else◌, IfOk};
+ghost use Rattle.decl_elements.specs.Shown.{node_of};
+ghost use Rattle.element_table.specs.TypeCounts.{counts, unit_types};
 ghost use Rattle.element_table.specs.TypeTable.{up_to_most, most_types};
 
-use decl_tree::{Body, Member, TypeDecl, Unit};
+use apt_base::NoMemory;
+use decl_elements::{Place, Visitor, walk};
+use decl_tree::Unit;
+use std::alloc::Global;
 
 /// How many types a table has at most.
-pub(crate) const MOST_TYPES: usize = 50_000;
+const MOST_TYPES: usize = 50_000;
 
-// Each function here gives the number of types with those that were counted before, unless they are too many.
-#[cycle(counting)]
-fn with_members(counted: usize, members: &[Member]) -> Option<usize>
-    requires { counted ≤ most_types }
-    ensures { result ≡ up_to_most (counted + sum_by member_types members.now) }
-{
-    let mut types = counted;
-    for member in members {
-        types = with_member(types, member)?;
-    }
-    Some(types)
+// How many types there are so far, up to one more than the most.
+#[derive(Drop)]
+struct TypeCounter {
+    types: usize,
 }
 
-#[cycle(counting)]
-fn with_member(counted: usize, member: &Member) -> Option<usize>
-    requires { counted ≤ most_types }
-    ensures { result ≡ up_to_most (counted + member_types member.now) }
+fn counts(place: Place<'_>) -> bool
+    ensures { result ≡ counts (node_of place.entry) }
 {
-    match member {
-        Member::Field(_) | Member::Method(_) | Member::Constructor(_) | Member::Constant(_) => {
-            Some(counted)
+    match place {
+        Place::Package(_) => true,
+        _ => place.declaration().is_some(),
+    }
+}
+
+impl Visitor for TypeCounter {
+    ghost visits = { λ old at new.
+        new.types ≡ (if counts at.node && nat_le old.types most_types then old.types + 1 else old.types) };
+
+    fn visit(&mut self, _path: &[u16], place: Place<'_>) -> Result<(), NoMemory> {
+        if counts(place) && self.types <= MOST_TYPES {
+            self.types += 1;
         }
-        Member::Nested(declaration) => with_declaration(counted, declaration),
+        Ok(())
     }
 }
 
-#[cycle(counting)]
-fn with_declaration(counted: usize, declaration: &TypeDecl) -> Option<usize>
-    requires { counted ≤ most_types }
-    ensures { result ≡ up_to_most (counted + declaration_types declaration.now) }
-{
-    if counted < MOST_TYPES {
-        with_members(counted + 1, declaration.members.as_slice())
-    } else {
-        None
-    }
-}
-
-/// How many types there are with those of a unit, unless they are too many.
+/// How many types there are with those of a unit and those that were counted before, unless they are too many.
 #[tactic(auto, unfolding(crate::specs::TypeCounts::unit_types))]
-pub(crate) fn with_unit(counted: usize, unit: &Unit) -> Option<usize>
+pub(crate) fn with_unit(
+    alloc: Global,
+    counted: usize,
+    unit: &Unit,
+) -> Result<Option<usize>, NoMemory>
     requires { counted ≤ most_types }
-    ensures { result ≡ up_to_most (counted + unit_types unit.now) }
+    ensures { IfOk result (λ types. types ≡ up_to_most (counted + unit_types unit.now)) }
 {
-    match &unit.text().body {
-        Body::Declared(declaration) => with_declaration(counted, declaration),
-        Body::Info(_, _) if counted < MOST_TYPES => Some(counted + 1),
-        Body::Info(_, _) => None,
+    let mut counter = TypeCounter { types: counted };
+    walk(alloc, unit, &mut counter)?;
+    if counter.types <= MOST_TYPES {
+        Ok(Some(counter.types))
+    } else {
+        Ok(None)
     }
 }

@@ -61,16 +61,16 @@ impl Table {
     }
 
     #[tactic(auto, unfolding(crate::specs::TypeTable::answer_to))]
-    fn answer_to(&self, name: &str, unit: &Unit) -> Answer
+    fn answer_to(&self, name: &str, unit: &Unit) -> Result<Answer, NoMemory>
         requires { name.now ≡ unit_name unit.now }
-        ensures { result ≡ answer_to self.now unit.now }
+        ensures { IfOk result (λ answer. answer ≡ answer_to self.now unit.now) }
     {
         if self.has_unit(name) {
-            return Answer::IsDuplicate;
+            return Ok(Answer::IsDuplicate);
         }
-        match with_unit(self.types, unit) {
-            None => Answer::IsTooMany,
-            Some(types) => Answer::IsNew(types),
+        match with_unit(self.alloc, self.types, unit)? {
+            None => Ok(Answer::IsTooMany),
+            Some(types) => Ok(Answer::IsNew(types)),
         }
     }
 
@@ -106,7 +106,10 @@ impl Table {
         let Ok(name) = name_of(self.alloc, &unit) else {
             return Err(EnterFault::Memory(unit));
         };
-        match self.answer_to(name.as_str(), &unit) {
+        let Ok(answer) = self.answer_to(name.as_str(), &unit) else {
+            return Err(EnterFault::Memory(unit));
+        };
+        match answer {
             Answer::IsDuplicate => Err(EnterFault::Duplicate(unit)),
             Answer::IsTooMany => Err(EnterFault::TooMany(unit)),
             Answer::IsNew(types) => match self.put(part, name, unit, types) {
