@@ -16,10 +16,10 @@ use Rattle.name_resolve.specs.Finds.{Find}
 use Rattle.name_resolve.specs.Supertypes.{Supertype, Written, is_object, written_or_object, superclass_in, interfaces_in, supertypes_in, supertypes}
 use Rattle.name_resolve.specs.Meaning.{but_last}
 use Rattle.name_resolve.proofs.Agreement.{ImportAsks, Asks, SupertypeAsks}
-use Rattle.reach_map.specs.Chains.{of_option, type_chains, declaration_chains, unit_chains}
+use Rattle.reach_map.specs.Chains.{of_option, type_chains, unit_chains}
 use Rattle.reach_map.specs.Candidates.{prefix_names, on_demand_name, chain_candidates, implied_names, candidates}
-use Rattle.reach_map.proofs.Everywhere.{OfSome, each_left, each_right, each_append, each_of_map, each_map, each_of_flat_map, each_to, each_both}
-use Rattle.reach_map.proofs.WrittenChains.{of_type, of_superclass, of_interfaces, in_type_at}
+use Rattle.decl_elements.proofs.Everywhere.{OfSome, each_left, each_right, each_append, each_of_map, each_map, each_of_flat_map, each_to, each_both}
+use Rattle.reach_map.proofs.WrittenChains.{OfHeader, of_type, of_superclass, of_interfaces, in_type_at}
 
 -- ---- the parts of a name, joined again
 
@@ -164,20 +164,20 @@ module _ (P : List ℕ → Type 0) where
     of_written None a = (of_implied.0, tt)
     of_written (Some text) a = (of_type (Asks P u) tt text a, tt)
 
-    of_superclass_in : (of_object : Bool) (k : TypeKind) (d : TypeDecl) → AllByRecursion (Asks P u) (declaration_chains d) → AllByRecursion Asks-of (superclass_in of_object k d)
+    of_superclass_in : (of_object : Bool) (k : TypeKind) (d : TypeDecl) → OfHeader (Asks P u) d → AllByRecursion Asks-of (superclass_in of_object k d)
     of_superclass_in true kind.Class d a = tt
     of_superclass_in false kind.Class d a = of_written d.superclass (of_superclass (Asks P u) tt d a)
     of_superclass_in b kind.Enum d a = (of_implied.1.0, tt)
     of_superclass_in b kind.AnnotationType d a = tt
     of_superclass_in b kind.Interface d a = tt
 
-    of_interfaces_in : (k : TypeKind) (d : TypeDecl) → AllByRecursion (Asks P u) (declaration_chains d) → AllByRecursion Asks-of (interfaces_in k d)
+    of_interfaces_in : (k : TypeKind) (d : TypeDecl) → OfHeader (Asks P u) d → AllByRecursion Asks-of (interfaces_in k d)
     of_interfaces_in kind.Class d a = each_map Asks-of Written d.interfaces (of_interfaces (Asks P u) tt d a)
     of_interfaces_in kind.Enum d a = each_map Asks-of Written d.interfaces (of_interfaces (Asks P u) tt d a)
     of_interfaces_in kind.AnnotationType d a = (of_implied.1.1.0, tt)
     of_interfaces_in kind.Interface d a = each_map Asks-of Written d.interfaces (of_interfaces (Asks P u) tt d a)
 
-    of_supertypes_in : (of_object : Bool) (d : Option TypeDecl) → OfSome (λ d. AllByRecursion (Asks P u) (declaration_chains d)) d → AllByRecursion Asks-of (supertypes_in of_object d)
+    of_supertypes_in : (of_object : Bool) (d : Option TypeDecl) → OfSome (λ d. OfHeader (Asks P u) d) d → AllByRecursion Asks-of (supertypes_in of_object d)
     of_supertypes_in b None a = tt
     of_supertypes_in b (Some d) a = each_append Asks-of _ _ (of_superclass_in b d.kind d a) (of_interfaces_in d.kind d a)
 

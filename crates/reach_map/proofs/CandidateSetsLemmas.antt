@@ -1,12 +1,13 @@
 -- Sets of names to which the candidates of name chains are added one after another.
 use Rattle.std.proofs.Common.{◌≡◌, ℕ, ◌+◌, ◌<◌, List, [], ◌∷◌, ◌++◌, length, take, drop, get_or, Result, Ok, Err, OnOk, refl, sym, ap, ◌∙◌, append-nil, append_assoc, arith, suc}
-use Rattle.std.specs.List.{flat_map}
+use Rattle.std.specs.List.{FoldsTo, flat_map}
 use Rattle.std.specs.FinMap as fin
 use Rattle.std.proofs.Math.Seq.{drop-cons}
 use Rattle.std.proofs.lemmas.List.{flat_map_more, take_more}
 use Rattle.decl_tree.specs.declared.compilation.UnitText.{UnitText}
+use Rattle.decl_elements.specs.Walk.{Place}
 use Rattle.apt_base.specs.Names.{NameSet, with_name, with_names}
-use Rattle.reach_map.specs.Chains.{Chains, body_chains, unit_chains}
+use Rattle.reach_map.specs.Chains.{Chains, node_chains, unit_chains}
 use Rattle.reach_map.specs.Candidates.{prefix_names, first_candidates, chain_candidates, implied_names, own_names, prefixes_of_all, import_prefixes, candidates}
 use Rattle.reach_map.specs.CandidateSets.{with_chains, candidate_set}
 
@@ -14,7 +15,7 @@ pub with_names-append : (names : NameSet) (a b : List (List ℕ)) → with_names
 with_names-append names [] b = refl
 with_names-append names (name ∷ a) b = with_names-append (with_name names name) a b
 
-flat_map-append : {A B : Type 0} (f : A → List B) (a b : List A) → flat_map f a ++ flat_map f b ≡ flat_map f (a ++ b)
+pub flat_map-append : {A B : Type 0} (f : A → List B) (a b : List A) → flat_map f a ++ flat_map f b ≡ flat_map f (a ++ b)
 flat_map-append f [] b = refl
 flat_map-append {B = B} f (x ∷ a) b = append_assoc (f x) (flat_map f a) (flat_map f b) ∙ ap (λ (t : List B). f x ++ t) (flat_map-append f a b)
 
@@ -82,12 +83,24 @@ rest_next f all cons old new items i item d lt is e =
     ap (λ (s : NameSet). with_names s (all (drop (i + 1) items))) e ∙ with_names-append old (f item) (all (drop (i + 1) items))
     ∙ ap (with_names old) (sym (cons item (drop (i + 1) items)) ∙ ap all (sym (drop_next items i item d lt is)))
 
+-- those of what is written at one place after another
+module _ {V : Type 0} (unit : V → UnitText) (names : V → NameSet) where
+  abbrev Gathers : V → Place → V → Type 0
+  Gathers old at new = (unit new ≡ unit old) × (names new ≡ with_chains (unit old) (names old) (node_chains at.node))
+
+  pub all_added : (a b : V) (ats : List Place) → FoldsTo Gathers a ats b → names b ≡ with_chains (unit a) (names a) (flat_map (λ (at : Place). node_chains at.node) ats)
+  all_added a b [] folds = sym (ap names folds) ∙ sym (with_chains-nil (unit a) (names a))
+  all_added a b (at ∷ ats) folds =
+      let more : Chains = flat_map (λ (at : Place). node_chains at.node) ats in
+      all_added folds.0 b ats folds.2 ∙ ap (λ (u : UnitText). with_chains u (names folds.0) more) folds.1.0
+      ∙ ap (λ (s : NameSet). with_chains (unit a) s more) folds.1.1 ∙ with_chains-append (unit a) (names a) (node_chains at.node) more
+
 -- all parts of the candidates of a unit
-pub all_gathered : (u : UnitText) (none own body imported all : NameSet) → none ≡ fin.empty → own ≡ with_names none (own_names u) → body ≡ with_chains u own (body_chains u.body)
+pub all_gathered : (u : UnitText) (none own body imported all : NameSet) → none ≡ fin.empty → own ≡ with_names none (own_names u) → body ≡ with_chains u own (unit_chains u)
     → imported ≡ with_names body (import_prefixes u.imports) → all ≡ with_names imported (prefixes_of_all implied_names) → all ≡ candidate_set u
-unfolding with_chains candidate_set candidates unit_chains
+unfolding with_chains candidate_set candidates
 all_gathered u none own body imported all n o b i a =
-    let chains : List (List ℕ) = flat_map (chain_candidates u) (body_chains u.body) in
+    let chains : List (List ℕ) = flat_map (chain_candidates u) (unit_chains u) in
     let imports : List (List ℕ) = import_prefixes u.imports in
     let implied : List (List ℕ) = prefixes_of_all implied_names in
     let first : own ≡ with_names fin.empty (own_names u) = o ∙ ap (λ (s : NameSet). with_names s (own_names u)) n in
@@ -96,4 +109,4 @@ all_gathered u none own body imported all n o b i a =
     i ∙ ap (λ (s : NameSet). with_names s imports) second ∙ with_names-append (with_names fin.empty (own_names u)) chains imports in
     a ∙ ap (λ (s : NameSet). with_names s implied) third ∙ with_names-append (with_names fin.empty (own_names u)) (chains ++ imports) implied
 
-pub ruleset adds = (with_chains-append, with_chains-nil)
+pub ruleset adds = (with_chains-append, with_chains-nil, flat_map-append, append-nil)

@@ -15,16 +15,8 @@ use Rattle.decl_tree.specs.declared.annotation.ValueText.TheOpen.{ValueText-F}
 use Rattle.decl_tree.specs.declared.annotation.ValueText.TheFolds.{fold-ElementValuePair, fold-roll-ValueText, fold_out-AnnotationText, fold_out-ElementValuePair}
 use Rattle.decl_tree.specs.declared.annotation.AnnotationText.{AnnotationText, out-AnnotationText}
 use Rattle.decl_tree.specs.declared.annotation.ElementValuePair.{ElementValuePair}
-use Rattle.decl_tree.specs.declared.member.FieldDecl.{FieldDecl}
-use Rattle.decl_tree.specs.declared.member.MethodDecl.{MethodDecl}
-use Rattle.decl_tree.specs.declared.member.ConstructorDecl.{ConstructorDecl}
-use Rattle.decl_tree.specs.declared.member.ConstantDecl.{ConstantDecl}
-use Rattle.decl_tree.specs.declared.declaration.Member.TheVariants as member
-use Rattle.decl_tree.specs.declared.declaration.Member.TheOpen.{Member-F}
-use Rattle.decl_tree.specs.declared.declaration.Member.TheFolds.{fold-roll-Member, fold_out-TypeDecl}
-use Rattle.decl_tree.specs.declared.declaration.TypeDecl.{TypeDecl}
 use Rattle.name_resolve.specs.Supertypes.{part_name}
-use Rattle.reach_map.specs.Chains.{Chains, gathered, of_option, base_step, part_step, type_step, type_chains, argument_chains, named_chains, value_step, annotation_step, pair_step, value_chains, annotation_chains, pair_chains, field_chains, method_chains, constructor_chains, constant_chains, head_chains, member_step, declaration_step, member_chains, declaration_chains}
+use Rattle.reach_map.specs.Chains.{Chains, gathered, of_option, base_step, part_step, type_step, type_chains, argument_chains, named_chains, value_step, annotation_step, pair_step, value_chains, annotation_chains, pair_chains}
 
 -- chains that were gathered of each item
 flat_map-gathered : {A : Type 0} (chains : A → Chains) (items : List A) → flat_map gathered (map chains items) ≡ flat_map chains items
@@ -145,31 +137,3 @@ unfolding annotation_chains
 annotation_chains-is annotation =
     fold_out-AnnotationText Chains Chains Chains value_step annotation_step pair_step annotation
     ∙ ap (λ (chains : Chains). parts (out-AnnotationText annotation).name ∷ chains) (folded_pairs (out-AnnotationText annotation).values)
-
--- ---- declarations
-
-pub member_chains-Field : (field : FieldDecl) → member_chains (member.Field field) ≡ field_chains field
-unfolding member_chains declaration_chains
-member_chains-Field field = ap member_chains (sym (member.rolls-Field field)) ∙ fold-roll-Member Chains Chains member_step declaration_step (Member-F.Field field)
-
-pub member_chains-Method : (method : MethodDecl) → member_chains (member.Method method) ≡ method_chains method
-unfolding member_chains declaration_chains
-member_chains-Method method = ap member_chains (sym (member.rolls-Method method)) ∙ fold-roll-Member Chains Chains member_step declaration_step (Member-F.Method method)
-
-pub member_chains-Constructor : (constructor : ConstructorDecl) → member_chains (member.Constructor constructor) ≡ constructor_chains constructor
-unfolding member_chains declaration_chains
-member_chains-Constructor constructor = ap member_chains (sym (member.rolls-Constructor constructor)) ∙ fold-roll-Member Chains Chains member_step declaration_step (Member-F.Constructor constructor)
-
-pub member_chains-Constant : (constant : ConstantDecl) → member_chains (member.Constant constant) ≡ constant_chains constant
-unfolding member_chains declaration_chains
-member_chains-Constant constant = ap member_chains (sym (member.rolls-Constant constant)) ∙ fold-roll-Member Chains Chains member_step declaration_step (Member-F.Constant constant)
-
-pub member_chains-Nested : (declaration : TypeDecl) → member_chains (member.Nested declaration) ≡ declaration_chains declaration
-unfolding member_chains declaration_chains
-member_chains-Nested declaration = ap member_chains (sym (member.rolls-Nested declaration)) ∙ fold-roll-Member Chains Chains member_step declaration_step (Member-F.Nested declaration)
-
-pub declaration_chains-is : (d : TypeDecl) → declaration_chains d ≡ head_chains d ++ flat_map member_chains d.members
-unfolding member_chains declaration_chains
-declaration_chains-is d =
-    fold_out-TypeDecl Chains Chains member_step declaration_step d
-    ∙ ap (λ (chains : Chains). head_chains d ++ chains) (flat_map-gathered member_chains d.members)

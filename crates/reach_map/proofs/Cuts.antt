@@ -21,7 +21,7 @@ use Rattle.name_resolve.proofs.Agreement.{Asks, Same, AreGood, SameTops, IsClose
 use Rattle.reach_map.specs.Chains.{type_chains, unit_chains}
 use Rattle.reach_map.specs.Candidates.{candidates}
 use Rattle.reach_map.specs.ClosedCuts.{cut, is_cut_off, IsClosedSet, IsWritten, MeansTheSame, KeepsMeanings}
-use Rattle.reach_map.proofs.Everywhere.{each, each_to, each_contained}
+use Rattle.decl_elements.proofs.Everywhere.{each, each_to, each_contained}
 use Rattle.reach_map.proofs.SameMirrors.{SameNames, SameAt, same_mirror}
 use Rattle.reach_map.proofs.SameSupertypes.{superclass-same, interfaces-same}
 use Rattle.reach_map.proofs.WrittenChains.{in_type_at}

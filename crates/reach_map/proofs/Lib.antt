@@ -2,7 +2,6 @@ pub mod Asked
 pub mod CandidateSetsLemmas
 pub mod ChainsLemmas
 pub mod Cuts
-pub mod Everywhere
 pub mod NamesLemmas
 pub mod ReachLemmas
 pub mod SameMirrors

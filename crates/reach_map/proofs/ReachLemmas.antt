@@ -12,7 +12,7 @@ use Rattle.reach_map.specs.ClosedCuts.{among, HoldsAll, IsClosedSet}
 use Rattle.reach_map.specs.Reach.{IsReachList}
 use Rattle.reach_map.specs.Reaching.{is_new_source, left_with, left_after, candidates_of, candidates_behind, holds, IsReaching, missing, to_do}
 use Rattle.reach_map.proofs.CandidateSetsLemmas.{drop_next}
-use Rattle.reach_map.proofs.Everywhere.{each_append, each_left, each_right, each_to}
+use Rattle.decl_elements.proofs.Everywhere.{each_append, each_left, each_right, each_to}
 use Rattle.reach_map.proofs.NamesLemmas.{is_false, or_cases, or_left, same_as, is_itself, among_left, among_last, among-append, from_each, to_each, holds-with_names, among-keys, grows, all_grow, has_new, ascends}
 
 -- ---- the candidates as a list have the candidates

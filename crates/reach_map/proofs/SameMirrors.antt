@@ -12,7 +12,7 @@ use Rattle.name_resolve.specs.Mirrors as means
 use Rattle.name_resolve.specs.Mirrors.{Meant, MeantPart, Look, or_none, found_mirror, named_mirror, parts_mirror, meant, base_meant, part_meant}
 use Rattle.name_resolve.proofs.MirrorsLemmas.{base-rolls, part-rolls, text-rolls}
 use Rattle.reach_map.specs.Chains.{Chains, gathered, type_chains}
-use Rattle.reach_map.proofs.Everywhere.{each_of_map, each_of_flat_map}
+use Rattle.decl_elements.proofs.Everywhere.{each_of_map, each_of_flat_map}
 use Rattle.reach_map.proofs.ChainsLemmas.{base_chains, part_chains, part_name-is, base_chains-roll, part_chains-roll, type_chains-roll}
 
 -- the first names of a longer chain

@@ -10,7 +10,7 @@ use Rattle.reach_map.specs.Candidates.{candidates}
 use Rattle.reach_map.specs.ClosedCuts.{NameSet, among, cut, IsClosedSet}
 use Rattle.reach_map.specs.Reach.{IsReach}
 use Rattle.reach_map.proofs.Cuts.{get_cut}
-use Rattle.reach_map.proofs.Everywhere.{each_both}
+use Rattle.decl_elements.proofs.Everywhere.{each_both}
 use Rattle.reach_map.proofs.NamesLemmas.{or_cases, same_as, front, back}
 
 both : (a b : Bool) → T a → T b → T (a && b)

@@ -12,19 +12,10 @@ use Rattle.decl_tree.specs.declared.annotation.AnnotationText.{AnnotationText}
 use Rattle.decl_tree.specs.declared.annotation.ElementValuePair.{ElementValuePair}
 use Rattle.decl_tree.specs.declared.annotation.ValueText.TheOpen.{ValueText-F, AnnotationText-F, ElementValuePair-F}
 use Rattle.decl_tree.specs.declared.annotation.ValueText.TheFolds.{fold-ValueText, fold-AnnotationText}
-use Rattle.decl_tree.specs.declared.member.TypeParam.{TypeParam}
-use Rattle.decl_tree.specs.declared.member.Param.{Param}
-use Rattle.decl_tree.specs.declared.member.FieldDecl.{FieldDecl}
-use Rattle.decl_tree.specs.declared.member.MethodDecl.{MethodDecl}
-use Rattle.decl_tree.specs.declared.member.ConstructorDecl.{ConstructorDecl}
-use Rattle.decl_tree.specs.declared.member.ConstantDecl.{ConstantDecl}
-use Rattle.decl_tree.specs.declared.declaration.Member.{Member}
-use Rattle.decl_tree.specs.declared.declaration.TypeDecl.{TypeDecl}
-use Rattle.decl_tree.specs.declared.declaration.Member.TheOpen.{Member-F, TypeDecl-F}
-use Rattle.decl_tree.specs.declared.declaration.Member.TheFolds.{fold-Member, fold-TypeDecl}
-use Rattle.decl_tree.specs.declared.compilation.Body.{Body}
-use Rattle.decl_tree.specs.declared.compilation.Body.TheVariants.{Declared, Info}
 use Rattle.decl_tree.specs.declared.compilation.UnitText.{UnitText}
+use Rattle.decl_elements.specs.Nodes.{Node}
+use Rattle.decl_elements.specs.Walk.{places}
+use Rattle.decl_elements.specs.Written.{annotations, types, values}
 use Rattle.name_resolve.specs.Supertypes.{part_name}
 
 abbrev pub Chains : Type 0
@@ -89,58 +80,12 @@ annotation_chains = fold-AnnotationText Chains Chains Chains value_step annotati
 abbrev pub pair_chains : ElementValuePair → Chains
 pair_chains pair = value_chains pair.value
 
--- ---- members
+-- ---- units
 
-unfoldable pub type_param_chains : TypeParam → Chains
-type_param_chains p = flat_map annotation_chains p.annotations ++ flat_map type_chains p.bounds
+-- what is written at one place
+abbrev pub node_chains : Node → Chains
+node_chains node = flat_map annotation_chains (annotations node) ++ flat_map type_chains (types node) ++ flat_map value_chains (values node)
 
-unfoldable pub param_chains : Param → Chains
-param_chains p = flat_map annotation_chains p.annotations ++ type_chains p.of
-
-unfoldable pub field_chains : FieldDecl → Chains
-field_chains f = flat_map annotation_chains f.annotations ++ type_chains f.of ++ of_option value_chains f.constant
-
-unfoldable pub method_chains : MethodDecl → Chains
-method_chains m =
-    flat_map annotation_chains m.annotations ++ flat_map type_param_chains m.parameters ++ type_chains m.result ++ flat_map param_chains m.arguments
-    ++ flat_map type_chains m.thrown ++ of_option value_chains m.default
-
-unfoldable pub constructor_chains : ConstructorDecl → Chains
-constructor_chains c =
-    flat_map annotation_chains c.annotations ++ flat_map type_param_chains c.parameters ++ flat_map param_chains c.arguments ++ flat_map type_chains c.thrown
-
-unfoldable pub constant_chains : ConstantDecl → Chains
-constant_chains c = flat_map annotation_chains c.annotations
-
--- ---- declarations
-
-abbrev pub member_step : Member-F Chains Chains → Chains
-member_step (Member-F.Field field) = field_chains field
-member_step (Member-F.Method method) = method_chains method
-member_step (Member-F.Constructor constructor) = constructor_chains constructor
-member_step (Member-F.Constant constant) = constant_chains constant
-member_step (Member-F.Nested declaration) = declaration
-
-abbrev pub declaration_step : TypeDecl-F Chains Chains → Chains
-declaration_step d =
-    flat_map annotation_chains d.annotations ++ flat_map type_param_chains d.parameters ++ of_option type_chains d.superclass
-    ++ flat_map type_chains d.interfaces ++ flat_map gathered d.members
-
--- of what stands before the members of a declaration
-abbrev pub head_chains : TypeDecl → Chains
-head_chains d =
-    flat_map annotation_chains d.annotations ++ flat_map type_param_chains d.parameters ++ of_option type_chains d.superclass
-    ++ flat_map type_chains d.interfaces
-
-unfoldable pub member_chains : Member → Chains
-member_chains = fold-Member Chains Chains member_step declaration_step
-
-unfoldable pub declaration_chains : TypeDecl → Chains
-declaration_chains = fold-TypeDecl Chains Chains member_step declaration_step
-
-unfoldable pub body_chains : Body → Chains
-body_chains (Declared declaration) = declaration_chains declaration
-body_chains (Info annotations doc) = flat_map annotation_chains annotations
-
+-- at each place
 unfoldable pub unit_chains : UnitText → Chains
-unit_chains u = body_chains u.body
+unit_chains u = flat_map (λ at. node_chains at.node) (places u)

@@ -6,7 +6,7 @@ ghost use Rattle.reach_map.specs.Candidates.{prefixes_of_all, import_prefixes, o
 ghost use Rattle.reach_map.specs.CandidateSets.{candidate_set, candidate_list};
 
 use crate::chains::add_in_package;
-use crate::members::add_body;
+use crate::places::with_places;
 use crate::prefixes::add_text;
 use apt_base::{List, Name, Names, NoMemory};
 use decl_tree::{Import, Unit};
@@ -66,9 +66,8 @@ fn gathered(alloc: Global, unit: &Unit) -> Result<Names, NoMemory>
 {
     let mut names = Names::new(alloc);
     add_own(alloc, unit, &mut names)?;
-    let text = unit.text();
-    add_body(alloc, text, &text.body, &mut names)?;
-    add_imports(alloc, text.imports.get().as_slice(), &mut names)?;
+    let mut names = with_places(alloc, unit, names)?;
+    add_imports(alloc, unit.text().imports.get().as_slice(), &mut names)?;
     add_texts(alloc, &IMPLIED, &mut names)?;
     Ok(names)
 }

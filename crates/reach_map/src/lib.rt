@@ -12,7 +12,7 @@
 mod agreeing;
 mod chains;
 mod gathered;
-mod members;
+mod places;
 mod prefixes;
 mod reaching;
 mod types;

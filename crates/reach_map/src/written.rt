@@ -1,16 +1,17 @@
-// Parts of a unit in which name chains are written, alone, in a list or where they may be left out.
+// Texts in which name chains are written, alone, in a list or where they may be left out.
 ghost use Rattle.std.specs.Prelude.{◌≡◌, OnOk};
 ghost use Rattle.std.specs.List.{flat_map};
-ghost use Rattle.reach_map.specs.Chains.{Chains, of_option, type_chains, value_chains, annotation_chains, type_param_chains, param_chains};
+ghost use Rattle.std.specs.Option.{option_to_list};
+ghost use Rattle.reach_map.specs.Chains.{Chains, type_chains, value_chains, annotation_chains};
 ghost use Rattle.reach_map.specs.CandidateSets.{with_chains};
 
 use crate::types::add_type;
 use crate::values::{add_annotation, add_value};
 use apt_base::{Names, NoMemory};
-use decl_tree::{AnnotationText, Param, TypeParam, TypeText, UnitText, ValueText};
+use decl_tree::{AnnotationText, TypeText, UnitText, ValueText};
 use std::alloc::Global;
 
-/// A part of a unit in which name chains are written.
+/// A text in which name chains are written.
 pub(crate) trait Written {
     /// The chains.
     ghost chains: { Self → Chains };
@@ -44,26 +45,6 @@ impl Written for AnnotationText {
     }
 }
 
-impl Written for TypeParam {
-    ghost chains = { type_param_chains };
-
-    #[tactic(auto, using(crate::proofs::CandidateSetsLemmas::adds), unfolding(crate::specs::Chains::type_param_chains))]
-    fn add(&self, alloc: Global, unit: &UnitText, names: &mut Names) -> Result<(), NoMemory> {
-        add_all(alloc, unit, self.annotations.as_slice(), names)?;
-        add_all(alloc, unit, self.bounds.as_slice(), names)
-    }
-}
-
-impl Written for Param {
-    ghost chains = { param_chains };
-
-    #[tactic(auto, using(crate::proofs::CandidateSetsLemmas::adds), unfolding(crate::specs::Chains::param_chains))]
-    fn add(&self, alloc: Global, unit: &UnitText, names: &mut Names) -> Result<(), NoMemory> {
-        add_all(alloc, unit, self.annotations.as_slice(), names)?;
-        add_type(alloc, unit, &self.of, names)
-    }
-}
-
 /// Each item of a list.
 pub(crate) fn add_all<T: Written>(
     alloc: Global,
@@ -79,14 +60,15 @@ pub(crate) fn add_all<T: Written>(
     Ok(())
 }
 
-/// A part that may be left out.
+/// A text that may be left out.
+#[tactic(auto, using(crate::proofs::CandidateSetsLemmas::adds))]
 pub(crate) fn add_optional<T: Written>(
     alloc: Global,
     unit: &UnitText,
     part: &Option<T>,
     names: &mut Names,
 ) -> Result<(), NoMemory>
-    ensures { OnOk result (names.new ≡ with_chains unit.now names.old (of_option T.chains part.now)) }
+    ensures { OnOk result (names.new ≡ with_chains unit.now names.old (flat_map T.chains (option_to_list part.now))) }
 {
     match part {
         None => Ok(()),

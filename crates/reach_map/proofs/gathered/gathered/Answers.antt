@@ -3,5 +3,5 @@ use Rattle.reach_map.proofs.gathered.gathered.Goals as goal
 
 pub returns : goal.returns
 returns c =
-    all_gathered c.args.unit.now c.new-names.result c.add_own.new.names c.add_body.new.names c.add_imports.new.names c.add_texts.new.names c.new-names.ensures c.in_ok-add_own.ensures
-    (rw c.text-text.ensures.value at c.in_ok-add_body.ensures) (rw (c.as_slice.ensures, c.get.ensures, c.text-text.ensures.value) at c.in_ok-add_imports.ensures) c.in_ok-add_texts.ensures
+    all_gathered c.args.unit.now c.new-names.result c.add_own.new.names c.in_ok-names.names c.add_imports.new.names c.add_texts.new.names c.new-names.ensures c.in_ok-add_own.ensures
+    c.in_ok-names.ensures (rw (c.as_slice.ensures, c.get.ensures, c.text.ensures.value) at c.in_ok-add_imports.ensures) c.in_ok-add_texts.ensures
