@@ -61,7 +61,7 @@ unfolding layer
 mirror_of-layer m = back_in (out-Mirror m).around (out-Mirror m).base ∙ roll-out-Mirror m
 
 -- the layer of a mirror that is opened
-layer-rolled : (around : List Around) (b : BaseMirror) → layer (rolled_mirror around b) ≡ layer_in around b
+pub layer-rolled : (around : List Around) (b : BaseMirror) → layer (rolled_mirror around b) ≡ layer_in around b
 unfolding layer
 layer-rolled around b = ap (λ (o : MirrorLayer). layer_in o.around o.base) (out-roll-Mirror (record { around = around; base = b }))
 

@@ -1,0 +1,31 @@
+-- Which elements lie in a cut, by a look-up of their unit, and what the laws say of one of them.
+use Rattle.std.proofs.Common.{◌≡◌, ◌↔◌, Bool, ◌||◌, IsTrue, Option, None, Some, is_some, Bor, refl, sym, ap, ◌∙◌}
+use Rattle.std.specs.Option.{option_or, option_copied}
+use Rattle.std.specs.FinMap as fin
+use Rattle.apt_base.specs.declared.element.ElementRef.{ElementRef}
+use Rattle.decl_tree.specs.declared.compilation.UnitText.{UnitText}
+use Rattle.element_table.specs.TypeTable.{TypeTable, unit_of, has_unit}
+use Rattle.reach_map.specs.ClosedCuts.{NameSet, cut}
+use Rattle.closed_cuts.specs.CutElements.{LiesIn}
+use Rattle.closed_cuts.specs.ElementLaws.{StaysInCut}
+use Rattle.closed_cuts.specs.NameLaws.{AllNamesStay}
+use Rattle.closed_cuts.specs.TypeLaws.{AllTypesStay}
+
+some_copied : (found : Option (Bor UnitText)) → is_some found ≡ is_some (option_copied found)
+some_copied None = refl
+some_copied (Some unit) = refl
+
+some_either : (source stub : Option UnitText) → is_some (option_or source stub) ≡ (is_some source || is_some stub)
+some_either None stub = refl
+some_either (Some unit) stub = refl
+
+module _ (table : TypeTable) (names : NameSet) (at : ElementRef) where
+  pub lies-in : (found : Option (Bor UnitText)) → option_copied found ≡ unit_of (cut table names) at.unit → (answer : Bool) → answer ≡ is_some found
+      → IsTrue answer ↔ LiesIn table names at
+  lies-in found is answer e =
+      let same : answer ≡ has_unit (cut table names) at.unit =
+      e ∙ some_copied found ∙ ap is_some is ∙ some_either (fin.get (cut table names).source at.unit) (fin.get (cut table names).stub at.unit) in
+      (λ t. sym same ∙ t, λ t. same ∙ t)
+
+  pub stays-in_cut : AllNamesStay → AllTypesStay → LiesIn table names at → StaysInCut table names at
+  stays-in_cut names_stay types_stay lies rooted = record { names = names_stay table names rooted at lies; element = (types_stay table names rooted).elements at lies }

@@ -1,0 +1,17 @@
+-- What the laws on cuts say of one element that lies in a cut.
+use Rattle.std.specs.Prelude.{ℕ, List}
+use Rattle.apt_base.specs.declared.element.ElementRef.{ElementRef}
+use Rattle.element_table.specs.TypeTable.{TypeTable}
+use Rattle.reach_map.specs.ClosedCuts.{NameSet, cut}
+use Rattle.closed_cuts.specs.CutElements.{HasUnit, IsRooted}
+use Rattle.closed_cuts.specs.NameLaws.{NamesStay}
+use Rattle.closed_cuts.specs.TypeLaws.{ElementStays}
+
+-- the names that are written at it, and what stands there
+pub record Stays (one other : TypeTable) (Has : List ℕ → Type 0) (at : ElementRef) : Type 0 where
+  pub names : NamesStay one other Has at
+  pub element : ElementStays one other Has at
+
+-- over the cut to a closed set with a source of the table
+abbrev pub StaysInCut : TypeTable → NameSet → ElementRef → Type 0
+StaysInCut table names at = IsRooted table names → Stays table (cut table names) (HasUnit (cut table names)) at

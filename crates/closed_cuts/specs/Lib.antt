@@ -1,0 +1,9 @@
+pub mod AgreementLaws
+pub mod CutElements
+pub mod ElementLaws
+pub mod Kept
+pub mod NameLaws
+pub mod NodeTexts
+pub mod QuestionLaws
+pub mod RootedLaws
+pub mod TypeLaws
