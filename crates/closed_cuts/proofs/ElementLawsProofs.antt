@@ -1,5 +1,5 @@
 -- Which elements lie in a cut, by a look-up of their unit, and what the laws say of one of them.
-use Rattle.std.proofs.Common.{◌≡◌, ◌↔◌, Bool, ◌||◌, IsTrue, Option, None, Some, is_some, Bor, refl, sym, ap, ◌∙◌}
+use Rattle.std.proofs.Common.{◌≡◌, true, ◌||◌, Option, None, Some, is_some, Bor, refl, sym, ap, ◌∙◌}
 use Rattle.std.specs.Option.{option_or, option_copied}
 use Rattle.std.specs.FinMap as fin
 use Rattle.apt_base.specs.declared.element.ElementRef.{ElementRef}
@@ -20,12 +20,14 @@ some_either None stub = refl
 some_either (Some unit) stub = refl
 
 module _ (table : TypeTable) (names : NameSet) (at : ElementRef) where
-  pub lies-in : (found : Option (Bor UnitText)) → option_copied found ≡ unit_of (cut table names) at.unit → (answer : Bool) → answer ≡ is_some found
-      → IsTrue answer ↔ LiesIn table names at
-  lies-in found is answer e =
-      let same : answer ≡ has_unit (cut table names) at.unit =
-      e ∙ some_copied found ∙ ap is_some is ∙ some_either (fin.get (cut table names).source at.unit) (fin.get (cut table names).stub at.unit) in
-      (λ t. sym same ∙ t, λ t. same ∙ t)
+  has_found : (found : Option (Bor UnitText)) → option_copied found ≡ unit_of (cut table names) at.unit → is_some found ≡ has_unit (cut table names) at.unit
+  has_found found is = some_copied found ∙ ap is_some is ∙ some_either (fin.get (cut table names).source at.unit) (fin.get (cut table names).stub at.unit)
 
-  pub stays-in_cut : AllNamesStay → AllTypesStay → LiesIn table names at → StaysInCut table names at
-  stays-in_cut names_stay types_stay lies rooted = record { names = names_stay table names rooted at lies; element = (types_stay table names rooted).elements at lies }
+  pub lies : (found : Option (Bor UnitText)) → option_copied found ≡ unit_of (cut table names) at.unit → is_some found ≡ true → LiesIn table names at
+  lies found is some = sym (has_found found is) ∙ some
+
+  pub there : (found : Option (Bor UnitText)) → option_copied found ≡ unit_of (cut table names) at.unit → LiesIn table names at → is_some found ≡ true
+  there found is has = has_found found is ∙ has
+
+  pub staying : AllNamesStay → AllTypesStay → LiesIn table names at → StaysInCut table names at
+  staying names_stay types_stay has rooted = record { names = names_stay table names rooted at has; element = (types_stay table names rooted).elements at has }

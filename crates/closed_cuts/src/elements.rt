@@ -14,6 +14,7 @@ use reach_map::find_in_cut;
 ///
 /// Where the list is closed and has a source of the table, what is written at such an element means the same
 /// over the cut, and what stands there is the same (`specs/ElementLaws`).
+#[tactic(auto, using(crate::proofs::ElementLawsProofs::lies, crate::proofs::ElementLawsProofs::there, crate::proofs::ElementLawsProofs::staying))]
 pub fn lies_in_cut(table: &Table, names: &List<Name>, element: &ElementRef) -> bool
     ensures value { IsTrue result ↔ LiesIn table.now (among names.now) element.now }
     ensures law { IsTrue result → StaysInCut table.now (among names.now) element.now }
