@@ -116,9 +116,9 @@ fn numeral_of(text: &[u8]) -> Option<Numeral>
     }
 }
 
-/// Whether an `l` or an `L` stands at the end.
+// Whether an `l` or an `L` stands at the end.
 #[tactic(auto, unfolding(crate::specs::Numerals::is_long))]
-pub(crate) fn is_long(text: &[u8]) -> bool
+fn is_long(text: &[u8]) -> bool
     ensures { result ≡ numerals.is_long text.now }
 {
     matches!(text.last(), Some(b'l' | b'L'))
