@@ -1,0 +1,160 @@
+package dinxobhe.stubs;
+
+import java.io.File;
+import java.io.IOException;
+import java.net.URISyntaxException;
+import java.nio.ByteBuffer;
+import java.nio.charset.StandardCharsets;
+import java.nio.file.Files;
+import java.nio.file.Path;
+import java.nio.file.Paths;
+import java.security.MessageDigest;
+import java.security.NoSuchAlgorithmException;
+import java.util.ArrayList;
+import java.util.LinkedHashMap;
+import java.util.LinkedHashSet;
+import java.util.List;
+import java.util.Map;
+import java.util.Set;
+import java.util.function.Function;
+import java.util.regex.Matcher;
+import java.util.regex.Pattern;
+import java.util.stream.Collectors;
+
+/** Which processors some jars have, of which kinds they are, and how each is started. */
+final class Services {
+    /** The class that runs a processor for javac as a child of the host. */
+    private static final String BRIDGE = "dinxobhe.Bridge";
+    private static final String NAMES = "META-INF/services/javax.annotation.processing.Processor";
+    private static final String KINDS = "META-INF/gradle/incremental.annotation.processors";
+    private static final Path RESOURCES = Paths.get("res");
+    private static final Pattern KIND_LINE =
+        Pattern.compile("([^\\s,]+)\\s*,\\s*(isolating|aggregating|dynamic)", Pattern.CASE_INSENSITIVE);
+
+    private final List<Path> jars;
+    private final Set<String> names = new LinkedHashSet<>();
+    private final Map<String, String> kinds = new LinkedHashMap<>();
+    /** A text that changes with the files of the jars. */
+    private String version;
+
+    private Services(List<Path> jars) {
+        this.jars = jars;
+    }
+
+    static Services of(List<Path> jars) throws IOException, InputFault {
+        Services services = new Services(jars);
+        MessageDigest digest = digest();
+        for (Path jar : jars) {
+            try (ClassPathEntry entry = ClassPathEntry.open(jar)) {
+                services.read(entry);
+                for (Path file : entry.files()) {
+                    digest.update(entry.name(file).getBytes(StandardCharsets.UTF_8));
+                    digest.update(Files.readAllBytes(file));
+                }
+            }
+        }
+        services.kinds.keySet().retainAll(services.names);
+        services.version = String.format("%016x", ByteBuffer.wrap(digest.digest()).getLong());
+        return services;
+    }
+
+    private void read(ClassPathEntry jar) throws IOException, InputFault {
+        int number = 0;
+        for (String line : jar.lines(NAMES)) {
+            number++;
+            String name = withoutComment(line);
+            if (!name.isEmpty()) {
+                if (!JavaNames.isDotted(name)) {
+                    throw new InputFault(jar.path() + ": " + NAMES + ":" + number + ": not the name of a processor");
+                }
+                names.add(name);
+            }
+        }
+        number = 0;
+        for (String line : jar.lines(KINDS)) {
+            number++;
+            String said = withoutComment(line);
+            Matcher matcher = KIND_LINE.matcher(said);
+            if (!said.isEmpty()) {
+                if (!matcher.matches() || !JavaNames.isDotted(matcher.group(1))) {
+                    throw new InputFault(jar.path() + ": " + KINDS + ":" + number + ": not a processor and its kind");
+                }
+                kinds.put(matcher.group(1), matcher.group(2));
+            }
+        }
+    }
+
+    private static String withoutComment(String line) {
+        int comment = line.indexOf('#');
+        return (comment < 0 ? line : line.substring(0, comment)).strip();
+    }
+
+    /** Fails if one of the files is there with other lines, which may be the user's own. */
+    void check() throws IOException, InputFault {
+        for (Map.Entry<Path, String> file : files().entrySet()) {
+            Path path = file.getKey();
+            if (Files.exists(path) && !Files.readString(path).equals(file.getValue())) {
+                throw new InputFault(path + ": is there already, with other lines: remove it first");
+            }
+        }
+    }
+
+    void write() throws IOException {
+        for (Map.Entry<Path, String> file : files().entrySet()) {
+            Files.createDirectories(file.getKey().getParent());
+            Files.writeString(file.getKey(), file.getValue());
+        }
+    }
+
+    private Map<Path, String> files() {
+        Map<Path, String> files = new LinkedHashMap<>();
+        files.put(RESOURCES.resolve(NAMES), lines(names, name -> name));
+        if (!kinds.isEmpty()) {
+            files.put(RESOURCES.resolve(KINDS), lines(kinds.keySet(), name -> name + "," + kinds.get(name)));
+        }
+        return files;
+    }
+
+    private static String lines(Set<String> names, Function<String, String> line) {
+        return names.stream().map(name -> line.apply(name) + "\n").collect(Collectors.joining());
+    }
+
+    /** An apt.json that has a row for each processor. */
+    String configuration() {
+        List<String> path = new ArrayList<>(List.of(ownJar()));
+        jars.forEach(jar -> path.add(jar.toString()));
+        String classPath = String.join(File.pathSeparator, path);
+        return names.stream()
+            .map(name -> "    " + quoted(name) + ": {\"command\": [\"java\", \"-cp\", " + quoted(classPath) + ", "
+                + quoted(BRIDGE) + ", " + quoted(name) + "], \"version\": " + quoted(version) + "}")
+            .collect(Collectors.joining(",\n", "{\n  \"processors\": {\n", "\n  }\n}\n"));
+    }
+
+    private static String ownJar() {
+        try {
+            return Paths.get(Services.class.getProtectionDomain().getCodeSource().getLocation().toURI()).toString();
+        } catch (URISyntaxException e) {
+            throw new IllegalStateException(e);
+        }
+    }
+
+    private static MessageDigest digest() {
+        try {
+            return MessageDigest.getInstance("SHA-256");
+        } catch (NoSuchAlgorithmException e) {
+            throw new IllegalStateException(e); // every Java has it
+        }
+    }
+
+    private static String quoted(String text) {
+        StringBuilder quoted = new StringBuilder("\"");
+        for (char c : text.toCharArray()) {
+            if (c == '"' || c == '\\') {
+                quoted.append('\\').append(c);
+            } else {
+                quoted.append(c < ' ' ? String.format("\\u%04x", (int) c) : String.valueOf(c));
+            }
+        }
+        return quoted.append('"').toString();
+    }
+}

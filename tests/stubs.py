@@ -1,0 +1,657 @@
+#!/usr/bin/env python3
+"""Builds the jar of kits/java, and tries its command stubs: over a small library, over faulty words and files, and over
+the JDK's module java.base. The built program then reads the stubs.
+
+    tests/stubs.py [PROGRAM]
+
+PROGRAM is crates/apt_cli/out/apt_cli where it is left out. Each case prints a line. The first that fails ends the run
+with status 1. The last line is 'stubs: N passed, M failed'. Without the programs of a JDK nothing can be tried, and that
+is a failed case.
+
+What is expected is written by hand, or comes from the JDK: SameDeclarations.java compares the stubs of java.base with its
+class files, as javax.lang.model has both. No expected text was made by the command itself.
+"""
+import json
+import os
+import shutil
+import subprocess
+import sys
+import tempfile
+import zipfile
+
+from host import DONE_STATUS, HERE, SERVICES, KINDS, Cases, Failure, expect, frames, say
+
+KIT = os.path.join(HERE, "..", "kits", "java")
+JAR = os.path.join(KIT, "out", "dinxobhe.jar")
+WRITTEN, FAULT, WRONG_WORDS = 0, 1, 2
+
+# Each run of Java takes a second or two, in which its best compiler would be no help.
+FAST = ["-XX:+UseSerialGC", "-XX:TieredStopAtLevel=1"]
+
+REPORT = b"mode: clean (Full), started 0\ndone: 2 rounds, 0 files, 0 errors, 0 warnings\n"
+
+case = Cases("stubs")
+
+
+# ---- what the cases share
+
+
+def output_of(command, folder):
+    run = subprocess.run(command, cwd=folder, stdout=subprocess.PIPE, stderr=subprocess.STDOUT, encoding="utf-8", check=False)
+    if run.returncode != 0:
+        raise Failure(f"{command[0]} ended with {run.returncode}: {run.stdout[-2000:]}")
+    return run.stdout
+
+
+def library(project, sources, name="library.jar", resources=()):
+    """A jar of compiled sources, by their paths, and of other files. Gives its path."""
+    with tempfile.TemporaryDirectory(dir=project.folder) as folder:
+        for path, content in sources.items():
+            put(folder, path, content)
+        os.mkdir(os.path.join(folder, "classes"))
+        output_of(["javac", *(f"-J{word}" for word in FAST), "-encoding", "UTF-8", "--release", "11", "-d", "classes", *sources],
+                  folder)
+        for path, content in dict(resources).items():
+            put(os.path.join(folder, "classes"), path, content)
+        jar = project.path(name)
+        os.rename(shutil.make_archive(jar, "zip", os.path.join(folder, "classes")), jar)
+    return jar
+
+
+def put(folder, path, content):
+    whole = os.path.join(folder, path)
+    os.makedirs(os.path.dirname(whole), exist_ok=True)
+    with open(whole, "w", encoding="utf-8", newline="") as file:
+        file.write(content)
+
+
+def stubs(project, *words):
+    """A run of the command in the project's folder."""
+    return subprocess.run(["java", *FAST, "-jar", JAR, "stubs", *words], cwd=project.folder, stdout=subprocess.PIPE,
+                          stderr=subprocess.PIPE, encoding="utf-8", check=False)
+
+
+def written(project, *words):
+    """The stubs that the command writes, by their paths; and how the run ended."""
+    run = stubs(project, "stubs", *words)
+    expect("the status and the messages", (run.returncode, run.stderr) if run.returncode else WRITTEN, WRITTEN)
+    return files_below(project.path("stubs")), run
+
+
+def files_below(folder):
+    files = {}
+    for path, _, names in os.walk(folder):
+        for name in names:
+            with open(os.path.join(path, name), encoding="utf-8", newline="") as file:
+                files[os.path.relpath(os.path.join(path, name), folder)] = file.read()
+    return files
+
+
+def is_read(project):
+    """The program builds the project, and so it read all stubs."""
+    run = project.run(["build"])
+    expect("the output", run.output, REPORT)
+    expect("the messages", run.messages, b"")
+    expect("the status", run.status, DONE_STATUS)
+
+
+def refused(project, status, message, *words):
+    """The command writes nothing but this message, and a line on how it is used where the words are wrong."""
+    run = stubs(project, "stubs", *words)
+    expect("the status", run.returncode, status)
+    expect("the message", run.stderr.splitlines()[0], f"stubs: {message}")
+    expect("the number of lines", len(run.stderr.splitlines()), 2 if status == WRONG_WORDS else 1)
+    expect("the output", run.stdout, "")
+    expect("whether there are stubs", os.path.exists(project.path("stubs")), False)
+
+
+# ---- a library, and what its stubs are to be
+
+
+# The forms of declarations, each with the stub that it is to have.
+FORMS = {
+    "lib/Base.java": ("""package lib;
+
+abstract class Base {
+    protected long id;
+    int hidden;
+    public abstract void close() throws java.io.IOException, IllegalStateException;
+    void inside() {}
+}
+""", """package lib;
+
+abstract class Base {
+  protected long id;
+  Base() {}
+  public abstract void close() throws java.io.IOException, java.lang.IllegalStateException;
+}
+"""),
+    "lib/Box.java": ("""package lib;
+
+import java.util.*;
+
+/** A comment. */
+public abstract class Box<T extends Comparable<? super T>, N extends Number & java.io.Serializable> extends Base
+        implements Holder<List<? extends T>> {
+    private static class Secret {}
+    private static class Named<E> {}
+    public class Inner<E> {
+        public class Deep {}
+    }
+    static class Beside {
+        public static class Within {}
+    }
+    protected Named<T> named;
+    public Map.Entry<String, int[][]> entry = new AbstractMap.SimpleEntry<>("", null);
+    public volatile transient boolean on;
+    private Secret secret;
+    protected Box(int first, T... others) {}
+    Box() {}
+    public <K, V extends K> Map<K, ? super V> of(K key, V... values) throws java.io.IOException { return null; }
+    public Inner<String>.Deep deep(Box<T, Integer>.Inner<?> inner) { return null; }
+    public final synchronized native void call(N[] numbers);
+    protected Beside.Within within() { return null; }
+    private void hidden() {}
+}
+""", """package lib;
+
+public abstract class Box<T extends java.lang.Comparable<? super T>, N extends java.lang.Number & java.io.Serializable> extends lib.Base implements lib.Holder<java.util.List<? extends T>> {
+  static class Beside {
+    public static class Within {
+      public Within() {}
+    }
+    Beside() {}
+  }
+  public class Inner<E> {
+    public class Deep {
+      public Deep() {}
+    }
+    public Inner() {}
+  }
+  private static class Named<E> {
+    private Named() {}
+  }
+  protected lib.Box.Named<T> named;
+  public java.util.Map.Entry<java.lang.String, int[][]> entry;
+  public transient volatile boolean on;
+  protected Box(int arg0, T... arg1) {}
+  public <K, V extends K> java.util.Map<K, ? super V> of(K arg0, V... arg1) throws java.io.IOException;
+  public lib.Box<T, N>.Inner<java.lang.String>.Deep deep(lib.Box<T, java.lang.Integer>.Inner<?> arg0);
+  public final synchronized native void call(N[] arg0);
+  protected lib.Box.Beside.Within within();
+}
+"""),
+    "lib/Holder.java": ("""package lib;
+
+public interface Holder<T> extends Comparable<Holder<?>>, Runnable {
+    int SIZE = 3 + 4;
+    int[] NUMBERS = {1};
+    String NAME = System.getProperty("name");
+    char LETTER = NAME.charAt(0);
+    enum Kind { ONE, TWO }
+    interface Inner {}
+    class Made {}
+    T get(final int at);
+    default void run() {}
+    static void help() {}
+    private void own() {}
+}
+""", """package lib;
+
+public interface Holder<T> extends java.lang.Comparable<lib.Holder<?>>, java.lang.Runnable {
+  class Made {
+    public Made() {}
+  }
+  interface Inner {
+  }
+  enum Kind {
+    ONE, TWO;
+  }
+  int SIZE = 7;
+  int[] NUMBERS = (null);
+  java.lang.String NAME = (null);
+  char LETTER = (Character) null;
+  T get(int arg0);
+  default void run();
+  static void help();
+}
+"""),
+    "lib/Constants.java": (r"""package lib;
+
+public final class Constants {
+    public static final boolean YES = true;
+    public static final byte BYTE = -128;
+    public static final short SHORT = (short) 0xFFFF;
+    public static final char QUOTE = '\'', LINE = '\n', ACUTE = '\u00e9', HALF = '\ud800', NONE = 0;
+    public static final int LEAST = Integer.MIN_VALUE;
+    public static final long LONG = 1L << 40;
+    public static final float FLOAT = 1.5e9f, NO_NUMBER = Float.NaN;
+    public static final double TENTH = 0.1, LITTLE = 4.9e-324, FAR = Double.NEGATIVE_INFINITY, ZERO = -0.0;
+    public static final String TEXT = "a\"b\\c\t\0" + "1\u20ac\ud83d\ude00'";
+    public static final String BROKEN = "x\udc00";
+    public static final Integer BOX = 5;
+    protected final int of = 4;
+    private Constants(int number) {}
+}
+""", r"""package lib;
+
+public final class Constants {
+  public static final boolean YES = true;
+  public static final byte BYTE = -128;
+  public static final short SHORT = -1;
+  public static final char QUOTE = '\'';
+  public static final char LINE = '\n';
+  public static final char ACUTE = '\u00e9';
+  public static final char HALF = 55296;
+  public static final char NONE = '\000';
+  public static final int LEAST = -2147483648;
+  public static final long LONG = 1099511627776L;
+  public static final float FLOAT = 1.5E9f;
+  public static final float NO_NUMBER = 0.0f / 0.0f;
+  public static final double TENTH = 0.1;
+  public static final double LITTLE = 4.9E-324;
+  public static final double FAR = -1.0 / 0.0;
+  public static final double ZERO = -0.0;
+  public static final java.lang.String TEXT = "a\"b\\c\t\0001\u20ac\ud83d\ude00'";
+  public static final java.lang.String BROKEN;
+  public static final java.lang.Integer BOX;
+  protected final int of = 4;
+  private Constants() {}
+}
+"""),
+    "lib/Colour.java": ("""package lib;
+
+public enum Colour implements java.util.function.IntSupplier {
+    @Deprecated RED { public int getAsInt() { return 1; } },
+    GREEN { public int getAsInt() { return 2; } };
+    public static final Colour FIRST = RED;
+    private final int number = 1;
+    Colour() {}
+    public static Colour valueOf(int number) { return RED; }
+}
+""", """package lib;
+
+public enum Colour implements java.util.function.IntSupplier {
+  @java.lang.Deprecated RED {}, GREEN;
+  public static final lib.Colour FIRST;
+  public static lib.Colour valueOf(int arg0);
+}
+"""),
+    "lib/Marked.java": ("""package lib;
+
+import java.lang.annotation.*;
+
+@Retention(RetentionPolicy.RUNTIME)
+@Target({ElementType.TYPE, ElementType.METHOD, ElementType.PARAMETER, ElementType.PACKAGE})
+public @interface Marked {
+    int number() default -1;
+    String[] names() default {"a", "b"};
+    Class<?> of() default java.util.Map.Entry.class;
+    Class<?>[] all() default {int.class, String[].class, void.class};
+    Colour colour() default Colour.RED;
+    Kept kept() default @Kept('x');
+    Kept[] none() default {};
+    double part();
+}
+""", """package lib;
+
+@java.lang.annotation.Retention(value = java.lang.annotation.RetentionPolicy.RUNTIME) @java.lang.annotation.Target(value = {java.lang.annotation.ElementType.TYPE, java.lang.annotation.ElementType.METHOD, java.lang.annotation.ElementType.PARAMETER, java.lang.annotation.ElementType.PACKAGE}) public @interface Marked {
+  int number() default -1;
+  java.lang.String[] names() default {"a", "b"};
+  java.lang.Class<?> of() default java.util.Map.Entry.class;
+  java.lang.Class<?>[] all() default {int.class, java.lang.String[].class, void.class};
+  lib.Colour colour() default lib.Colour.RED;
+  lib.Kept kept() default @lib.Kept(value = 'x');
+  lib.Kept[] none() default {};
+  double part();
+}
+"""),
+    "lib/Kept.java": ("package lib;\n\npublic @interface Kept { char value(); }\n",
+                      "package lib;\n\npublic @interface Kept {\n  char value();\n}\n"),
+    "lib/Forgotten.java": ("""package lib;
+
+@java.lang.annotation.Retention(java.lang.annotation.RetentionPolicy.SOURCE)
+public @interface Forgotten {}
+""", """package lib;
+
+@java.lang.annotation.Retention(value = java.lang.annotation.RetentionPolicy.SOURCE) public @interface Forgotten {
+}
+"""),
+    "lib/Noted.java": ("""package lib;
+
+@Forgotten @Kept('k') @Marked(part = 1, colour = Colour.GREEN, names = {})
+public class Noted {
+    @Kept('f') public int field;
+    @Marked(part = 0.5) public void method(int plain, @Kept('p') @Marked(part = 2) String marked) {}
+}
+""", """package lib;
+
+@lib.Marked(part = 1.0, colour = lib.Colour.GREEN, names = {}) @lib.Kept(value = 'k') public class Noted {
+  @lib.Kept(value = 'f') public int field;
+  public Noted() {}
+  @lib.Marked(part = 0.5) public void method(int arg0, @lib.Kept(value = 'p') @lib.Marked(part = 2.0) java.lang.String arg1);
+}
+"""),
+    "lib/package-info.java": ("@Marked(part = 3) package lib;\n", "@lib.Marked(part = 3.0) package lib;\n"),
+    "Alone.java": ("public class Alone { Alone(int number) {} private Alone() {} }\n",
+                   "public class Alone {\n  Alone(int arg0) {}\n}\n"),
+}
+NOT_NAMED = {"lib/Unused.java": "package lib; class Unused {}\n"}
+
+
+@case
+def every_form_of_a_declaration(project):
+    jar = library(project, {**{path: source for path, (source, _) in FORMS.items()}, **NOT_NAMED})
+    files, run = written(project, jar)
+    for path, (_, stub) in FORMS.items():
+        expect(path, files.get(path), stub)
+    expect("the files", sorted(files), sorted(FORMS))
+    size = sum(len(stub.encode()) for _, stub in FORMS.values())
+    expect("the messages", run.stderr,
+           "stubs: note: 1 constants are written without their values, which are no Java texts: lib.Constants.BROKEN\n"
+           f"stubs: {len(FORMS)} files, {size} bytes\n")
+    is_read(project)
+
+
+
+# ---- what sources name
+
+
+USED = {
+    "a/Shown.java": "package a; public class Shown extends Parent { public c.Result result() { return null; } }",
+    "a/Parent.java": "package a; public class Parent { protected d.Far[] far; protected static class Inner {} }",
+    "a/Outer.java": "package a; public interface Outer { interface Nested { c.Deep deep() throws c.Fault; } }",
+    "a/Star.java": "package a; public interface Star<T extends d.Bound> {}",
+    "a/Constants.java": "package a; public interface Constants { int LIMIT = 1; String NAME = \"n\"; }",
+    "a/Quiet.java": "package a; class Quiet {}",
+    "a/InABody.java": "package a; public class InABody { public static String of() { return null; } }",
+    "a/NotNamed.java": "package a; public class NotNamed {}",
+    "b/Mark.java": "package b; public @interface Mark { String value(); Kind kind(); Class<?> of() default d.OfDefault.class; }",
+    "b/Kind.java": "package b; public enum Kind { GOOD; }",
+    "c/Result.java": "package c; @c.OnResult public class Result {}",
+    "c/OnResult.java": "package c; public @interface OnResult {}",
+    "c/Deep.java": "package c; public class Deep {}",
+    "c/Fault.java": "package c; public class Fault extends Exception {}",
+    "d/Far.java": "package d; public class Far {}",
+    "d/Bound.java": "package d; public interface Bound {}",
+    "d/OfDefault.java": "package d; public class OfDefault {}",
+    "p/Near.java": "package p; class Near { int shared; private int own; void call(d.Near near) {} private void hide(d.NotReached at) {} }",
+    "p/Own.java": "package p; public class Own {}",
+    "d/Near.java": "package d; public class Near {}",
+    "d/NotReached.java": "package d; public class NotReached {}",
+}
+USING = """package p;
+
+import a.*;
+import static a.Constants.LIMIT;
+import b.Mark;
+
+@Mark(value = Constants.NAME, kind = b.Kind.GOOD)
+abstract class Using extends a.Shown implements Outer.Nested {
+    String text = InABody.of();
+    Generated later;
+    Quiet quiet;
+    Near near;
+    Own own;
+    int limit = LIMIT;
+    abstract <T extends Star<?>> void call(T t);
+    void body() { NotNamed none = null; }
+}
+"""
+NEAR = """package p;
+
+class Near {
+  int shared;
+  Near() {}
+  void call(d.Near arg0);
+}
+"""
+
+
+@case
+def what_sources_name_and_what_that_names(project):
+    jar = library(project, USED)
+    shutil.rmtree(project.path("src"))
+    project.write("src/p/Using.java", USING.encode())
+    project.write("src/p/Own.java", b"package p; class Own {}")
+    files, _ = written(project, jar, "--for", "src")
+    left_out = ["a/Quiet.java", "a/InABody.java", "a/NotNamed.java", "p/Own.java", "d/NotReached.java"]
+    expect("the files", sorted(files), sorted(set(USED) - set(left_out)))
+    expect("a class of the sources' package", files["p/Near.java"], NEAR)
+    is_read(project)
+
+
+@case
+def what_sources_name_of_the_jdk(project):
+    project.write("src/p/D.java", b"package p; interface D extends java.util.function.Supplier<String> {}")
+    files, _ = written(project, "--jdk", "--for", "src", "--also", "java.util.Map.Entry", "--release", "11")
+    for name in ["java/util/function/Supplier", "java/lang/Object", "java/lang/Integer", "java/lang/annotation/Inherited", "java/util/Map"]:
+        expect(f"whether {name} is there", name + ".java" in files, True)
+    expect("whether it is more than what is named", "java/util/Scanner.java" in files, False)
+    expect("a method of release 11", "  public boolean isBlank();\n" in files["java/lang/String.java"], True)
+    expect("a method of release 12", " transform(" in files["java/lang/String.java"], False)
+    expect("whether they have less than 600,000 bytes", sum(map(len, files.values())) < 600_000, True)
+    is_read(project)
+
+
+# ---- names that processors ask for, and the processors of jars
+
+
+ASKING = {"proc/Asking.java": """package proc;
+
+public class Asking {
+    String first = "e.First", inner = "e.Outer$Inner", text = "a text with e.InText in it";
+    Object third = e.ByClass.class;
+    String own = "proc.Asking";
+}
+""", "e/ByClass.java": "package e; public class ByClass {}"}
+ASKED = {f"e/{name}.java": f"package e; public class {name} {{ public static class Inner {{}} }}"
+         for name in ["First", "Outer", "InText", "ByClass", "InTemplate", "NotAsked"]}
+TEMPLATES = {"proc/template.vm": "import e.InTemplate;\n", "META-INF/maven/pom.xml": "<a>e.NotAsked</a>"}
+SAID = """# processors
+ proc.Asking  # the first
+proc.Other
+proc.Asking
+"""
+KINDS_SAID = "proc.Other , AGGREGATING\nproc.Unknown,dynamic\n"
+
+
+def asking(project, **more):
+    jar = library(project, ASKING, "asking.jar", {**TEMPLATES, SERVICES[len("res/"):]: SAID, **more})
+    with zipfile.ZipFile(jar) as old, zipfile.ZipFile(project.path("processors.jar"), "w") as new:
+        for name in old.namelist():
+            if name != "e/ByClass.class":
+                new.writestr(name, old.read(name))
+    os.remove(jar)
+    return "processors.jar"
+
+
+@case
+def what_processors_ask_for(project):
+    jar = library(project, ASKED)
+    files, _ = written(project, jar, "--for", "src", "--asked-by", asking(project))
+    expect("the files", sorted(files), sorted(f"e/{name}.java" for name in ["First", "Outer", "InText", "ByClass", "InTemplate"]))
+
+
+@case
+def the_processors_of_a_jar(project):
+    jar = library(project, ASKED)
+    asking(project, **{KINDS[len("res/"):]: KINDS_SAID})
+    files, run = written(project, jar, "--asked-by", "processors.jar", "--services")
+    expect("the files", sorted(files), sorted(ASKED))
+    expect("the file of services", project.read(SERVICES), b"proc.Asking\nproc.Other\n")
+    expect("the file of kinds", project.read(KINDS), b"proc.Other,AGGREGATING\n")
+    rows = json.loads(run.stdout)["processors"]
+    version = rows["proc.Asking"]["version"]
+    bridge = ["java", "-cp", f"{os.path.realpath(JAR)}:processors.jar", "dinxobhe.Bridge"]
+    expect("the rows", rows, {name: {"command": [*bridge, name], "version": version} for name in ["proc.Asking", "proc.Other"]})
+    shutil.rmtree(project.path("stubs"))
+    asking(project, **{KINDS[len("res/"):]: KINDS_SAID, "proc/more": ""})
+    files, run = written(project, jar, "--asked-by", "processors.jar", "--services")
+    expect("whether another jar has another version", json.loads(run.stdout)["processors"]["proc.Asking"]["version"] != version, True)
+    shutil.rmtree(project.path("stubs"))
+    project.write(SERVICES, b"mine\n")
+    refused(project, FAULT, f"{SERVICES}: is there already, with other lines: remove it first", jar, "--asked-by", "processors.jar",
+            "--services")
+    # The host looks for a row for each of the names.
+    project.write("apt.json", run.stdout.replace("proc.Other", "proc.Another").encode())
+    project.write(SERVICES, b"proc.Asking\nproc.Other\n")
+    expect("the output of the host", project.run(["build"]).output, b"refused: UnknownProcessor(proc.Other)\n")
+
+
+# ---- what is refused
+
+
+@case
+def wrong_words(project):
+    def wrong(message, *words):
+        refused(project, WRONG_WORDS, message, *words)
+
+    wrong("there is no library: give a JAR, --jdk or --module")
+    wrong("nothing names a type: give a JAR, --module, --for, --asked-by or --also", "--jdk")
+    wrong("there is no option --fast", "x.jar", "--fast")
+    wrong("--for needs a word after it", "x.jar", "--for")
+    wrong("--release 8: not a number from 9", "x.jar", "--release", "8")
+    wrong("--services needs --asked-by", "x.jar", "--services")
+    run = subprocess.run(["java", "-jar", JAR], stderr=subprocess.PIPE, check=False)
+    expect("the status without words", run.returncode, WRONG_WORDS)
+    run = stubs(project, "--help")
+    expect("the status of --help", run.returncode, WRITTEN)
+    expect("the first line of --help", run.stdout.splitlines()[0], "usage: stubs OUT [JAR].. [OPTION]..")
+
+
+@case
+def faulty_libraries(project):
+    def faulty(message, *words):
+        refused(project, FAULT, message, *words)
+
+    def jar_of(name, path, content):
+        with zipfile.ZipFile(project.path(name), "w") as archive:
+            archive.writestr(path, content)
+
+    jar = library(project, {"a/A.java": "package a; public class A {}"})
+    with zipfile.ZipFile(jar) as archive:
+        whole = archive.read("a/A.class")
+    faulty("none.jar: there is no such jar or folder", "none.jar")
+    project.write("text.jar", b"a text")
+    faulty("text.jar: not a jar: zip END header not found", "text.jar")
+    jar_of("later.jar", "a/A.class", whole[:6] + (999).to_bytes(2, "big") + whole[8:])
+    faulty("later.jar: the class a.A cannot be read: it has version 999, which is that of a later Java", "later.jar")
+    faulty("later.jar: the class a.A cannot be read: it has version 999, which is that of a later Java", "later.jar", "--also", "a.A")
+    jar_of("short.jar", "a/A.class", whole[:-20])
+    faulty("short.jar: the class a.A cannot be read: it is damaged, or of another name", "short.jar")
+    jar_of("other.jar", "b/A.class", whole)
+    faulty("other.jar: the class b.A cannot be read: it is damaged, or of another name", "other.jar")
+    jar_of("none.jar", "a/A.class", b"none")
+    faulty("none.jar: the class a.A cannot be read: it is no class file", "none.jar")
+    faulty("--also a.B: no library has this type", jar, "--also", "a.B")
+    faulty("the Java compiler does not read the libraries: module not found: no.such", "--module", "no.such")
+    faulty("error: release version 999 not supported", jar, "--release", "999")
+
+
+@case
+def faulty_files(project):
+    jar = library(project, {"a/A.java": "package a; public class A {}"})
+    refused(project, FAULT, "none: there is no such folder", jar, "--for", "none")
+    project.write("src/p/Bad.java", b"package p;\nclass Bad {\n  int x = ;\n}\n")
+    refused(project, FAULT, "src/p/Bad.java:3: illegal start of expression", jar, "--for", "src")
+    jar_of = asking(project, **{SERVICES[len("res/"):]: "a.B\na b\n"})
+    refused(project, FAULT, f"{jar_of}: {SERVICES[len('res/'):]}:2: not the name of a processor", jar, "--asked-by", jar_of)
+    asking(project, **{KINDS[len("res/"):]: "a.B,fast\n"})
+    refused(project, FAULT, f"{jar_of}: {KINDS[len('res/'):]}:1: not a processor and its kind", jar, "--asked-by", jar_of)
+    project.write("stubs/X.java", b"class X {}")
+    run = stubs(project, "stubs", jar)
+    expect("the end", (run.returncode, run.stderr),
+           (FAULT, "stubs: stubs: not empty: name another folder, or remove what is there\n"))
+    expect("the stubs", files_below(project.path("stubs")), {"X.java": "class X {}"})
+
+
+# ---- what no Java text says
+
+
+def renamed(project, jar, names):
+    """The jar with other texts of the same lengths in its class files."""
+    with zipfile.ZipFile(jar) as old, zipfile.ZipFile(project.path("renamed.jar"), "w") as new:
+        for name in old.namelist():
+            content = old.read(name)
+            for text, other in names.items():
+                name, content = name.replace(text, other), content.replace(text.encode(), other.encode())
+            new.writestr(name, content)
+    return project.path("renamed.jar")
+
+
+@case
+def names_that_are_no_java_names(project):
+    jar = library(project, {
+        "a/A.java": "package a; public class A { public int good, oddNameA; public void class_() {} public void as(B_C b) {} }",
+        "a/B_C.java": "package a; public class B_C {}",
+        "a/D.java": "package a; public class D extends B_C {}",
+        "w_x/E.java": "package w_x; public class E {}",
+        "a/Scala$.java": "package a; public class Scala$ { public static class In {} }",
+        "a/Parent.java": "package a; public class Parent { public Absent absent; }",
+        "a/Absent.java": "package a; public class Absent {}",
+    })
+    # As Kotlin, Scala and tools that shorten names have them.
+    jar = renamed(project, jar, {"oddNameA": "odd name", "class_": "class-", "B_C": "B-C", "w_x": "w-x"})
+    with zipfile.ZipFile(jar) as old, zipfile.ZipFile(project.path("some.jar"), "w") as new:
+        for name in old.namelist():
+            if name != "a/Absent.class":
+                new.writestr(name, old.read(name))
+    files, run = written(project, "some.jar")
+    expect("the files", files, {
+        "a/A.java": "package a;\n\npublic class A {\n  public int good;\n  public A() {}\n}\n",
+        "a/Scala$.java": "package a;\n\npublic class Scala$ {\n  public static class In {\n    public In() {}\n  }\n  public Scala$() {}\n}\n",
+        "a/Parent.java": "package a;\n\npublic class Parent {\n  public a.Absent absent;\n  public Parent() {}\n}\n",
+    })
+    left_out = "a.A.as(a.B-C), a.A.class-(), a.A.odd name, a.B-C, a.D, .."
+    expect("the messages", run.stderr.splitlines()[:2], [
+        "stubs: note: 1 types are named and are in no library: a.Absent",
+        "stubs: note: 6 declarations are left out, since they have or use names that are no Java names: " + left_out])
+    is_read(project)
+
+
+# ---- the JDK
+
+
+def shown_as_sources(project):
+    """What the host sends where the sources are the stubs, and a processor supports all annotations."""
+    shutil.rmtree(project.path("src"))
+    os.rename(project.path("stubs"), project.path("src"))
+    run = project.run(project.scripted(["read", say(frames.hello("*")), "read", say(frames.done()), "read", say(frames.done()), "rest"]))
+    expect("the status", run.status, DONE_STATUS)
+    sent = frames.Fields(project.sent())
+    sent.take(sent.number()) # Init
+    sent.number()
+    tag, number, over, error = sent.byte(), sent.number(), sent.byte(), sent.byte()
+    expect("the head of the second frame", (tag, number, over, error), (frames.ROUND, 1, 0, 0))
+    return sent.texts(), sent.texts()
+
+
+@case
+def the_module_java_base(project):
+    _, run = written(project, "--module", "java.base")
+    compared = output_of(["java", *FAST, os.path.join(HERE, "SameDeclarations.java"), "module", "java.base", project.path("stubs")],
+                         project.folder)
+    *said, types, annotations = compared.splitlines()
+    expect("whether there are many declarations", int(said[-1].split()[0]) > 10_000, True)
+    is_read(project)
+    offered, roots = shown_as_sources(project)
+    expect("the host's units", roots, sorted(types.split(" ")[1:]))
+    expect("the annotations that the host finds", offered, sorted(annotations.split(" ")[1:]))
+    print(f"  java.base: {said[-1]}; {run.stderr.splitlines()[-1]}")
+
+
+def main():
+    missing = [name for name in ("java", "javac", "jar") if shutil.which(name) is None]
+    if missing:
+        print(f"stubs: 0 passed, 1 failed: there is no {' and no '.join(missing)}, which are of a JDK")
+        sys.exit(1)
+    built = subprocess.run([os.path.join(KIT, "build")], check=False)
+    if built.returncode != 0:
+        print("stubs: 0 passed, 1 failed: kits/java/build failed")
+        sys.exit(1)
+    case.main()
+
+
+if __name__ == "__main__":
+    main()
