@@ -58,6 +58,15 @@ def library(project, sources, name="library.jar", resources=()):
     return jar
 
 
+def without(project, jar, front):
+    """The jar without the files whose names begin so."""
+    with zipfile.ZipFile(jar) as old, zipfile.ZipFile(project.path("some.jar"), "w") as new:
+        for name in old.namelist():
+            if not name.startswith(front):
+                new.writestr(name, old.read(name))
+    return "some.jar"
+
+
 def put(folder, path, content):
     whole = os.path.join(folder, path)
     os.makedirs(os.path.dirname(whole), exist_ok=True)
@@ -458,10 +467,7 @@ KINDS_SAID = "proc.Other , AGGREGATING\nproc.Unknown,dynamic\n"
 
 def asking(project, **more):
     jar = library(project, ASKING, "asking.jar", {**TEMPLATES, SERVICES[len("res/"):]: SAID, **more})
-    with zipfile.ZipFile(jar) as old, zipfile.ZipFile(project.path("processors.jar"), "w") as new:
-        for name in old.namelist():
-            if name != "e/ByClass.class":
-                new.writestr(name, old.read(name))
+    os.replace(project.path(without(project, jar, "e/")), project.path("processors.jar"))
     os.remove(jar)
     return "processors.jar"
 
@@ -566,7 +572,40 @@ def faulty_files(project):
     expect("the stubs", files_below(project.path("stubs")), {"X.java": "class X {}"})
 
 
-# ---- what no Java text says
+# ---- what no library has, and what no Java text says
+
+
+@case
+def types_that_no_library_has(project):
+    jar = library(project, {
+        "a/A.java": "package a; @x.Gone(when = x.When.NEVER, of = x.Of.class) public class A extends x.Base<String> { public x.Outer.In<x.Of>[] of() { return null; } }",
+        "a/B.java": "package a; public interface B extends x.Face { @x.Gone(when = x.When.NEVER) void call() throws x.Fault; }",
+        "x/Gone.java": "package x; public @interface Gone { When when(); Class<?> of() default int.class; }",
+        "x/When.java": "package x; public enum When { NEVER }",
+        "x/Of.java": "package x; public class Of {}",
+        "x/Base.java": "package x; public class Base<T> {}",
+        "x/Face.java": "package x; public interface Face {}",
+        "x/Fault.java": "package x; public class Fault extends Exception {}",
+        "x/Outer.java": "package x; public class Outer { public static class In<T> {} }",
+    })
+    files, run = written(project, without(project, jar, "x/"))
+    expect("the files", files, {
+        "a/A.java": """package a;
+
+@x.Gone(when = x.When.NEVER, of = x.Of.class) public class A extends x.Base<java.lang.String> {
+  public A() {}
+  public x.Outer.In<x.Of>[] of();
+}
+""",
+        "a/B.java": """package a;
+
+public interface B extends x.Face {
+  @x.Gone(when = x.When.NEVER) void call() throws x.Fault;
+}
+"""})
+    expect("the first message", run.stderr.splitlines()[0],
+           "stubs: note: 7 types are named and are in no library: x.Base, x.Face, x.Fault, x.Gone, x.Of, ..")
+    is_read(project)
 
 
 def renamed(project, jar, names):
@@ -588,25 +627,17 @@ def names_that_are_no_java_names(project):
         "a/D.java": "package a; public class D extends B_C {}",
         "w_x/E.java": "package w_x; public class E {}",
         "a/Scala$.java": "package a; public class Scala$ { public static class In {} }",
-        "a/Parent.java": "package a; public class Parent { public Absent absent; }",
-        "a/Absent.java": "package a; public class Absent {}",
     })
     # As Kotlin, Scala and tools that shorten names have them.
     jar = renamed(project, jar, {"oddNameA": "odd name", "class_": "class-", "B_C": "B-C", "w_x": "w-x"})
-    with zipfile.ZipFile(jar) as old, zipfile.ZipFile(project.path("some.jar"), "w") as new:
-        for name in old.namelist():
-            if name != "a/Absent.class":
-                new.writestr(name, old.read(name))
-    files, run = written(project, "some.jar")
+    files, run = written(project, jar)
     expect("the files", files, {
         "a/A.java": "package a;\n\npublic class A {\n  public int good;\n  public A() {}\n}\n",
         "a/Scala$.java": "package a;\n\npublic class Scala$ {\n  public static class In {\n    public In() {}\n  }\n  public Scala$() {}\n}\n",
-        "a/Parent.java": "package a;\n\npublic class Parent {\n  public a.Absent absent;\n  public Parent() {}\n}\n",
     })
     left_out = "a.A.as(a.B-C), a.A.class-(), a.A.odd name, a.B-C, a.D, .."
-    expect("the messages", run.stderr.splitlines()[:2], [
-        "stubs: note: 1 types are named and are in no library: a.Absent",
-        "stubs: note: 6 declarations are left out, since they have or use names that are no Java names: " + left_out])
+    expect("the first message", run.stderr.splitlines()[0],
+           "stubs: note: 6 declarations are left out, since they have or use names that are no Java names: " + left_out)
     is_read(project)
 
 

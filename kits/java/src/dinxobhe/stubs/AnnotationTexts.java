@@ -7,7 +7,6 @@ import javax.lang.model.element.AnnotationMirror;
 import javax.lang.model.element.AnnotationValue;
 import javax.lang.model.element.TypeElement;
 import javax.lang.model.element.VariableElement;
-import javax.lang.model.type.TypeKind;
 import javax.lang.model.type.TypeMirror;
 import javax.lang.model.util.Types;
 
@@ -40,9 +39,7 @@ final class AnnotationTexts {
     }
 
     private String of(AnnotationMirror annotation) {
-        TypeElement type = (TypeElement) annotation.getAnnotationType().asElement();
-        String name = annotation.getAnnotationType().getKind() == TypeKind.ERROR
-            ? texts.of(annotation.getAnnotationType()) : texts.name(type);
+        String name = texts.name((TypeElement) annotation.getAnnotationType().asElement());
         if (annotation.getElementValues().isEmpty()) {
             return "@" + name;
         }

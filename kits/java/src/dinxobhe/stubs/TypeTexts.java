@@ -26,9 +26,8 @@ final class TypeTexts {
     String of(TypeMirror type) {
         switch (type.getKind()) {
             case DECLARED:
-                return declared((DeclaredType) type);
             case ERROR:
-                return absent((DeclaredType) type);
+                return declared((DeclaredType) type);
             case ARRAY:
                 return of(((ArrayType) type).getComponentType()) + "[]";
             case TYPEVAR:
@@ -45,9 +44,14 @@ final class TypeTexts {
         return types.stream().map(this::of).collect(Collectors.joining(", "));
     }
 
+    /** The canonical name of a type, which is told if a library has it. */
     String name(TypeElement type) {
         String name = JavaNames.checked(type.getQualifiedName());
-        named.accept(type);
+        if (type.asType().getKind() == TypeKind.ERROR) {
+            notes.add(Notes.Kind.ABSENT, name);
+        } else {
+            named.accept(type);
+        }
         return name;
     }
 
@@ -67,12 +71,6 @@ final class TypeTexts {
         }
         DeclaredType type = (DeclaredType) enclosing;
         return !type.getTypeArguments().isEmpty() || isGeneric(type.getEnclosingType());
-    }
-
-    private String absent(DeclaredType type) {
-        String name = JavaNames.checked(((TypeElement) type.asElement()).getQualifiedName());
-        notes.add(Notes.Kind.ABSENT, name);
-        return name;
     }
 
     private String wildcard(WildcardType type) {
