@@ -109,7 +109,8 @@ public final class SameDeclarations extends AbstractProcessor {
     private static void run(SameDeclarations processor, List<File> files, List<String> more) throws IOException {
         JavaCompiler compiler = ToolProvider.getSystemJavaCompiler();
         DiagnosticCollector<JavaFileObject> said = new DiagnosticCollector<>();
-        List<String> options = new ArrayList<>(List.of("-proc:only", "-Xlint:none"));
+        // An error does not keep the processor from being run: that records are declared as classes is one.
+        List<String> options = new ArrayList<>(List.of("-proc:only", "-Xlint:none", "-XDshould-stop.ifError=FLOW"));
         options.addAll(more);
         try (StandardJavaFileManager manager = compiler.getStandardFileManager(said, null, StandardCharsets.UTF_8)) {
             JavaCompiler.CompilationTask task = compiler.getTask(null, manager, said, options,
@@ -118,7 +119,6 @@ public final class SameDeclarations extends AbstractProcessor {
             task.call();
         }
         for (Diagnostic<?> one : said.getDiagnostics()) {
-            // A record is declared as a class.
             if (one.getKind() == Diagnostic.Kind.ERROR && !one.getCode().equals("compiler.err.invalid.supertype.record")) {
                 System.out.println(one);
                 System.exit(1);

@@ -357,7 +357,7 @@ def every_form_of_a_declaration(project):
     expect("the files", sorted(files), sorted(FORMS))
     size = sum(len(stub.encode()) for _, stub in FORMS.values())
     expect("the messages", run.stderr,
-           "stubs: note: 1 constants are written without their values, which are no Java texts: lib.Constants.BROKEN\n"
+           "stubs: note: constants, written without their values, which no Java text means (1): lib.Constants.BROKEN\n"
            f"stubs: {len(FORMS)} files, {size} bytes\n")
     is_read(project)
 
@@ -604,7 +604,7 @@ public interface B extends x.Face {
 }
 """})
     expect("the first message", run.stderr.splitlines()[0],
-           "stubs: note: 7 types are named and are in no library: x.Base, x.Face, x.Fault, x.Gone, x.Of, ..")
+           "stubs: note: types that no library has (7): x.Base, x.Face, x.Fault, x.Gone, x.Of, ..")
     is_read(project)
 
 
@@ -637,11 +637,33 @@ def names_that_are_no_java_names(project):
     })
     left_out = "a.A.as(a.B-C), a.A.class-(), a.A.odd name, a.B-C, a.D, .."
     expect("the first message", run.stderr.splitlines()[0],
-           "stubs: note: 6 declarations are left out, since they have or use names that are no Java names: " + left_out)
+           "stubs: note: left out, since they have or use names that are no Java names (6): " + left_out)
     is_read(project)
 
 
 # ---- the JDK
+
+
+@case
+def packages_of_the_jdk_in_a_jar(project):
+    jar = library(project, {
+        "abc/def/ghi/Node.java": "package abc.def.ghi; public class Node {}",
+        "abc/def/ghi/Extra.java": "package abc.def.ghi; public class Extra {}",
+        "b/B.java": "package b; public class B { public abc.def.ghi.Node node; }",
+    })
+    jar = renamed(project, jar, {"abc/def/ghi": "org/w3c/dom"})
+    files, run = written(project, jar)
+    expect("the files", sorted(files), ["b/B.java"])
+    hidden = "left out, since their packages are those of modules of the JDK, which hide them (1): org.w3c.dom.Extra"
+    expect("the first message", run.stderr.splitlines()[0], "stubs: note: " + hidden)
+
+
+@case
+def classes_beside_their_sources(project):
+    jar = library(project, {"a/A.java": "package a; public class A {}"}, resources={"a/A.java": "package a; public class A { int x() }"})
+    os.utime(jar)
+    files, _ = written(project, jar)
+    expect("the files", files, {"a/A.java": "package a;\n\npublic class A {\n  public A() {}\n}\n"})
 
 
 def shown_as_sources(project):

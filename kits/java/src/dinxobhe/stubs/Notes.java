@@ -5,6 +5,7 @@ import java.util.EnumMap;
 import java.util.Map;
 import java.util.Set;
 import java.util.TreeSet;
+import java.util.stream.Collectors;
 
 /** What stubs do not say as the class files do, each with the names of which it is so. */
 final class Notes {
@@ -12,12 +13,13 @@ final class Notes {
     private static final int MOST = 5;
 
     enum Kind {
-        RECORD("records are written as classes"),
-        SEALED("types are sealed, and written as if they were not"),
-        ABSENT("types are named and are in no library"),
-        CONSTANT("constants are written without their values, which are no Java texts"),
-        ANNOTATION("declarations lose an annotation, which has a value that cannot be read or written"),
-        LEFT_OUT("declarations are left out, since they have or use names that are no Java names");
+        RECORD("records, written as classes"),
+        SEALED("sealed types, written as if they were not sealed"),
+        ABSENT("types that no library has"),
+        HIDDEN("left out, since their packages are those of modules of the JDK, which hide them"),
+        CONSTANT("constants, written without their values, which no Java text means"),
+        ANNOTATION("elements without one of their annotations, which has a value that no Java text means"),
+        LEFT_OUT("left out, since they have or use names that are no Java names");
 
         private final String text;
 
@@ -37,13 +39,12 @@ final class Notes {
         return names.getOrDefault(kind, Set.of());
     }
 
-    /** Prints a line for each kind of which there is a name. */
+    /** Prints a line for each kind of which there is a name, with the first names and their number. */
     void print(PrintStream to) {
         names.forEach((kind, all) -> {
-            StringBuilder line = new StringBuilder("stubs: note: " + all.size() + " " + kind.text + ": ");
-            all.stream().limit(MOST).forEach(name -> line.append(name).append(", "));
-            line.setLength(line.length() - 2);
-            to.println(all.size() > MOST ? line + ", .." : line);
+            String first = all.stream().limit(MOST).collect(Collectors.joining(", "));
+            String more = all.size() > MOST ? ", .." : "";
+            to.println("stubs: note: " + kind.text + " (" + all.size() + "): " + first + more);
         });
     }
 }

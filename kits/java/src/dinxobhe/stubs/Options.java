@@ -161,11 +161,6 @@ final class Options {
     /** The options of the Java compiler that reads the libraries. */
     List<String> compilerOptions() {
         List<String> words = new ArrayList<>(List.of("-proc:only", "-Xlint:none"));
-        StringBuilder path = new StringBuilder();
-        for (Path library : libraries) {
-            path.append(path.length() > 0 ? File.pathSeparator : "").append(library);
-        }
-        words.addAll(List.of("-classpath", path.toString()));
         if (release != null) {
             words.addAll(List.of("--release", release));
         }

@@ -12,6 +12,7 @@ import javax.lang.model.element.Element;
 import javax.lang.model.element.Modifier;
 import javax.lang.model.element.ModuleElement;
 import javax.lang.model.element.ModuleElement.ExportsDirective;
+import javax.lang.model.element.PackageElement;
 import javax.lang.model.element.TypeElement;
 import javax.lang.model.util.ElementFilter;
 import javax.lang.model.util.Elements;
@@ -131,10 +132,24 @@ final class StubProcessor extends AbstractProcessor {
                 addPublic(type);
             } else if (!JavaNames.isDotted(name)) {
                 notes.add(Notes.Kind.LEFT_OUT, name);
+            } else if (isOfModule(name)) {
+                notes.add(Notes.Kind.HIDDEN, name);
             } else if (name.indexOf('$') < 0) { // else it is a nested class
                 libraries.checkAbsent(name);
             }
         }
+    }
+
+    /** Whether the package of a class is that of a module, whose classes are then the only ones. */
+    private boolean isOfModule(String className) {
+        int dot = className.lastIndexOf('.');
+        PackageElement of = dot < 0 ? null : elements.getPackageElement(className.substring(0, dot));
+        return of != null && isOfModule(of);
+    }
+
+    private boolean isOfModule(Element element) {
+        ModuleElement module = elements.getModuleOf(element);
+        return module != null && !module.isUnnamed();
     }
 
     private void addPublic(TypeElement type) {
@@ -184,8 +199,6 @@ final class StubProcessor extends AbstractProcessor {
 
     /** Whether a top-level type has a file: those of the sources have none, and those of the JDK only if asked for. */
     private boolean isWanted(TypeElement type) {
-        ModuleElement module = elements.getModuleOf(type);
-        boolean isOfJdk = module != null && !module.isUnnamed();
-        return (options.jdk() || !isOfJdk) && !sources.declared().contains(type.getQualifiedName().toString());
+        return (options.jdk() || !isOfModule(type)) && !sources.declared().contains(type.getQualifiedName().toString());
     }
 }

@@ -14,6 +14,7 @@ import javax.tools.JavaCompiler;
 import javax.tools.JavaCompiler.CompilationTask;
 import javax.tools.JavaFileObject;
 import javax.tools.StandardJavaFileManager;
+import javax.tools.StandardLocation;
 import javax.tools.ToolProvider;
 
 /** Writes the declarations of libraries as Java files: {@link Options#USAGE}. */
@@ -79,6 +80,8 @@ public final class Stubs {
     private static String read(JavaCompiler compiler, Options options, StubProcessor processor) throws IOException, InputFault {
         DiagnosticCollector<JavaFileObject> said = new DiagnosticCollector<>();
         try (StandardJavaFileManager manager = compiler.getStandardFileManager(said, null, StandardCharsets.UTF_8)) {
+            manager.setLocationFromPaths(StandardLocation.CLASS_PATH, options.libraries());
+            manager.setLocationFromPaths(StandardLocation.SOURCE_PATH, List.of()); // jars may have sources
             CompilationTask task = compiler.getTask(new StringWriter(), manager, said, options.compilerOptions(),
                 List.of("java.lang.Object"), null);
             task.setProcessors(List.of(processor));
