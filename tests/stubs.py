@@ -568,7 +568,7 @@ def faulty_files(project):
     project.write("stubs/X.java", b"class X {}")
     run = stubs(project, "stubs", jar)
     expect("the end", (run.returncode, run.stderr),
-           (FAULT, "stubs: stubs: not empty: name another folder, or remove what is there\n"))
+           (FAULT, "stubs: stubs: not empty: name another, or remove what is there\n"))
     expect("the stubs", files_below(project.path("stubs")), {"X.java": "class X {}"})
 
 
@@ -660,8 +660,9 @@ def packages_of_the_jdk_in_a_jar(project):
 
 @case
 def classes_beside_their_sources(project):
-    jar = library(project, {"a/A.java": "package a; public class A {}"}, resources={"a/A.java": "package a; public class A { int x() }"})
-    os.utime(jar)
+    jar = library(project, {"a/A.java": "package a; public class A {}"})
+    with zipfile.ZipFile(jar, "a") as archive:
+        archive.writestr(zipfile.ZipInfo("a/A.java", (2100, 1, 1, 0, 0, 0)), "package a; public class A { int newer; }")
     files, _ = written(project, jar)
     expect("the files", files, {"a/A.java": "package a;\n\npublic class A {\n  public A() {}\n}\n"})
 

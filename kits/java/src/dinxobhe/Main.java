@@ -5,7 +5,8 @@ import java.util.Arrays;
 
 /** The commands of this jar: the first word is one, and the others are for it. */
 public final class Main {
-    private static final String USAGE = "usage: java -jar dinxobhe.jar stubs OUT [JAR].. [OPTION].. (stubs --help says more)";
+    private static final String USAGE =
+        "usage: java -jar dinxobhe.jar stubs OUT [JAR].. [OPTION].. (stubs --help says more)";
 
     private Main() {}
 

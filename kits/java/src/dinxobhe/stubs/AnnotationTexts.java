@@ -58,7 +58,8 @@ final class AnnotationTexts {
         }
         if (object instanceof VariableElement) {
             VariableElement constant = (VariableElement) object;
-            return texts.name((TypeElement) constant.getEnclosingElement()) + "." + JavaNames.checked(constant.getSimpleName());
+            return texts.name((TypeElement) constant.getEnclosingElement()) + "."
+                + JavaNames.checked(constant.getSimpleName());
         }
         if (object instanceof AnnotationMirror) {
             return of((AnnotationMirror) object);

@@ -3,6 +3,7 @@ package dinxobhe.stubs;
 import java.io.BufferedInputStream;
 import java.io.DataInputStream;
 import java.io.IOException;
+import java.io.InputStream;
 import java.nio.charset.StandardCharsets;
 import java.nio.file.Files;
 import java.nio.file.Path;
@@ -15,11 +16,12 @@ import java.util.regex.Matcher;
 import java.util.regex.Pattern;
 
 /**
- * The names that a processor may ask for by a text: those of the classes and in the strings that its class files have as
- * constants, and those in its other files, such as templates. Names of its own classes are left out.
+ * The names that a processor may ask for by a text: those of the classes, and those in the strings, that its class
+ * files have as constants; and those in its other files, such as templates. Its own classes are left out.
  */
 final class AskedNames {
-    private static final Pattern DOTTED = Pattern.compile("[\\p{L}_][\\p{L}\\p{N}_$]*(?:\\.[\\p{L}_][\\p{L}\\p{N}_$]*)+");
+    private static final String WORD = "[\\p{L}_][\\p{L}\\p{N}_$]*";
+    private static final Pattern DOTTED = Pattern.compile(WORD + "(?:\\." + WORD + ")+");
     private static final int MAGIC = 0xCAFEBABE;
 
     private final Set<String> names = new TreeSet<>();
@@ -46,8 +48,8 @@ final class AskedNames {
         for (Path file : jar.files()) {
             String name = jar.name(file);
             if (ClassPathEntry.isClass(name)) {
-                try (DataInputStream in = new DataInputStream(new BufferedInputStream(Files.newInputStream(file)))) {
-                    constants(in);
+                try (InputStream in = new BufferedInputStream(Files.newInputStream(file))) {
+                    constants(new DataInputStream(in));
                 } catch (IOException e) {
                     throw new InputFault(jar.path() + ": " + name + ": not a class file");
                 }

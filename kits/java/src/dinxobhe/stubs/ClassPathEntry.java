@@ -45,7 +45,7 @@ final class ClassPathEntry implements Closeable {
         return path;
     }
 
-    /** The binary names of its classes with a dot after each package, without those of META-INF and the descriptors. */
+    /** The binary names of its classes, without the files of META-INF and those on packages and modules. */
     List<String> classNames() throws IOException {
         return files().stream().map(this::name)
             .filter(name -> isClass(name) && !name.endsWith("-info" + CLASS))
@@ -70,7 +70,7 @@ final class ClassPathEntry implements Closeable {
         return root.relativize(file).toString().replace(file.getFileSystem().getSeparator(), "/");
     }
 
-    /** Whether a file of this name is a class that is always there: those of META-INF are of later releases. */
+    /** Whether a file of this name is a class of every release: those of META-INF are of later ones. */
     static boolean isClass(String name) {
         return name.endsWith(CLASS) && !name.startsWith("META-INF/");
     }

@@ -4,6 +4,7 @@ import java.util.ArrayList;
 import java.util.List;
 import java.util.Set;
 import java.util.stream.Collectors;
+import javax.lang.model.element.AnnotationValue;
 import javax.lang.model.element.Element;
 import javax.lang.model.element.ElementKind;
 import javax.lang.model.element.ExecutableElement;
@@ -17,7 +18,7 @@ import javax.lang.model.type.TypeKind;
 import javax.lang.model.type.TypeMirror;
 import javax.lang.model.util.ElementFilter;
 
-/** Declarations as Java texts: with full names, without bodies, and without the modifiers that the language adds. */
+/** Declarations as Java texts: with full names, without bodies and modifiers that the language adds. */
 final class DeclarationWriter {
     private static final String INDENT = "  ";
 
@@ -46,7 +47,8 @@ final class DeclarationWriter {
     /** The file of a package; nothing where it has no annotation. */
     String packageFile(PackageElement of) {
         String written = annotations.of(of);
-        return written.isEmpty() ? "" : written + "package " + JavaNames.checked(of.getQualifiedName()) + ";\n";
+        String name = JavaNames.checked(of.getQualifiedName());
+        return written.isEmpty() ? "" : written + "package " + name + ";\n";
     }
 
     private void write(TypeElement type, String indent, StringBuilder text) {
@@ -89,7 +91,8 @@ final class DeclarationWriter {
         if (Kinds.isRecord(type)) {
             notes.add(Notes.Kind.RECORD, type.getQualifiedName().toString());
         }
-        return annotations.of(type) + modifiers(type) + keyword(type) + " " + JavaNames.checked(type.getSimpleName())
+        String name = JavaNames.checked(type.getSimpleName());
+        return annotations.of(type) + modifiers(type) + keyword(type) + " " + name
             + typeParameters(type.getTypeParameters()) + superclass(type) + interfaces(type);
     }
 
@@ -108,8 +111,10 @@ final class DeclarationWriter {
 
     private String superclass(TypeElement type) {
         TypeMirror superclass = type.getSuperclass();
-        boolean isImplied = !isClass(type) || superclass.getKind() == TypeKind.NONE || Kinds.isObject(superclass);
-        return isImplied ? "" : " extends " + texts.of(superclass);
+        if (!isClass(type) || superclass.getKind() == TypeKind.NONE || Kinds.isObject(superclass)) {
+            return "";
+        }
+        return " extends " + texts.of(superclass);
     }
 
     private String interfaces(TypeElement type) {
@@ -126,7 +131,8 @@ final class DeclarationWriter {
         for (VariableElement constant : ElementFilter.fieldsIn(type.getEnclosedElements())) {
             if (constant.getKind() == ElementKind.ENUM_CONSTANT) {
                 try {
-                    written.add(annotations.of(constant) + JavaNames.checked(constant.getSimpleName()) + body);
+                    String name = JavaNames.checked(constant.getSimpleName());
+                    written.add(annotations.of(constant) + name + body);
                     body = "";
                 } catch (Unwritable e) {
                     notes.add(Notes.Kind.LEFT_OUT, type.getQualifiedName() + "." + constant);
@@ -138,12 +144,13 @@ final class DeclarationWriter {
 
     /** The constructors that are written: those that are shown, or else those of package access. */
     private List<ExecutableElement> constructors(TypeElement type) {
-        List<ExecutableElement> all = isClass(type) ? ElementFilter.constructorsIn(type.getEnclosedElements()) : List.of();
-        List<ExecutableElement> shown = all.stream().filter(visibility::isShown).collect(Collectors.toList());
-        if (shown.isEmpty()) {
-            return all.stream().filter(c -> !c.getModifiers().contains(Modifier.PRIVATE)).collect(Collectors.toList());
+        if (!isClass(type)) {
+            return List.of();
         }
-        return shown;
+        List<ExecutableElement> all = ElementFilter.constructorsIn(type.getEnclosedElements());
+        all.removeIf(one -> one.getModifiers().contains(Modifier.PRIVATE));
+        List<ExecutableElement> shown = all.stream().filter(visibility::isShown).collect(Collectors.toList());
+        return shown.isEmpty() ? all : shown;
     }
 
     // Members.
@@ -162,7 +169,8 @@ final class DeclarationWriter {
     }
 
     private String member(Element member) {
-        return member.getKind() == ElementKind.FIELD ? field((VariableElement) member) : executable((ExecutableElement) member);
+        return member.getKind() == ElementKind.FIELD
+            ? field((VariableElement) member) : executable((ExecutableElement) member);
     }
 
     private String field(VariableElement field) {
@@ -207,16 +215,23 @@ final class DeclarationWriter {
 
     private String executable(ExecutableElement executable) {
         boolean isConstructor = executable.getKind() == ElementKind.CONSTRUCTOR;
-        String parameters = typeParameters(executable.getTypeParameters());
+        String typeParameters = typeParameters(executable.getTypeParameters());
         String name = isConstructor ? executable.getEnclosingElement().getSimpleName().toString()
             : texts.of(executable.getReturnType()) + " " + JavaNames.checked(executable.getSimpleName());
-        String thrown = executable.getThrownTypes().isEmpty() ? "" : " throws " + texts.of(executable.getThrownTypes());
-        return annotations.of(executable) + modifiers(executable) + (parameters.isEmpty() ? "" : parameters + " ") + name
-            + "(" + parameters(executable) + ")" + thrown + defaultValue(executable) + (isConstructor ? " {}" : ";");
+        return annotations.of(executable) + modifiers(executable)
+            + typeParameters + (typeParameters.isEmpty() ? "" : " ")
+            + name + "(" + parameters(executable) + ")"
+            + thrown(executable) + defaultValue(executable) + (isConstructor ? " {}" : ";");
+    }
+
+    private String thrown(ExecutableElement executable) {
+        List<? extends TypeMirror> types = executable.getThrownTypes();
+        return types.isEmpty() ? "" : " throws " + texts.of(types);
     }
 
     private String defaultValue(ExecutableElement method) {
-        return method.getDefaultValue() == null ? "" : " default " + annotations.value(method.getDefaultValue());
+        AnnotationValue value = method.getDefaultValue();
+        return value == null ? "" : " default " + annotations.value(value);
     }
 
     private String parameters(ExecutableElement executable) {
@@ -244,7 +259,7 @@ final class DeclarationWriter {
             .collect(Collectors.joining(", ", "<", ">"));
     }
 
-    /** The modifiers that have to be written, each with a space after it. Those of later releases are left out. */
+    /** The modifiers that have to be written, each with a space after it; none of later releases. */
     private String modifiers(Element element) {
         Set<Modifier> implied = Kinds.impliedModifiers(element);
         StringBuilder text = new StringBuilder();

@@ -1,19 +1,23 @@
 package dinxobhe.stubs;
 
+import java.nio.charset.StandardCharsets;
 import java.text.Normalizer;
 import java.util.Arrays;
 import javax.lang.model.SourceVersion;
 
-/** Which names can stand in a Java file: class files, and so other languages, allow more. */
+/** Which names can stand in a Java file that the host reads: class files may have others. */
 final class JavaNames {
+    private static final int MOST_BYTES = 1024;
+
     private JavaNames() {}
 
-    /** The name, which has to be identifiers that dots join. */
+    /** The name, which has to be identifiers that dots join, and not too long. */
     static String checked(CharSequence name) {
-        if (!isDotted(name.toString())) {
-            throw new Unwritable("no Java name: " + name);
+        String text = name.toString();
+        if (!isDotted(text) || text.getBytes(StandardCharsets.UTF_8).length > MOST_BYTES) {
+            throw new Unwritable("no Java name: " + text);
         }
-        return name.toString();
+        return text;
     }
 
     /** Identifiers that dots join. */
@@ -23,12 +27,13 @@ final class JavaNames {
 
     /** An identifier of letters, digits, _ and $; the host reads none with other currency signs. */
     static boolean isIdentifier(String name) {
-        return isWord(name) && isWord(Normalizer.normalize(name, Normalizer.Form.NFKC))
-            && !SourceVersion.isKeyword(name, SourceVersion.RELEASE_11);
+        return isWord(name) && !SourceVersion.isKeyword(name, SourceVersion.RELEASE_11)
+            && isWord(Normalizer.normalize(name, Normalizer.Form.NFKC));
     }
 
     private static boolean isWord(String name) {
-        return !name.isEmpty() && isStart(name.codePointAt(0)) && name.codePoints().allMatch(JavaNames::isPart);
+        return !name.isEmpty() && isStart(name.codePointAt(0))
+            && name.codePoints().allMatch(JavaNames::isPart);
     }
 
     private static boolean isStart(int c) {

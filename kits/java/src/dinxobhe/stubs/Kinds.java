@@ -59,7 +59,8 @@ final class Kinds {
 
     /** Whether this is {@code values} or {@code valueOf} of an enum, which the language adds. */
     static boolean isOfEveryEnum(ExecutableElement method) {
-        if (method.getEnclosingElement().getKind() != ElementKind.ENUM || !method.getModifiers().contains(Modifier.STATIC)) {
+        boolean isOfEnum = method.getEnclosingElement().getKind() == ElementKind.ENUM;
+        if (!isOfEnum || !method.getModifiers().contains(Modifier.STATIC)) {
             return false;
         }
         if (method.getSimpleName().contentEquals("values")) {

@@ -46,13 +46,11 @@ final class Literals {
         StringBuilder literal = new StringBuilder("\"");
         for (int i = 0; i < text.length(); i++) {
             char c = text.charAt(i);
-            if (Character.isHighSurrogate(c) && i + 1 < text.length() && Character.isLowSurrogate(text.charAt(i + 1))) {
-                literal.append(escaped(c)).append(escaped(text.charAt(++i)));
-            } else if (Character.isSurrogate(c)) {
+            if (Character.isSurrogate(c) && Character.isBmpCodePoint(text.codePointAt(i))
+                    && (i == 0 || Character.isBmpCodePoint(text.codePointAt(i - 1)))) {
                 throw new Unwritable("half a character");
-            } else {
-                literal.append(escaped(c));
             }
+            literal.append(escaped(c));
         }
         return literal.append('"').toString();
     }

@@ -4,18 +4,18 @@ import java.io.File;
 import java.nio.file.Path;
 import java.nio.file.Paths;
 import java.util.ArrayList;
-import java.util.Arrays;
 import java.util.Iterator;
 import java.util.List;
+import java.util.stream.Stream;
 
 /** What the words of the command line ask for. */
 final class Options {
     static final String USAGE = String.join("\n",
         "usage: stubs OUT [JAR].. [OPTION]..",
         "",
-        "Writes the declarations of libraries as Java files below the folder OUT, which has to be empty or absent.",
-        "The libraries are the JARs (jars, or folders of class files), and the JDK that runs this if --jdk is given.",
-        "All public types of the JARs are written, or with --for what the sources name, and all that these name.",
+        "Writes declarations of libraries as Java files below OUT, which has to be empty or absent.",
+        "The libraries are the JARs, each a jar or a folder of class files, and with --jdk the JDK that runs this.",
+        "All public types of the JARs are written, or with --for those that sources name; and what these name.",
         "",
         "  --for SRC         only what the declarations of the Java files below SRC name",
         "  --jdk             types of the JDK too, where something names them",
@@ -23,10 +23,10 @@ final class Options {
         "  --release N       the JDK as it was in release N, 9 or later",
         "  --asked-by JARS   also the types whose names are in these jars, which are those of the processors",
         "  --also NAME       also this type",
-        "  --services        writes which processors the jars of --asked-by have, and of which kinds, below res/META-INF,",
-        "                    and prints an apt.json with a row for each",
+        "  --services        writes below res/META-INF which processors the jars of --asked-by have, and their",
+        "                    kinds, and prints an apt.json with a row for each",
         "",
-        "JARS are joined by '" + File.pathSeparator + "'. Every option but --jdk, --release and --services may be repeated.",
+        "JARS are joined by " + File.pathSeparator + ". --for, --module, --asked-by and --also may be repeated.",
         "The status is 0 if all was written, 1 if something is wrong with a file, 2 if the words are wrong.");
 
     private static final int FIRST_RELEASE = 9;
@@ -78,7 +78,7 @@ final class Options {
                 release = release(value(option, rest));
                 break;
             case "--asked-by":
-                Arrays.stream(value(option, rest).split(File.pathSeparator)).filter(jar -> !jar.isEmpty())
+                Stream.of(value(option, rest).split(File.pathSeparator)).filter(jar -> !jar.isEmpty())
                     .map(Paths::get).forEach(processors::add);
                 break;
             case "--also":
@@ -110,7 +110,8 @@ final class Options {
         if (libraries.isEmpty() && !jdk) {
             throw new WrongWords("there is no library: give a JAR, --jdk or --module");
         }
-        if (libraries.isEmpty() && sources.isEmpty() && modules.isEmpty() && processors.isEmpty() && also.isEmpty()) {
+        boolean isEmpty = Stream.of(libraries, sources, modules, processors, also).allMatch(List::isEmpty);
+        if (isEmpty) {
             throw new WrongWords("nothing names a type: give a JAR, --module, --for, --asked-by or --also");
         }
         if (services && processors.isEmpty()) {

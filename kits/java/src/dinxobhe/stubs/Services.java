@@ -3,6 +3,7 @@ package dinxobhe.stubs;
 import java.io.File;
 import java.io.IOException;
 import java.net.URISyntaxException;
+import java.net.URL;
 import java.nio.ByteBuffer;
 import java.nio.charset.StandardCharsets;
 import java.nio.file.Files;
@@ -59,29 +60,48 @@ final class Services {
     }
 
     private void read(ClassPathEntry jar) throws IOException, InputFault {
+        for (Line line : lines(jar, NAMES)) {
+            if (!JavaNames.isDotted(line.text)) {
+                throw line.fault("not the name of a processor");
+            }
+            names.add(line.text);
+        }
+        for (Line line : lines(jar, KINDS)) {
+            Matcher matcher = KIND_LINE.matcher(line.text);
+            if (!matcher.matches() || !JavaNames.isDotted(matcher.group(1))) {
+                throw line.fault("not a processor and its kind");
+            }
+            kinds.put(matcher.group(1), matcher.group(2));
+        }
+    }
+
+    /** A line of a file in a jar, without its comment. */
+    private static final class Line {
+        private final String place;
+        private final String text;
+
+        Line(String place, String text) {
+            this.place = place;
+            this.text = text;
+        }
+
+        InputFault fault(String what) {
+            return new InputFault(place + ": " + what);
+        }
+    }
+
+    /** The lines of a file that say something; none where there is no such file. */
+    private static List<Line> lines(ClassPathEntry jar, String file) throws IOException, InputFault {
+        List<Line> lines = new ArrayList<>();
         int number = 0;
-        for (String line : jar.lines(NAMES)) {
+        for (String line : jar.lines(file)) {
             number++;
-            String name = withoutComment(line);
-            if (!name.isEmpty()) {
-                if (!JavaNames.isDotted(name)) {
-                    throw new InputFault(jar.path() + ": " + NAMES + ":" + number + ": not the name of a processor");
-                }
-                names.add(name);
+            String text = withoutComment(line);
+            if (!text.isEmpty()) {
+                lines.add(new Line(jar.path() + ": " + file + ":" + number, text));
             }
         }
-        number = 0;
-        for (String line : jar.lines(KINDS)) {
-            number++;
-            String said = withoutComment(line);
-            Matcher matcher = KIND_LINE.matcher(said);
-            if (!said.isEmpty()) {
-                if (!matcher.matches() || !JavaNames.isDotted(matcher.group(1))) {
-                    throw new InputFault(jar.path() + ": " + KINDS + ":" + number + ": not a processor and its kind");
-                }
-                kinds.put(matcher.group(1), matcher.group(2));
-            }
-        }
+        return lines;
     }
 
     private static String withoutComment(String line) {
@@ -125,14 +145,15 @@ final class Services {
         jars.forEach(jar -> path.add(jar.toString()));
         String classPath = String.join(File.pathSeparator, path);
         return names.stream()
-            .map(name -> "    " + quoted(name) + ": {\"command\": [\"java\", \"-cp\", " + quoted(classPath) + ", "
-                + quoted(BRIDGE) + ", " + quoted(name) + "], \"version\": " + quoted(version) + "}")
+            .map(name -> "    " + quoted(name) + ": {\"command\": "
+                + quoted(List.of("java", "-cp", classPath, BRIDGE, name)) + ", \"version\": " + quoted(version) + "}")
             .collect(Collectors.joining(",\n", "{\n  \"processors\": {\n", "\n  }\n}\n"));
     }
 
     private static String ownJar() {
+        URL place = Services.class.getProtectionDomain().getCodeSource().getLocation();
         try {
-            return Paths.get(Services.class.getProtectionDomain().getCodeSource().getLocation().toURI()).toString();
+            return Paths.get(place.toURI()).toString();
         } catch (URISyntaxException e) {
             throw new IllegalStateException(e);
         }
@@ -144,6 +165,10 @@ final class Services {
         } catch (NoSuchAlgorithmException e) {
             throw new IllegalStateException(e); // every Java has it
         }
+    }
+
+    private static String quoted(List<String> texts) {
+        return texts.stream().map(Services::quoted).collect(Collectors.joining(", ", "[", "]"));
     }
 
     private static String quoted(String text) {

@@ -1,5 +1,7 @@
 package dinxobhe.stubs;
 
+import static java.nio.charset.StandardCharsets.UTF_8;
+
 import com.sun.source.tree.BlockTree;
 import com.sun.source.tree.ClassTree;
 import com.sun.source.tree.CompilationUnitTree;
@@ -15,13 +17,13 @@ import com.sun.source.util.JavacTask;
 import com.sun.source.util.TreeScanner;
 import java.io.File;
 import java.io.IOException;
-import java.nio.charset.StandardCharsets;
 import java.nio.file.Files;
 import java.nio.file.Path;
 import java.util.ArrayList;
 import java.util.HashSet;
 import java.util.LinkedHashSet;
 import java.util.List;
+import java.util.Locale;
 import java.util.Set;
 import java.util.stream.Collectors;
 import java.util.stream.Stream;
@@ -32,8 +34,8 @@ import javax.tools.JavaFileObject;
 import javax.tools.StandardJavaFileManager;
 
 /**
- * What the Java files of a project declare, and which types their declarations may name. Bodies of methods, and what
- * is within calls in initialisers, are no declarations.
+ * What the Java files of a project declare, and which types their declarations may name. Bodies of methods are no
+ * declarations, and neither is what stands within calls in initialisers.
  */
 final class SourceNames {
     private final Set<String> declared = new HashSet<>();
@@ -59,15 +61,16 @@ final class SourceNames {
             throw new InputFault(folder + ": there is no such folder");
         }
         try (Stream<Path> walk = Files.walk(folder)) {
-            return walk.filter(path -> path.toString().endsWith(".java") && Files.isRegularFile(path)).sorted()
-                .map(Path::toFile).collect(Collectors.toList());
+            return walk.filter(path -> path.toString().endsWith(".java")).filter(Files::isRegularFile)
+                .sorted().map(Path::toFile).collect(Collectors.toList());
         }
     }
 
     private void read(JavaCompiler compiler, List<File> files) throws IOException, InputFault {
         DiagnosticCollector<JavaFileObject> said = new DiagnosticCollector<>();
-        try (StandardJavaFileManager manager = compiler.getStandardFileManager(said, null, StandardCharsets.UTF_8)) {
-            JavacTask task = (JavacTask) compiler.getTask(null, manager, said, List.of("-proc:none", "-Xlint:none"), null,
+        List<String> options = List.of("-proc:none", "-Xlint:none");
+        try (StandardJavaFileManager manager = compiler.getStandardFileManager(said, null, UTF_8)) {
+            JavacTask task = (JavacTask) compiler.getTask(null, manager, said, options, null,
                 manager.getJavaFileObjectsFromFiles(files));
             for (CompilationUnitTree unit : task.parse()) {
                 add(unit);
@@ -75,8 +78,8 @@ final class SourceNames {
         }
         for (Diagnostic<? extends JavaFileObject> one : said.getDiagnostics()) {
             if (one.getKind() == Diagnostic.Kind.ERROR) {
-                String place = one.getSource() == null ? "" : one.getSource().getName() + ":" + one.getLineNumber() + ": ";
-                throw new InputFault(place + one.getMessage(null));
+                String file = one.getSource() == null ? "" : one.getSource().getName() + ":";
+                throw new InputFault(file + one.getLineNumber() + ": " + one.getMessage(Locale.ENGLISH));
             }
         }
     }

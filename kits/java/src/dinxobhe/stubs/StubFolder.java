@@ -28,7 +28,7 @@ final class StubFolder {
         if (Files.isDirectory(folder)) {
             try (Stream<Path> inner = Files.list(folder)) {
                 if (inner.findAny().isPresent()) {
-                    throw new InputFault(folder + ": not empty: name another folder, or remove what is there");
+                    throw new InputFault(folder + ": not empty: name another, or remove what is there");
                 }
             }
         }
@@ -55,8 +55,8 @@ final class StubFolder {
 
     private void check(String what, long number, long most) throws InputFault {
         if (number > most) {
-            throw new InputFault(folder + ": " + what + " are " + number + ", and the host reads at most " + most
-                + "; --for SRC writes fewer");
+            throw new InputFault(folder + ": " + what + " are " + number + ", and the host reads at most "
+                + most + "; --for SRC writes fewer");
         }
     }
 }

@@ -19,10 +19,10 @@ import javax.lang.model.util.Elements;
 
 /** Runs in the Java compiler, which reads the class files, and makes the files of the stubs. */
 final class StubProcessor extends AbstractProcessor {
-    /** Types that declarations have without naming them: supertypes, boxes, and the annotation that is looked for. */
+    /** Types that the host finds without their names being written, as supertypes, boxes and the like. */
     private static final List<String> IMPLIED = List.of(
-        "java.lang.Object", "java.lang.Enum", "java.lang.String", "java.lang.Cloneable", "java.io.Serializable",
-        "java.lang.annotation.Annotation", "java.lang.annotation.Inherited",
+        "java.lang.Object", "java.lang.Enum", "java.lang.String", "java.lang.Cloneable",
+        "java.io.Serializable", "java.lang.annotation.Annotation", "java.lang.annotation.Inherited",
         "java.lang.Boolean", "java.lang.Byte", "java.lang.Short", "java.lang.Integer", "java.lang.Long",
         "java.lang.Character", "java.lang.Float", "java.lang.Double", "java.lang.Void");
 
@@ -76,7 +76,7 @@ final class StubProcessor extends AbstractProcessor {
                 addFirst();
                 files = reach.files();
                 for (String name : notes.names(Notes.Kind.ABSENT)) {
-                    libraries.checkAbsent(name);
+                    checkAbsent(name);
                 }
             } catch (InputFault e) {
                 fault = e;
@@ -132,11 +132,18 @@ final class StubProcessor extends AbstractProcessor {
                 addPublic(type);
             } else if (!JavaNames.isDotted(name)) {
                 notes.add(Notes.Kind.LEFT_OUT, name);
-            } else if (isOfModule(name)) {
-                notes.add(Notes.Kind.HIDDEN, name);
             } else if (name.indexOf('$') < 0) { // else it is a nested class
-                libraries.checkAbsent(name);
+                checkAbsent(name);
             }
+        }
+    }
+
+    /** Fails if a library has a class of this name, which the compiler has not. */
+    private void checkAbsent(String name) throws IOException, InputFault {
+        if (libraries.classNames().contains(name) && isOfModule(name)) {
+            notes.add(Notes.Kind.HIDDEN, name);
+        } else {
+            libraries.checkAbsent(name);
         }
     }
 
@@ -163,14 +170,14 @@ final class StubProcessor extends AbstractProcessor {
         if (isInPackage(name)) {
             TypeElement type = elements.getTypeElement(name);
             if (type == null) {
-                libraries.checkAbsent(name);
+                checkAbsent(name);
             } else if (isSeen(type)) {
                 reach.add(type);
             }
         }
     }
 
-    /** Whether a name begins with that of a package: the test is fast, and few of the texts that may be names pass it. */
+    /** Whether a name begins with that of a package: a fast test, which few of the texts pass. */
     private boolean isInPackage(String name) {
         int dot = name.lastIndexOf('.');
         if (dot < 0) {
@@ -186,7 +193,8 @@ final class StubProcessor extends AbstractProcessor {
     }
 
     private boolean isSeen(TypeElement type) {
-        boolean isOpen = sources.packages().contains(elements.getPackageOf(type).getQualifiedName().toString());
+        String of = elements.getPackageOf(type).getQualifiedName().toString();
+        boolean isOpen = sources.packages().contains(of);
         for (Element e = type; Kinds.isType(e); e = e.getEnclosingElement()) {
             Set<Modifier> modifiers = e.getModifiers();
             boolean isPublic = modifiers.contains(Modifier.PUBLIC) || modifiers.contains(Modifier.PROTECTED);
@@ -197,8 +205,9 @@ final class StubProcessor extends AbstractProcessor {
         return true;
     }
 
-    /** Whether a top-level type has a file: those of the sources have none, and those of the JDK only if asked for. */
+    /** Whether a top-level type has a file: no type of the sources has, and those of the JDK only with --jdk. */
     private boolean isWanted(TypeElement type) {
-        return (options.jdk() || !isOfModule(type)) && !sources.declared().contains(type.getQualifiedName().toString());
+        boolean isDeclared = sources.declared().contains(type.getQualifiedName().toString());
+        return !isDeclared && (options.jdk() || !isOfModule(type));
     }
 }

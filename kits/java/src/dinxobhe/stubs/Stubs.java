@@ -1,10 +1,12 @@
 package dinxobhe.stubs;
 
+import static java.nio.charset.StandardCharsets.UTF_8;
+
 import java.io.IOException;
 import java.io.PrintStream;
 import java.io.StringWriter;
-import java.nio.charset.StandardCharsets;
 import java.util.List;
+import java.util.Locale;
 import java.util.Map;
 import java.util.Set;
 import java.util.stream.Collectors;
@@ -47,7 +49,8 @@ public final class Stubs {
         }
     }
 
-    private static void write(Options options, PrintStream out, PrintStream err) throws IOException, InputFault {
+    private static void write(Options options, PrintStream out, PrintStream err)
+            throws IOException, InputFault {
         JavaCompiler compiler = ToolProvider.getSystemJavaCompiler();
         if (compiler == null) {
             throw new InputFault("this Java has no compiler: run it by the java of a JDK");
@@ -77,19 +80,20 @@ public final class Stubs {
     }
 
     /** Has the compiler run the processor, over no sources. Gives the errors that it finds. */
-    private static String read(JavaCompiler compiler, Options options, StubProcessor processor) throws IOException, InputFault {
+    private static String read(JavaCompiler compiler, Options options, StubProcessor processor)
+            throws IOException, InputFault {
         DiagnosticCollector<JavaFileObject> said = new DiagnosticCollector<>();
-        try (StandardJavaFileManager manager = compiler.getStandardFileManager(said, null, StandardCharsets.UTF_8)) {
+        try (StandardJavaFileManager manager = compiler.getStandardFileManager(said, null, UTF_8)) {
             manager.setLocationFromPaths(StandardLocation.CLASS_PATH, options.libraries());
             manager.setLocationFromPaths(StandardLocation.SOURCE_PATH, List.of()); // jars may have sources
-            CompilationTask task = compiler.getTask(new StringWriter(), manager, said, options.compilerOptions(),
-                List.of("java.lang.Object"), null);
+            CompilationTask task = compiler.getTask(new StringWriter(), manager, said,
+                options.compilerOptions(), List.of("java.lang.Object"), null);
             task.setProcessors(List.of(processor));
             task.call();
         } catch (IllegalArgumentException e) { // an option that this compiler does not have
             throw new InputFault(e.getMessage());
         }
         return said.getDiagnostics().stream().filter(one -> one.getKind() == Diagnostic.Kind.ERROR)
-            .map(one -> one.getMessage(null)).collect(Collectors.joining("; "));
+            .map(one -> one.getMessage(Locale.ENGLISH)).collect(Collectors.joining("; "));
     }
 }

@@ -61,10 +61,11 @@ final class TypeTexts {
         if (isGeneric(type.getEnclosingType())) {
             name = of(type.getEnclosingType()) + "." + element.getSimpleName();
         }
-        return type.getTypeArguments().isEmpty() ? name : name + "<" + of(type.getTypeArguments()) + ">";
+        List<? extends TypeMirror> arguments = type.getTypeArguments();
+        return arguments.isEmpty() ? name : name + "<" + of(arguments) + ">";
     }
 
-    /** Whether a type that encloses another has type arguments, so that it is written in front of the other. */
+    /** Whether a type that encloses another has arguments, so that it is written in front of the other. */
     private static boolean isGeneric(TypeMirror enclosing) {
         if (enclosing.getKind() != TypeKind.DECLARED) {
             return false;

@@ -8,9 +8,9 @@ import javax.lang.model.element.TypeElement;
 import javax.lang.model.util.Elements;
 
 /**
- * Which members stubs have: the public and protected ones; those of package access in the packages of the sources, which
- * see them; and nested types of any access which something that is written names. Other nested types must not be written,
- * since the host looks up names without access, and each could hide a type of a source.
+ * Which members stubs have: public and protected ones; those of package access in the packages of the sources, which
+ * see them; and nested types of any access which something that is written names. Other nested types must not be
+ * written: the host looks up names without access, and each could hide a type of a source.
  */
 final class Visibility {
     private final Elements elements;
