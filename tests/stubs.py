@@ -317,6 +317,8 @@ public @interface Marked {
 """),
     "lib/Kept.java": ("package lib;\n\npublic @interface Kept { char value(); }\n",
                       "package lib;\n\npublic @interface Kept {\n  char value();\n}\n"),
+    "lib/Word.java": ("package lib;\n\npublic @interface Word { String value(); }\n",
+                      "package lib;\n\npublic @interface Word {\n  java.lang.String value();\n}\n"),
     "lib/Forgotten.java": ("""package lib;
 
 @java.lang.annotation.Retention(java.lang.annotation.RetentionPolicy.SOURCE)
@@ -331,12 +333,14 @@ public @interface Forgotten {}
 @Forgotten @Kept('k') @Marked(part = 1, colour = Colour.GREEN, names = {})
 public class Noted {
     @Kept('f') public int field;
+    @Kept('g') @Word("\\ud83d") public int broken;
     @Marked(part = 0.5) public void method(int plain, @Kept('p') @Marked(part = 2) String marked) {}
 }
 """, """package lib;
 
 @lib.Marked(part = 1.0, colour = lib.Colour.GREEN, names = {}) @lib.Kept(value = 'k') public class Noted {
   @lib.Kept(value = 'f') public int field;
+  @lib.Kept(value = 'g') public int broken;
   public Noted() {}
   @lib.Marked(part = 0.5) public void method(int arg0, @lib.Kept(value = 'p') @lib.Marked(part = 2.0) java.lang.String arg1);
 }
@@ -358,6 +362,7 @@ def every_form_of_a_declaration(project):
     size = sum(len(stub.encode()) for _, stub in FORMS.values())
     expect("the messages", run.stderr,
            "stubs: note: constants, written without their values, which no Java text means (1): lib.Constants.BROKEN\n"
+           "stubs: note: elements without one of their annotations, which has a value that no Java text means (1): lib.Noted.broken\n"
            f"stubs: {len(FORMS)} files, {size} bytes\n")
     is_read(project)
 

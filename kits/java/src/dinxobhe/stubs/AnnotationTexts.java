@@ -2,9 +2,9 @@ package dinxobhe.stubs;
 
 import java.util.List;
 import java.util.stream.Collectors;
-import javax.lang.model.AnnotatedConstruct;
 import javax.lang.model.element.AnnotationMirror;
 import javax.lang.model.element.AnnotationValue;
+import javax.lang.model.element.Element;
 import javax.lang.model.element.TypeElement;
 import javax.lang.model.element.VariableElement;
 import javax.lang.model.type.TypeMirror;
@@ -26,13 +26,13 @@ final class AnnotationTexts {
     }
 
     /** The annotations of an element, each with a space after it. */
-    String of(AnnotatedConstruct element) {
+    String of(Element element) {
         StringBuilder text = new StringBuilder();
         for (AnnotationMirror annotation : element.getAnnotationMirrors()) {
             try {
                 text.append(of(annotation)).append(' ');
             } catch (Unwritable e) {
-                notes.add(Notes.Kind.ANNOTATION, element.toString());
+                notes.add(Notes.Kind.ANNOTATION, element);
             }
         }
         return text.toString();

@@ -75,7 +75,7 @@ final class DeclarationWriter {
                     text.append(indent).append(INDENT).append(written).append('\n');
                 }
             } catch (Unwritable e) {
-                notes.add(Notes.Kind.LEFT_OUT, type.getQualifiedName() + "." + member);
+                notes.add(Notes.Kind.LEFT_OUT, member);
             }
         }
         text.append(isHidden ? hidden : "").append(indent).append("}\n");
@@ -89,7 +89,7 @@ final class DeclarationWriter {
 
     private String head(TypeElement type) {
         if (Kinds.isRecord(type)) {
-            notes.add(Notes.Kind.RECORD, type.getQualifiedName().toString());
+            notes.add(Notes.Kind.RECORD, type);
         }
         String name = JavaNames.checked(type.getSimpleName());
         return annotations.of(type) + modifiers(type) + keyword(type) + " " + name
@@ -135,7 +135,7 @@ final class DeclarationWriter {
                     written.add(annotations.of(constant) + name + body);
                     body = "";
                 } catch (Unwritable e) {
-                    notes.add(Notes.Kind.LEFT_OUT, type.getQualifiedName() + "." + constant);
+                    notes.add(Notes.Kind.LEFT_OUT, constant);
                 }
             }
         }
@@ -183,7 +183,7 @@ final class DeclarationWriter {
             try {
                 return " = " + Literals.of(field.getConstantValue());
             } catch (Unwritable e) {
-                notes.add(Notes.Kind.CONSTANT, field.getEnclosingElement() + "." + field);
+                notes.add(Notes.Kind.CONSTANT, field);
             }
         }
         // A field of an interface has to have one, which must not be a constant expression.
@@ -265,7 +265,7 @@ final class DeclarationWriter {
         StringBuilder text = new StringBuilder();
         for (Modifier modifier : element.getModifiers()) {
             if (modifier.name().equals("SEALED")) {
-                notes.add(Notes.Kind.SEALED, element.toString());
+                notes.add(Notes.Kind.SEALED, element);
             } else if (!modifier.name().equals("NON_SEALED") && !implied.contains(modifier)) {
                 text.append(modifier).append(' ');
             }

@@ -6,6 +6,8 @@ import java.util.Map;
 import java.util.Set;
 import java.util.TreeSet;
 import java.util.stream.Collectors;
+import javax.lang.model.element.Element;
+import javax.lang.model.element.ElementKind;
 
 /** What stubs do not say as the class files do, each with the names of which it is so. */
 final class Notes {
@@ -32,6 +34,17 @@ final class Notes {
 
     void add(Kind kind, String name) {
         names.computeIfAbsent(kind, k -> new TreeSet<>()).add(name);
+    }
+
+    void add(Kind kind, Element element) {
+        add(kind, nameOf(element));
+    }
+
+    /** The name of an element, with those of the elements around it. */
+    private static String nameOf(Element element) {
+        Element around = element.getEnclosingElement();
+        boolean isMember = around != null && !Kinds.isType(element) && around.getKind() != ElementKind.MODULE;
+        return isMember ? nameOf(around) + "." + element : element.toString();
     }
 
     /** The names of a kind. */
