@@ -1,15 +1,15 @@
 #!/usr/bin/env python3
-"""Builds the jar of kits/java, and tries its command stubs: over a small library, over faulty words and files, and over
-the JDK's module java.base. The built program then reads the stubs.
+"""Builds the jar of kits/java, and tries its command stubs: over small libraries, over faulty words and files, and
+over the JDK's module java.base. The built program then reads the stubs.
 
     tests/stubs.py [PROGRAM]
 
-PROGRAM is crates/apt_cli/out/apt_cli where it is left out. Each case prints a line. The first that fails ends the run
-with status 1. The last line is 'stubs: N passed, M failed'. Without the programs of a JDK nothing can be tried, and that
-is a failed case.
+PROGRAM is crates/apt_cli/out/apt_cli where it is left out. Each case prints a line. The first that fails ends the
+run with status 1. The last line is 'stubs: N passed, M failed'. Without a JDK nothing can be tried, and that is a
+failed case.
 
-What is expected is written by hand, or comes from the JDK: SameDeclarations.java compares the stubs of java.base with its
-class files, as javax.lang.model has both. No expected text was made by the command itself.
+What is expected is written by hand, or comes from the JDK: SameDeclarations.java compares the stubs of java.base with
+its class files, as javax.lang.model has both. No expected text was made by the command itself.
 """
 import json
 import os
@@ -37,7 +37,8 @@ case = Cases("stubs")
 
 
 def output_of(command, folder):
-    run = subprocess.run(command, cwd=folder, stdout=subprocess.PIPE, stderr=subprocess.STDOUT, encoding="utf-8", check=False)
+    run = subprocess.run(command, cwd=folder, stdout=subprocess.PIPE, stderr=subprocess.STDOUT, encoding="utf-8",
+                         check=False)
     if run.returncode != 0:
         raise Failure(f"{command[0]} ended with {run.returncode}: {run.stdout[-2000:]}")
     return run.stdout
@@ -49,8 +50,8 @@ def library(project, sources, name="library.jar", resources=()):
         for path, content in sources.items():
             put(folder, path, content)
         os.mkdir(os.path.join(folder, "classes"))
-        output_of(["javac", *(f"-J{word}" for word in FAST), "-encoding", "UTF-8", "--release", "11", "-d", "classes", *sources],
-                  folder)
+        fast = [f"-J{word}" for word in FAST]
+        output_of(["javac", *fast, "-encoding", "UTF-8", "--release", "11", "-d", "classes", *sources], folder)
         for path, content in dict(resources).items():
             put(os.path.join(folder, "classes"), path, content)
         jar = project.path(name)
@@ -380,7 +381,10 @@ USED = {
     "a/Quiet.java": "package a; class Quiet {}",
     "a/InABody.java": "package a; public class InABody { public static String of() { return null; } }",
     "a/NotNamed.java": "package a; public class NotNamed {}",
-    "b/Mark.java": "package b; public @interface Mark { String value(); Kind kind(); Class<?> of() default d.OfDefault.class; }",
+    "b/Mark.java": """package b;
+
+public @interface Mark { String value(); Kind kind(); Class<?> of() default d.OfDefault.class; }
+""",
     "b/Kind.java": "package b; public enum Kind { GOOD; }",
     "c/Result.java": "package c; @c.OnResult public class Result {}",
     "c/OnResult.java": "package c; public @interface OnResult {}",
@@ -389,7 +393,10 @@ USED = {
     "d/Far.java": "package d; public class Far {}",
     "d/Bound.java": "package d; public interface Bound {}",
     "d/OfDefault.java": "package d; public class OfDefault {}",
-    "p/Near.java": "package p; class Near { int shared; private int own; void call(d.Near near) {} private void hide(d.NotReached at) {} }",
+    "p/Near.java": """package p;
+
+class Near { int shared; private int own; void call(d.Near near) {} private void hide(d.NotReached at) {} }
+""",
     "p/Own.java": "package p; public class Own {}",
     "d/Near.java": "package d; public class Near {}",
     "d/NotReached.java": "package d; public class NotReached {}",
@@ -439,7 +446,7 @@ def what_sources_name_and_what_that_names(project):
 def what_sources_name_of_the_jdk(project):
     project.write("src/p/D.java", b"package p; interface D extends java.util.function.Supplier<String> {}")
     files, _ = written(project, "--jdk", "--for", "src", "--also", "java.util.Map.Entry", "--release", "11")
-    for name in ["java/util/function/Supplier", "java/lang/Object", "java/lang/Integer", "java/lang/annotation/Inherited", "java/util/Map"]:
+    for name in ["java/util/function/Supplier", "java/util/Map", "java/lang/Object", "java/lang/annotation/Inherited"]:
         expect(f"whether {name} is there", name + ".java" in files, True)
     expect("whether it is more than what is named", "java/util/Scanner.java" in files, False)
     expect("a method of release 11", "  public boolean isBlank();\n" in files["java/lang/String.java"], True)
@@ -479,9 +486,9 @@ def asking(project, **more):
 
 @case
 def what_processors_ask_for(project):
-    jar = library(project, ASKED)
+    jar = library(project, {**ASKED, "proc/Asking.java": "package proc; public class Asking {}"})
     files, _ = written(project, jar, "--for", "src", "--asked-by", asking(project))
-    expect("the files", sorted(files), sorted(f"e/{name}.java" for name in ["First", "Outer", "InText", "ByClass", "InTemplate"]))
+    expect("the files", sorted(files), sorted(set(ASKED) - {"e/NotAsked.java"}))
 
 
 @case
@@ -495,15 +502,17 @@ def the_processors_of_a_jar(project):
     rows = json.loads(run.stdout)["processors"]
     version = rows["proc.Asking"]["version"]
     bridge = ["java", "-cp", f"{os.path.realpath(JAR)}:processors.jar", "dinxobhe.Bridge"]
-    expect("the rows", rows, {name: {"command": [*bridge, name], "version": version} for name in ["proc.Asking", "proc.Other"]})
+    expect("the rows", rows, {name: {"command": [*bridge, name], "version": version}
+                              for name in ["proc.Asking", "proc.Other"]})
     shutil.rmtree(project.path("stubs"))
     asking(project, **{KINDS[len("res/"):]: KINDS_SAID, "proc/more": ""})
     files, run = written(project, jar, "--asked-by", "processors.jar", "--services")
-    expect("whether another jar has another version", json.loads(run.stdout)["processors"]["proc.Asking"]["version"] != version, True)
+    other = json.loads(run.stdout)["processors"]["proc.Asking"]["version"]
+    expect("whether another jar has another version", other != version, True)
     shutil.rmtree(project.path("stubs"))
     project.write(SERVICES, b"mine\n")
-    refused(project, FAULT, f"{SERVICES}: is there already, with other lines: remove it first", jar, "--asked-by", "processors.jar",
-            "--services")
+    refused(project, FAULT, f"{SERVICES}: is there already, with other lines: remove it first",
+            jar, "--asked-by", "processors.jar", "--services")
     # The host looks for a row for each of the names.
     project.write("apt.json", run.stdout.replace("proc.Other", "proc.Another").encode())
     project.write(SERVICES, b"proc.Asking\nproc.Other\n")
@@ -547,8 +556,10 @@ def faulty_libraries(project):
     project.write("text.jar", b"a text")
     faulty("text.jar: not a jar: zip END header not found", "text.jar")
     jar_of("later.jar", "a/A.class", whole[:6] + (999).to_bytes(2, "big") + whole[8:])
-    faulty("later.jar: the class a.A cannot be read: it has version 999, which is that of a later Java", "later.jar")
-    faulty("later.jar: the class a.A cannot be read: it has version 999, which is that of a later Java", "later.jar", "--also", "a.A")
+    later = "later.jar: the class a.A cannot be read: it has version 999, which is that of a later Java"
+    faulty(later, "later.jar")
+    project.write("using/Using.java", b"class Using { a.A a; }")
+    faulty(later, "later.jar", "--for", "using")
     jar_of("short.jar", "a/A.class", whole[:-20])
     faulty("short.jar: the class a.A cannot be read: it is damaged, or of another name", "short.jar")
     jar_of("other.jar", "b/A.class", whole)
@@ -566,10 +577,11 @@ def faulty_files(project):
     refused(project, FAULT, "none: there is no such folder", jar, "--for", "none")
     project.write("src/p/Bad.java", b"package p;\nclass Bad {\n  int x = ;\n}\n")
     refused(project, FAULT, "src/p/Bad.java:3: illegal start of expression", jar, "--for", "src")
-    jar_of = asking(project, **{SERVICES[len("res/"):]: "a.B\na b\n"})
-    refused(project, FAULT, f"{jar_of}: {SERVICES[len('res/'):]}:2: not the name of a processor", jar, "--asked-by", jar_of)
-    asking(project, **{KINDS[len("res/"):]: "a.B,fast\n"})
-    refused(project, FAULT, f"{jar_of}: {KINDS[len('res/'):]}:1: not a processor and its kind", jar, "--asked-by", jar_of)
+    services, kinds = SERVICES[len("res/"):], KINDS[len("res/"):]
+    asked = ["--asked-by", asking(project, **{services: "a.B\na b\n"})]
+    refused(project, FAULT, f"processors.jar: {services}:2: not the name of a processor", jar, *asked)
+    asking(project, **{kinds: "a.B,fast\n"})
+    refused(project, FAULT, f"processors.jar: {kinds}:1: not a processor and its kind", jar, *asked)
     project.write("stubs/X.java", b"class X {}")
     run = stubs(project, "stubs", jar)
     expect("the end", (run.returncode, run.stderr),
@@ -583,8 +595,15 @@ def faulty_files(project):
 @case
 def types_that_no_library_has(project):
     jar = library(project, {
-        "a/A.java": "package a; @x.Gone(when = x.When.NEVER, of = x.Of.class) public class A extends x.Base<String> { public x.Outer.In<x.Of>[] of() { return null; } }",
-        "a/B.java": "package a; public interface B extends x.Face { @x.Gone(when = x.When.NEVER) void call() throws x.Fault; }",
+        "a/A.java": """package a;
+
+@x.Gone(when = x.When.NEVER, of = x.Of.class)
+public class A extends x.Base<String> { public x.Outer.In<x.Of>[] of() { return null; } }
+""",
+        "a/B.java": """package a;
+
+public interface B extends x.Face { @x.Gone(when = x.When.NEVER) void call() throws x.Fault; }
+""",
         "x/Gone.java": "package x; public @interface Gone { When when(); Class<?> of() default int.class; }",
         "x/When.java": "package x; public enum When { NEVER }",
         "x/Of.java": "package x; public class Of {}",
@@ -627,7 +646,10 @@ def renamed(project, jar, names):
 @case
 def names_that_are_no_java_names(project):
     jar = library(project, {
-        "a/A.java": "package a; public class A { public int good, oddNameA; public void class_() {} public void as(B_C b) {} }",
+        "a/A.java": """package a;
+
+public class A { public int good, oddNameA; public void class_() {} public void as(B_C b) {} }
+""",
         "a/B_C.java": "package a; public class B_C {}",
         "a/D.java": "package a; public class D extends B_C {}",
         "w_x/E.java": "package w_x; public class E {}",
@@ -638,7 +660,15 @@ def names_that_are_no_java_names(project):
     files, run = written(project, jar)
     expect("the files", files, {
         "a/A.java": "package a;\n\npublic class A {\n  public int good;\n  public A() {}\n}\n",
-        "a/Scala$.java": "package a;\n\npublic class Scala$ {\n  public static class In {\n    public In() {}\n  }\n  public Scala$() {}\n}\n",
+        "a/Scala$.java": """package a;
+
+public class Scala$ {
+  public static class In {
+    public In() {}
+  }
+  public Scala$() {}
+}
+""",
     })
     left_out = "a.A.as(a.B-C), a.A.class-(), a.A.odd name, a.B-C, a.D, .."
     expect("the first message", run.stderr.splitlines()[0],
@@ -667,19 +697,21 @@ def packages_of_the_jdk_in_a_jar(project):
 def classes_beside_their_sources(project):
     jar = library(project, {"a/A.java": "package a; public class A {}"})
     with zipfile.ZipFile(jar, "a") as archive:
-        archive.writestr(zipfile.ZipInfo("a/A.java", (2100, 1, 1, 0, 0, 0)), "package a; public class A { int newer; }")
+        source = zipfile.ZipInfo("a/A.java", (2100, 1, 1, 0, 0, 0))
+        archive.writestr(source, "package a; public class A { public int newer; }")
     files, _ = written(project, jar)
     expect("the files", files, {"a/A.java": "package a;\n\npublic class A {\n  public A() {}\n}\n"})
 
 
 def shown_as_sources(project):
-    """What the host sends where the sources are the stubs, and a processor supports all annotations."""
+    """The annotations and the units that the host sends a processor of all annotations where the stubs are sources."""
     shutil.rmtree(project.path("src"))
     os.rename(project.path("stubs"), project.path("src"))
-    run = project.run(project.scripted(["read", say(frames.hello("*")), "read", say(frames.done()), "read", say(frames.done()), "rest"]))
+    done = ["read", say(frames.done())]
+    run = project.run(project.scripted(["read", say(frames.hello("*")), *done, *done, "rest"]))
     expect("the status", run.status, DONE_STATUS)
     sent = frames.Fields(project.sent())
-    sent.take(sent.number()) # Init
+    sent.take(sent.number())  # Init
     sent.number()
     tag, number, over, error = sent.byte(), sent.number(), sent.byte(), sent.byte()
     expect("the head of the second frame", (tag, number, over, error), (frames.ROUND, 1, 0, 0))
@@ -689,8 +721,8 @@ def shown_as_sources(project):
 @case
 def the_module_java_base(project):
     _, run = written(project, "--module", "java.base")
-    compared = output_of(["java", *FAST, os.path.join(HERE, "SameDeclarations.java"), "module", "java.base", project.path("stubs")],
-                         project.folder)
+    compare = os.path.join(HERE, "SameDeclarations.java")
+    compared = output_of(["java", *FAST, compare, "module", "java.base", "stubs"], project.folder)
     *said, types, annotations = compared.splitlines()
     expect("whether there are many declarations", int(said[-1].split()[0]) > 10_000, True)
     is_read(project)
@@ -703,13 +735,14 @@ def the_module_java_base(project):
 def main():
     missing = [name for name in ("java", "javac", "jar") if shutil.which(name) is None]
     if missing:
-        print(f"stubs: 0 passed, 1 failed: there is no {' and no '.join(missing)}, which are of a JDK")
-        sys.exit(1)
-    built = subprocess.run([os.path.join(KIT, "build")], check=False)
-    if built.returncode != 0:
-        print("stubs: 0 passed, 1 failed: kits/java/build failed")
-        sys.exit(1)
-    case.main()
+        print(f"there is no {missing[0]}, which a JDK has")
+    elif subprocess.run([os.path.join(KIT, "build")], check=False).returncode != 0:
+        print("kits/java/build failed")
+    else:
+        case.main()
+        return
+    print("stubs: 0 passed, 1 failed")
+    sys.exit(1)
 
 
 if __name__ == "__main__":
