@@ -506,7 +506,8 @@ def the_processors_of_a_jar(project):
                               for name in ["proc.Asking", "proc.Other"]})
     shutil.rmtree(project.path("stubs"))
     asking(project, **{KINDS[len("res/"):]: KINDS_SAID, "proc/more": ""})
-    files, run = written(project, jar, "--asked-by", "processors.jar", "--services")
+    files, run = written(project, "processors.jar", "--for", "src", "--services")
+    expect("the files of no type", files, {})
     other = json.loads(run.stdout)["processors"]["proc.Asking"]["version"]
     expect("whether another jar has another version", other != version, True)
     shutil.rmtree(project.path("stubs"))
@@ -532,7 +533,7 @@ def wrong_words(project):
     wrong("there is no option --fast", "x.jar", "--fast")
     wrong("--for needs a word after it", "x.jar", "--for")
     wrong("--release 8: not a number from 9", "x.jar", "--release", "8")
-    wrong("--services needs --asked-by", "x.jar", "--services")
+    wrong("--services needs a JAR or --asked-by", "--module", "java.base", "--services")
     run = subprocess.run(["java", "-jar", JAR], stderr=subprocess.PIPE, check=False)
     expect("the status without words", run.returncode, WRONG_WORDS)
     run = stubs(project, "--help")
@@ -578,7 +579,8 @@ def faulty_files(project):
     project.write("src/p/Bad.java", b"package p;\nclass Bad {\n  int x = ;\n}\n")
     refused(project, FAULT, "src/p/Bad.java:3: illegal start of expression", jar, "--for", "src")
     services, kinds = SERVICES[len("res/"):], KINDS[len("res/"):]
-    asked = ["--asked-by", asking(project, **{services: "a.B\na b\n"})]
+    refused(project, FAULT, "--services: none of the jars names a processor", jar, "--services")
+    asked = ["--services", "--asked-by", asking(project, **{services: "a.B\na b\n"})]
     refused(project, FAULT, f"processors.jar: {services}:2: not the name of a processor", jar, *asked)
     asking(project, **{kinds: "a.B,fast\n"})
     refused(project, FAULT, f"processors.jar: {kinds}:1: not a processor and its kind", jar, *asked)

@@ -23,8 +23,8 @@ final class Options {
         "  --release N       the JDK as it was in release N, 9 or later",
         "  --asked-by JARS   also the types whose names are in these jars, which are those of the processors",
         "  --also NAME       also this type",
-        "  --services        writes below res/META-INF which processors the jars of --asked-by have, and their",
-        "                    kinds, and prints an apt.json with a row for each",
+        "  --services        writes below res/META-INF which processors the jars of --asked-by have, or else the",
+        "                    JARs, and of which kinds, and prints an apt.json with a row for each",
         "",
         "JARS are joined by " + File.pathSeparator + ". --for, --module, --asked-by and --also may be repeated.",
         "The status is 0 if all was written, 1 if something is wrong with a file, 2 if the words are wrong.");
@@ -35,7 +35,7 @@ final class Options {
     private final List<Path> libraries = new ArrayList<>();
     private final List<Path> sources = new ArrayList<>();
     private final List<String> modules = new ArrayList<>();
-    private final List<Path> processors = new ArrayList<>();
+    private final List<Path> askers = new ArrayList<>();
     private final List<String> also = new ArrayList<>();
     private String release;
     private boolean jdk;
@@ -79,7 +79,7 @@ final class Options {
                 break;
             case "--asked-by":
                 Stream.of(value(option, rest).split(File.pathSeparator)).filter(jar -> !jar.isEmpty())
-                    .map(Paths::get).forEach(processors::add);
+                    .map(Paths::get).forEach(askers::add);
                 break;
             case "--also":
                 also.add(value(option, rest));
@@ -110,12 +110,12 @@ final class Options {
         if (libraries.isEmpty() && !jdk) {
             throw new WrongWords("there is no library: give a JAR, --jdk or --module");
         }
-        boolean isEmpty = Stream.of(libraries, sources, modules, processors, also).allMatch(List::isEmpty);
+        boolean isEmpty = Stream.of(libraries, sources, modules, askers, also).allMatch(List::isEmpty);
         if (isEmpty) {
             throw new WrongWords("nothing names a type: give a JAR, --module, --for, --asked-by or --also");
         }
-        if (services && processors.isEmpty()) {
-            throw new WrongWords("--services needs --asked-by");
+        if (services && processorPath().isEmpty()) {
+            throw new WrongWords("--services needs a JAR or --asked-by");
         }
     }
 
@@ -139,9 +139,14 @@ final class Options {
         return modules;
     }
 
-    /** The jars of the processors. */
-    List<Path> processors() {
-        return processors;
+    /** The jars of processors that ask for types by name. */
+    List<Path> askers() {
+        return askers;
+    }
+
+    /** Where processors are looked for: as for javac in the libraries, where no other jars are said to have them. */
+    List<Path> processorPath() {
+        return askers.isEmpty() ? libraries : askers;
     }
 
     /** Further types that are written, by their canonical names. */
@@ -154,7 +159,7 @@ final class Options {
         return jdk;
     }
 
-    /** Whether the services of the processors' jars are written. */
+    /** Whether it is written which processors there are. */
     boolean services() {
         return services;
     }

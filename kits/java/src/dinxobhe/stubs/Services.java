@@ -54,6 +54,9 @@ final class Services {
                 }
             }
         }
+        if (services.names.isEmpty()) {
+            throw new InputFault("--services: none of the jars names a processor");
+        }
         services.kinds.keySet().retainAll(services.names);
         services.version = String.format("%016x", ByteBuffer.wrap(digest.digest()).getLong());
         return services;

@@ -45,6 +45,7 @@ final class StubFolder {
         }
         check("the files", files.size(), MOST_FILES);
         check("the bytes of all files", bytes, MOST_BYTES);
+        Files.createDirectories(folder);
         for (Map.Entry<String, String> file : files.entrySet()) {
             Path path = folder.resolve(file.getKey());
             Files.createDirectories(path.getParent());

@@ -57,11 +57,12 @@ public final class Stubs {
         }
         StubFolder folder = StubFolder.of(options.out());
         Libraries libraries = Libraries.of(options.libraries());
-        Services services = Services.of(options.processors());
+        Services services = null;
         if (options.services()) {
+            services = Services.of(options.processorPath());
             services.check();
         }
-        Set<String> asked = AskedNames.of(options.processors());
+        Set<String> asked = AskedNames.of(options.askers());
         SourceNames sources = SourceNames.of(compiler, options.sources());
         Notes notes = new Notes();
         StubProcessor processor = new StubProcessor(options, libraries, sources, asked, notes);
@@ -71,7 +72,7 @@ public final class Stubs {
             throw new InputFault("the Java compiler does not read the libraries: " + said);
         }
         String written = folder.write(files);
-        if (options.services()) {
+        if (services != null) {
             services.write();
             out.print(services.configuration());
         }
