@@ -3,10 +3,10 @@
 
     bench/stubs.py [--program PATH] [JAR..]
 
-PATH is the program that bench/measured.py builds without proofs where it is left out. The command of kits/java writes the
-stubs of the JARs, of what they name, and of the JDK's module java.base. The program has all of them in one table, and
-looks up the type of each field and the supertypes of each type. javac has the class files of the same types. Both say
-what they find in the same words, without what encloses a member type.
+PATH is the program that bench/measured.py builds without proofs where it is left out. The command of kits/java writes
+the stubs of the JARs, of what they name, and of the JDK's module java.base. The program has all of them in one table,
+and looks up the type of each field and the supertypes of each type. javac has the class files of the same types. Both
+say what they find in the same words, without what encloses a member type.
 
 The differences are printed, and then how many fields and types there were. The status is 1 where something is different.
 """
@@ -25,7 +25,8 @@ KIT = os.path.join(jdk.HERE, "..", "kits", "java")
 
 def listed(folder, stubs):
     """A file with the paths of the types' files, and one with the names of the types."""
-    paths = [os.path.join(path, name) for path, _, some in os.walk(stubs) for name in some if name != "package-info.java"]
+    paths = [os.path.join(path, name) for path, _, some in os.walk(stubs) for name in some
+             if name != "package-info.java"]
     types = [os.path.relpath(path, stubs)[:-len(".java")].replace(os.sep, ".") for path in paths]
     return jdk.write_list(folder, "files", sorted(paths)), jdk.write_list(folder, "types", sorted(types))
 

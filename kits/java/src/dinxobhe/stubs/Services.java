@@ -174,14 +174,12 @@ final class Services {
         return texts.stream().map(Services::quoted).collect(Collectors.joining(", ", "[", "]"));
     }
 
+    /** A text in JSON of ASCII. */
     private static String quoted(String text) {
         StringBuilder quoted = new StringBuilder("\"");
         for (char c : text.toCharArray()) {
-            if (c == '"' || c == '\\') {
-                quoted.append('\\').append(c);
-            } else {
-                quoted.append(c < ' ' ? String.format("\\u%04x", (int) c) : String.valueOf(c));
-            }
+            boolean isPlain = c >= ' ' && c <= '~' && c != '"' && c != '\\';
+            quoted.append(isPlain ? String.valueOf(c) : String.format("\\u%04x", (int) c));
         }
         return quoted.append('"').toString();
     }

@@ -5,6 +5,7 @@ import static java.nio.charset.StandardCharsets.UTF_8;
 import java.io.IOException;
 import java.io.PrintStream;
 import java.io.StringWriter;
+import java.io.UncheckedIOException;
 import java.util.List;
 import java.util.Locale;
 import java.util.Map;
@@ -43,8 +44,8 @@ public final class Stubs {
         } catch (InputFault e) {
             err.println("stubs: " + e.getMessage());
             return FAULT;
-        } catch (IOException e) {
-            err.println("stubs: " + e);
+        } catch (IOException | UncheckedIOException e) {
+            err.println("stubs: " + e.getMessage() + " (" + e.getClass().getSimpleName() + ")");
             return FAULT;
         }
     }
