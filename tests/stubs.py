@@ -19,7 +19,7 @@ import sys
 import tempfile
 import zipfile
 
-from host import DONE_STATUS, HERE, SERVICES, KINDS, Cases, Failure, expect, frames, say
+from host import DONE_STATUS, HERE, KINDS, SERVICES, Cases, Failure, NotRun, expect, frames, say
 
 KIT = os.path.join(HERE, "..", "kits", "java")
 JAR = os.path.join(KIT, "out", "dinxobhe.jar")
@@ -44,14 +44,14 @@ def output_of(command, folder):
     return run.stdout
 
 
-def library(project, sources, name="library.jar", resources=()):
+def library(project, sources, name="library.jar", resources=(), release="11"):
     """A jar of compiled sources, by their paths, and of other files. Gives its path."""
     with tempfile.TemporaryDirectory(dir=project.folder) as folder:
         for path, content in sources.items():
             put(folder, path, content)
         os.mkdir(os.path.join(folder, "classes"))
         fast = [f"-J{word}" for word in FAST]
-        output_of(["javac", *fast, "-encoding", "UTF-8", "--release", "11", "-d", "classes", *sources], folder)
+        output_of(["javac", *fast, "-encoding", "UTF-8", "--release", release, "-d", "classes", *sources], folder)
         for path, content in dict(resources).items():
             put(os.path.join(folder, "classes"), path, content)
         jar = project.path(name)
@@ -679,6 +679,52 @@ public class Scala$ {
 
 
 # ---- the JDK
+
+
+@case
+def records_and_sealed_types(project):
+    version = output_of(["javac", "-version"], project.folder).split()[1]
+    if int(version.split(".")[0]) < 17:
+        raise NotRun(f"javac {version} has none")
+    jar = library(project, {
+        "lib/Point.java": """package lib;
+
+public record Point<T>(int x, @Deprecated T[] rest) implements Shape {
+    public static final int SIZE = 2;
+    public int twice() { return 2 * x; }
+}
+""",
+        "lib/Shape.java": """package lib;
+
+public sealed interface Shape permits Point, Shape.Other {
+    non-sealed abstract class Other implements Shape {}
+}
+"""}, release="17")
+    files, run = written(project, jar)
+    expect("the sealed type", files["lib/Shape.java"], """package lib;
+
+public interface Shape {
+  abstract class Other implements lib.Shape {
+    public Other() {}
+  }
+}
+""")
+    point = files["lib/Point.java"].splitlines()
+    expect("the head of the record", point[2], "public final class Point<T> extends java.lang.Record implements lib.Shape {")
+    expect("the members of the record", sorted(point[3:-1]), [
+        "  @java.lang.Deprecated public T[] rest();",
+        "  public Point(int x, @java.lang.Deprecated T[] rest) {}",
+        "  public final boolean equals(java.lang.Object arg0);",
+        "  public final int hashCode();",
+        "  public final java.lang.String toString();",
+        "  public int twice();",
+        "  public int x();",
+        "  public static final int SIZE = 2;",
+    ])
+    expect("the messages", run.stderr.splitlines()[:2], [
+        "stubs: note: records, written as classes (1): lib.Point",
+        "stubs: note: sealed types, written as if they were not sealed (1): lib.Shape"])
+    is_read(project)
 
 
 @case
