@@ -444,10 +444,10 @@ def what_sources_name_and_what_that_names(project):
 
 @case
 def what_sources_name_of_the_jdk(project):
-    project.write("src/p/D.java", b"package p; interface D extends java.util.function.Supplier<String> {}")
+    project.write("src/p/D.java", b"package p; interface D extends java.util.function.Supplier<ClassValue<?>> {}")
     files, _ = written(project, "--jdk", "--for", "src", "--also", "java.util.Map.Entry", "--release", "11")
-    for name in ["java/util/function/Supplier", "java/util/Map", "java/lang/Object", "java/lang/annotation/Inherited"]:
-        expect(f"whether {name} is there", name + ".java" in files, True)
+    for name in ["util.function.Supplier", "lang.ClassValue", "util.Map", "lang.Object", "lang.annotation.Inherited"]:
+        expect(f"whether java.{name} is there", f"java/{name.replace('.', '/')}.java" in files, True)
     expect("whether it is more than what is named", "java/util/Scanner.java" in files, False)
     expect("a method of release 11", "  public boolean isBlank();\n" in files["java/lang/String.java"], True)
     expect("a method of release 12", " transform(" in files["java/lang/String.java"], False)
