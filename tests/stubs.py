@@ -561,6 +561,12 @@ def faulty_libraries(project):
     faulty(later, "later.jar")
     project.write("using/Using.java", b"class Using { a.A a; }")
     faulty(later, "later.jar", "--for", "using")
+    reaching = library(project, {"a/A.java": "package a; public class A { public b.B b; }",
+                                 "b/B.java": "package b; public class B {}"})
+    with zipfile.ZipFile(reaching) as old, zipfile.ZipFile(project.path("reaching.jar"), "w") as new:
+        new.writestr("a/A.class", old.read("a/A.class"))
+        new.writestr("b/B.class", b"none")
+    faulty("reaching.jar: the class b.B cannot be read: it is no class file", "reaching.jar", "--for", "using")
     jar_of("short.jar", "a/A.class", whole[:-20])
     faulty("short.jar: the class a.A cannot be read: it is damaged, or of another name", "short.jar")
     jar_of("other.jar", "b/A.class", whole)
@@ -650,15 +656,16 @@ def names_that_are_no_java_names(project):
     jar = library(project, {
         "a/A.java": """package a;
 
-public class A { public int good, oddNameA; public void class_() {} public void as(B_C b) {} }
+public class A { public int good, oddNameA, whilE; public void class_() {} public void as(B_C b) {} }
 """,
         "a/B_C.java": "package a; public class B_C {}",
         "a/D.java": "package a; public class D extends B_C {}",
         "w_x/E.java": "package w_x; public class E {}",
-        "a/Scala$.java": "package a; public class Scala$ { public static class In {} }",
+        "a/Scala$.java": "package a; public class Scala$ { public int zXXX; public static class In {} }",
     })
     # As Kotlin, Scala and tools that shorten names have them.
-    jar = renamed(project, jar, {"oddNameA": "odd name", "class_": "class-", "B_C": "B-C", "w_x": "w-x"})
+    jar = renamed(project, jar, {"oddNameA": "odd name", "whilE": "while", "class_": "class-", "zXXX": "z\u20ac", "B_C": "B-C",
+                                  "w_x": "w-x"})
     files, run = written(project, jar)
     expect("the files", files, {
         "a/A.java": "package a;\n\npublic class A {\n  public int good;\n  public A() {}\n}\n",
@@ -672,9 +679,9 @@ public class Scala$ {
 }
 """,
     })
-    left_out = "a.A.as(a.B-C), a.A.class-(), a.A.odd name, a.B-C, a.D, .."
+    left_out = "a.A.as(a.B-C), a.A.class-(), a.A.odd name, a.A.while, a.B-C, .."
     expect("the first message", run.stderr.splitlines()[0],
-           "stubs: note: left out, since they have or use names that are no Java names (6): " + left_out)
+           "stubs: note: left out, since they have or use names that are no Java names (8): " + left_out)
     is_read(project)
 
 
