@@ -11,6 +11,7 @@ failed case.
 What is expected is written by hand, or comes from the JDK: SameDeclarations.java compares the stubs of java.base with
 its class files, as javax.lang.model has both. No expected text was made by the command itself.
 """
+import concurrent.futures
 import json
 import os
 import shutil
@@ -105,13 +106,16 @@ def is_read(project):
     expect("the status", run.status, DONE_STATUS)
 
 
-def refused(project, status, message, *words):
-    """The command writes nothing but this message, and a line on how it is used where the words are wrong."""
-    run = stubs(project, "stubs", *words)
-    expect("the status", run.returncode, status)
-    expect("the message", run.stderr.splitlines()[0], f"stubs: {message}")
-    expect("the number of lines", len(run.stderr.splitlines()), 2 if status == WRONG_WORDS else 1)
-    expect("the output", run.stdout, "")
+def refused(project, status, *rows):
+    """Of each row the words behind the first are refused. The command writes nothing but the message that is the first
+    word, and a line on how it is used where the words are wrong. All rows run at once."""
+    with concurrent.futures.ThreadPoolExecutor(os.cpu_count()) as pool:
+        runs = list(pool.map(lambda row: stubs(project, "stubs", *row[1:]), rows))
+    for (message, *words), run in zip(rows, runs):
+        expect(f"the status of {words}", run.returncode, status)
+        expect(f"the message for {words}", run.stderr.splitlines()[0], f"stubs: {message}")
+        expect("the number of lines", len(run.stderr.splitlines()), 2 if status == WRONG_WORDS else 1)
+        expect("the output", run.stdout, "")
     expect("whether there are stubs", os.path.exists(project.path("stubs")), False)
 
 
@@ -512,8 +516,8 @@ def the_processors_of_a_jar(project):
     expect("whether another jar has another version", other != version, True)
     shutil.rmtree(project.path("stubs"))
     project.write(SERVICES, b"mine\n")
-    refused(project, FAULT, f"{SERVICES}: is there already, with other lines: remove it first",
-            jar, "--asked-by", "processors.jar", "--services")
+    there = f"{SERVICES}: is there already, with other lines: remove it first"
+    refused(project, FAULT, [there, jar, "--asked-by", "processors.jar", "--services"])
     # The host looks for a row for each of the names.
     project.write("apt.json", run.stdout.replace("proc.Other", "proc.Another").encode())
     project.write(SERVICES, b"proc.Asking\nproc.Other\n")
@@ -525,15 +529,15 @@ def the_processors_of_a_jar(project):
 
 @case
 def wrong_words(project):
-    def wrong(message, *words):
-        refused(project, WRONG_WORDS, message, *words)
-
-    wrong("there is no library: give a JAR, --jdk or --module")
-    wrong("nothing names a type: give a JAR, --module, --for, --asked-by or --also", "--jdk")
-    wrong("there is no option --fast", "x.jar", "--fast")
-    wrong("--for needs a word after it", "x.jar", "--for")
-    wrong("--release 8: not a number from 9", "x.jar", "--release", "8")
-    wrong("--services needs a JAR or --asked-by", "--module", "java.base", "--services")
+    refused(
+        project, WRONG_WORDS,
+        ["there is no library: give a JAR, --jdk or --module"],
+        ["nothing names a type: give a JAR, --module, --for, --asked-by or --also", "--jdk"],
+        ["there is no option --fast", "x.jar", "--fast"],
+        ["--for needs a word after it", "x.jar", "--for"],
+        ["--release 8: not a number from 9", "x.jar", "--release", "8"],
+        ["--services needs a JAR or --asked-by", "--module", "java.base", "--services"],
+    )
     run = subprocess.run(["java", "-jar", JAR], stderr=subprocess.PIPE, check=False)
     expect("the status without words", run.returncode, WRONG_WORDS)
     run = stubs(project, "--help")
@@ -541,55 +545,57 @@ def wrong_words(project):
     expect("the first line of --help", run.stdout.splitlines()[0], "usage: stubs OUT [JAR].. [OPTION]..")
 
 
-@case
-def faulty_libraries(project):
-    def faulty(message, *words):
-        refused(project, FAULT, message, *words)
-
-    def jar_of(name, path, content):
-        with zipfile.ZipFile(project.path(name), "w") as archive:
+def jar_of(project, name, files):
+    with zipfile.ZipFile(project.path(name), "w") as archive:
+        for path, content in files.items():
             archive.writestr(path, content)
 
-    jar = library(project, {"a/A.java": "package a; public class A {}"})
+
+@case
+def faulty_libraries(project):
+    jar = library(project, {"a/A.java": "package a; public class A { public b.B b; }",
+                            "b/B.java": "package b; public class B {}"})
     with zipfile.ZipFile(jar) as archive:
         whole = archive.read("a/A.class")
-    faulty("none.jar: there is no such jar or folder", "none.jar")
     project.write("text.jar", b"a text")
-    faulty("text.jar: not a jar: zip END header not found", "text.jar")
-    jar_of("later.jar", "a/A.class", whole[:6] + (999).to_bytes(2, "big") + whole[8:])
-    later = "later.jar: the class a.A cannot be read: it has version 999, which is that of a later Java"
-    faulty(later, "later.jar")
+    jar_of(project, "later.jar", {"a/A.class": whole[:6] + (999).to_bytes(2, "big") + whole[8:]})
+    jar_of(project, "short.jar", {"a/A.class": whole[:-20]})
+    jar_of(project, "other.jar", {"c/A.class": whole})
+    jar_of(project, "none.jar", {"a/A.class": b"none"})
+    jar_of(project, "reaching.jar", {"a/A.class": whole, "b/B.class": b"none"})
     project.write("using/Using.java", b"class Using { a.A a; }")
-    faulty(later, "later.jar", "--for", "using")
-    reaching = library(project, {"a/A.java": "package a; public class A { public b.B b; }",
-                                 "b/B.java": "package b; public class B {}"})
-    with zipfile.ZipFile(reaching) as old, zipfile.ZipFile(project.path("reaching.jar"), "w") as new:
-        new.writestr("a/A.class", old.read("a/A.class"))
-        new.writestr("b/B.class", b"none")
-    faulty("reaching.jar: the class b.B cannot be read: it is no class file", "reaching.jar", "--for", "using")
-    jar_of("short.jar", "a/A.class", whole[:-20])
-    faulty("short.jar: the class a.A cannot be read: it is damaged, or of another name", "short.jar")
-    jar_of("other.jar", "b/A.class", whole)
-    faulty("other.jar: the class b.A cannot be read: it is damaged, or of another name", "other.jar")
-    jar_of("none.jar", "a/A.class", b"none")
-    faulty("none.jar: the class a.A cannot be read: it is no class file", "none.jar")
-    faulty("--also a.B: no library has this type", jar, "--also", "a.B")
-    faulty("the Java compiler does not read the libraries: module not found: no.such", "--module", "no.such")
-    faulty("error: release version 999 not supported", jar, "--release", "999")
+    later = "later.jar: the class a.A cannot be read: it has version 999, which is that of a later Java"
+    refused(
+        project, FAULT,
+        ["absent.jar: there is no such jar or folder", "absent.jar"],
+        ["text.jar: not a jar: zip END header not found", "text.jar"],
+        [later, "later.jar"],
+        [later, "later.jar", "--for", "using"],
+        ["short.jar: the class a.A cannot be read: it is damaged, or of another name", "short.jar"],
+        ["other.jar: the class c.A cannot be read: it is damaged, or of another name", "other.jar"],
+        ["none.jar: the class a.A cannot be read: it is no class file", "none.jar"],
+        ["reaching.jar: the class b.B cannot be read: it is no class file", "reaching.jar", "--for", "using"],
+        ["--also a.C: no library has this type", jar, "--also", "a.C"],
+        ["the Java compiler does not read the libraries: module not found: no.such", "--module", "no.such"],
+        ["error: release version 999 not supported", jar, "--release", "999"],
+    )
 
 
 @case
 def faulty_files(project):
     jar = library(project, {"a/A.java": "package a; public class A {}"})
-    refused(project, FAULT, "none: there is no such folder", jar, "--for", "none")
     project.write("src/p/Bad.java", b"package p;\nclass Bad {\n  int x = ;\n}\n")
-    refused(project, FAULT, "src/p/Bad.java:3: illegal start of expression", jar, "--for", "src")
     services, kinds = SERVICES[len("res/"):], KINDS[len("res/"):]
-    refused(project, FAULT, "--services: none of the jars names a processor", jar, "--services")
-    asked = ["--services", "--asked-by", asking(project, **{services: "a.B\na b\n"})]
-    refused(project, FAULT, f"processors.jar: {services}:2: not the name of a processor", jar, *asked)
-    asking(project, **{kinds: "a.B,fast\n"})
-    refused(project, FAULT, f"processors.jar: {kinds}:1: not a processor and its kind", jar, *asked)
+    jar_of(project, "names.jar", {services: "a.B\na b\n"})
+    jar_of(project, "kinds.jar", {services: "a.B\n", kinds: "a.B,fast\n"})
+    refused(
+        project, FAULT,
+        ["none: there is no such folder", jar, "--for", "none"],
+        ["src/p/Bad.java:3: illegal start of expression", jar, "--for", "src"],
+        ["--services: none of the jars names a processor", jar, "--services"],
+        [f"names.jar: {services}:2: not the name of a processor", jar, "--asked-by", "names.jar", "--services"],
+        [f"kinds.jar: {kinds}:1: not a processor and its kind", jar, "--asked-by", "kinds.jar", "--services"],
+    )
     project.write("stubs/X.java", b"class X {}")
     run = stubs(project, "stubs", jar)
     expect("the end", (run.returncode, run.stderr),
