@@ -195,6 +195,25 @@ public abstract class Box<T extends java.lang.Comparable<? super T>, N extends j
   protected lib.Box.Beside.Within within();
 }
 """),
+    "lib/Outer.java": ("""package lib;
+
+public class Outer<T> {
+    public class Middle { public class Inner {} }
+    public Outer<String>.Middle.Inner inner;
+}
+""", """package lib;
+
+public class Outer<T> {
+  public class Middle {
+    public class Inner {
+      public Inner() {}
+    }
+    public Middle() {}
+  }
+  public lib.Outer<java.lang.String>.Middle.Inner inner;
+  public Outer() {}
+}
+"""),
     "lib/Holder.java": ("""package lib;
 
 public interface Holder<T> extends Comparable<Holder<?>>, Runnable {
