@@ -6,7 +6,7 @@ use Rattle.decl_elements.specs.Nodes.{Node}
 use Rattle.element_table.specs.TypeTable.{TypeTable, Units, table_of}
 use Rattle.element_table.specs.TableElements.{node_at}
 use Rattle.reach_map.specs.ClosedCuts.{NameSet, cut}
-use Rattle.reach_map.proofs.Everywhere.{each_both}
+use Rattle.decl_elements.proofs.Everywhere.{each_both}
 use Rattle.closed_cuts.specs.Kept.{IfAny}
 use Rattle.closed_cuts.specs.CutElements.{HasUnit, HaveOneCut}
 use Rattle.closed_cuts.specs.NodeTexts.{node_texts}

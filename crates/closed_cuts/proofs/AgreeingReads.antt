@@ -8,6 +8,7 @@ use Rattle.apt_base.specs.declared.element.ElementRef.{ElementRef}
 use Rattle.decl_tree.specs.declared.type_text.TypeText.{TypeText}
 use Rattle.decl_tree.specs.declared.compilation.UnitText.{UnitText}
 use Rattle.decl_elements.specs.Nodes.{Node}
+use Rattle.decl_elements.specs.Written.{types}
 use Rattle.element_table.specs.TypeTable.{TypeTable, unit_of}
 use Rattle.element_table.specs.TableElements.{node_from, node_at, canonical_from, canonical_at, enclosing_at}
 use Rattle.type_mirror.specs.declared.mirror.PrimitiveKind.{PrimitiveKind}
@@ -110,6 +111,7 @@ module _ (one other : TypeTable) (Has : List ℕ → Type 0) where
     texts-kept at texts all = map-facts Good (meaning_in one at) (meaning_in other at) texts all
 
     bounds_of : (at : ElementRef) → Lies at → (node : Option Node) → IfAny (λ node. AllByRecursion (SameText at) (node_texts node)) node → AllByRecursion (SameText at) (written_bounds node)
+    unfolding types
     bounds_of at l None all = tt
     bounds_of at l (Some (Node.OfTypeParam parameter)) all = all
     bounds_of at l (Some (Node.OfPackage info)) all = tt

@@ -19,7 +19,7 @@ use Rattle.reach_map.specs.Candidates.{prefix_names, chain_candidates, implied_n
 use Rattle.reach_map.specs.ClosedCuts.{cut, IsClosedSet}
 use Rattle.reach_map.proofs.Asked.{of_implied}
 use Rattle.reach_map.proofs.Cuts.{Lies, GoodFinds, SameFinds, SameTop, candidates_same, get_cut, unit_of-cut}
-use Rattle.reach_map.proofs.Everywhere.{each_left, each_right, each_of_map, each_of_flat_map, each_to}
+use Rattle.decl_elements.proofs.Everywhere.{each_left, each_right, each_of_map, each_of_flat_map, each_to}
 use Rattle.closed_cuts.specs.CutElements.{HasUnit, LiesIn}
 use Rattle.closed_cuts.proofs.GoodMeanings.{FindsHave}
 

@@ -27,20 +27,20 @@ use Rattle.name_resolve.specs.Mirrors.{Meant, look_at, ref_of, found_mirror, typ
 use Rattle.type_resolve.specs.Scopes.{find_from, find_in, or_stub}
 use Rattle.type_relations.specs.Boxed.{box_of}
 use Rattle.type_relations.specs.Named.{named_in, object_at}
-use Rattle.reach_map.specs.Chains.{of_option, type_chains, declaration_chains, unit_chains}
+use Rattle.reach_map.specs.Chains.{of_option, type_chains, unit_chains}
 use Rattle.reach_map.specs.Candidates.{implied_names}
-use Rattle.reach_map.specs.ClosedCuts.{NameSet, cut}
+use Rattle.reach_map.specs.ClosedCuts.{NameSet, cut, IsWritten}
 use Rattle.reach_map.proofs.Cuts.{Lies, SameTop, SameName, stub_same, names_same}
-use Rattle.reach_map.proofs.Everywhere.{each_to, each_map}
+use Rattle.decl_elements.proofs.Everywhere.{each_to, each_map, each_contained}
 use Rattle.reach_map.proofs.SameMirrors.{SameAt, same_mirror}
-use Rattle.reach_map.proofs.WrittenChains.{of_superclass, of_interface_chains, in_type_at}
+use Rattle.reach_map.proofs.WrittenChains.{OfHeader, of_superclass, of_interface_chains, in_type_at}
 use Rattle.closed_cuts.specs.Kept.{IfAny}
 use Rattle.closed_cuts.specs.CutElements.{HasUnit, LiesIn, IsRooted}
-use Rattle.closed_cuts.specs.NodeTexts.{node_texts}
+use Rattle.closed_cuts.specs.NodeTexts.{node_texts, IsWrittenIn}
 use Rattle.closed_cuts.proofs.Keeping.{if_any, kept, moved, map-facts}
 use Rattle.closed_cuts.proofs.PartsWithin.{closed_up}
 use Rattle.closed_cuts.proofs.GoodMeanings.{FindsHave, HaveAt, found-good, mirror-good}
-use Rattle.closed_cuts.proofs.NodeChains.{texts-at}
+use Rattle.closed_cuts.proofs.WrittenTexts.{all-written}
 use Rattle.closed_cuts.proofs.AgreeingReads.{Good, AllGood, SameMirror, SameMirrors, SameText, SameUnit, SameReads}
 use Rattle.closed_cuts.proofs.CutNames.{implied_same, lies-has, finds-have, Stands, stands}
 
@@ -144,17 +144,17 @@ module _ (table : TypeTable) (names : NameSet) (rooted : IsRooted table names) w
     of_written None a = (implied_kept (codes "java.lang.Object") implied.0, tt)
     of_written (Some text) a = (written_kept text a, tt)
 
-    of_class : (of_object : Bool) (k : TypeKind) (d : TypeDecl) → AllByRecursion C (declaration_chains d) → AllByRecursion SupertypeKept (superclass_in of_object k d)
+    of_class : (of_object : Bool) (k : TypeKind) (d : TypeDecl) → OfHeader C d → AllByRecursion SupertypeKept (superclass_in of_object k d)
     of_class true kind.Class d a = tt
     of_class false kind.Class d a = of_written d.superclass (of_superclass C (no_chain (Header f) l) d a)
     of_class b kind.Enum d a = (implied_kept (codes "java.lang.Enum") implied.1.0, tt)
     of_class b kind.AnnotationType d a = tt
     of_class b kind.Interface d a = tt
 
-    of_texts : (d : TypeDecl) → AllByRecursion C (declaration_chains d) → AllByRecursion SupertypeKept (map Written d.interfaces)
+    of_texts : (d : TypeDecl) → OfHeader C d → AllByRecursion SupertypeKept (map Written d.interfaces)
     of_texts d a = each_map SupertypeKept Written d.interfaces (each_to _ _ written_kept d.interfaces (of_interface_chains C (no_chain (Header f) l) d a))
 
-    of_interfaces : (k : TypeKind) (d : TypeDecl) → AllByRecursion C (declaration_chains d) → AllByRecursion SupertypeKept (interfaces_in k d)
+    of_interfaces : (k : TypeKind) (d : TypeDecl) → OfHeader C d → AllByRecursion SupertypeKept (interfaces_in k d)
     of_interfaces kind.Class d a = of_texts d a
     of_interfaces kind.Enum d a = of_texts d a
     of_interfaces kind.AnnotationType d a = (implied_kept (codes "java.lang.annotation.Annotation") implied.1.1.0, tt)
@@ -175,7 +175,7 @@ module _ (table : TypeTable) (names : NameSet) (rooted : IsRooted table names) w
         record { equal = ap first_or_nothing k.equal; good = first_good (map (supertype_mirror table f) list) k.good }
 
     abbrev InHeader : Option TypeDecl → Type 0
-    InHeader d = IfAny (λ d. AllByRecursion C (declaration_chains d)) d
+    InHeader d = IfAny (OfHeader C) d
 
     superclass_by : (d : Option TypeDecl) → InHeader d → SameOne (superclass_of table f d) (superclass_of other f d)
     superclass_by None a = nothing_kept
@@ -228,17 +228,16 @@ module _ (table : TypeTable) (names : NameSet) (rooted : IsRooted table names) w
   interfaces_read at p =
       moved Gs _ _ _ _ (interfaces_kept (find_at at p) (stands_at at p).lies) (ap (interfaces table) (finds_table at p)) (ap (interfaces other) (finds_cut at p))
 
-  text_read : (at : ElementRef) (p : P at) (text : TypeText) → AllByRecursion (ChainKept (Within (find_at at p)) (stands_at at p).lies) (type_chains text)
-      → SameText table other Has at text
-  text_read at p text a =
-      moved G _ _ _ _ (text_kept (Within (find_at at p)) (stands_at at p).lies text a)
+  text_read : (at : ElementRef) (p : P at) (text : TypeText) → IsWritten (stands_at at p).unit text → SameText table other Has at text
+  text_read at p text w =
+      let s = stands_at at p in
+      let scope : Scope = Within (find_at at p) in
+      moved G _ _ _ _ (text_kept scope s.lies text (each_contained (ChainKept scope s.lies) (unit_chains s.unit) (type_chains text) (chains_kept scope s.lies) w))
       (ap (λ (f : Find). type_meaning table (Within f) text) (finds_table at p)) (ap (λ (f : Find). type_meaning other (Within f) text) (finds_cut at p))
 
-  texts_of_some : (at : ElementRef) (p : P at) (o : Option Node)
-      → IfAny (λ node. AllByRecursion (λ text. AllByRecursion (ChainKept (Within (find_at at p)) (stands_at at p).lies) (type_chains text)) (node_texts node)) o
-      → IfAny (λ node. AllByRecursion (SameText table other Has at) (node_texts node)) o
-  texts_of_some at p None a = tt
-  texts_of_some at p (Some node) a = each_to _ (SameText table other Has at) (text_read at p) (node_texts node) a
+  texts_of_some : (at : ElementRef) (p : P at) (o : Option Node) → IfAny (IsWrittenIn (stands_at at p).unit) o → IfAny (λ node. AllByRecursion (SameText table other Has at) (node_texts node)) o
+  texts_of_some at p None w = tt
+  texts_of_some at p (Some node) w = each_to (IsWritten (stands_at at p).unit) (SameText table other Has at) (text_read at p) (node_texts node) w.texts
 
   node_is : (at : ElementRef) (p : P at) → node_at (stands_at at p).unit at.path ≡ elements.node_at table at
   unfolding elements.node_at node_at
@@ -247,8 +246,7 @@ module _ (table : TypeTable) (names : NameSet) (rooted : IsRooted table names) w
   texts_read : (at : ElementRef) → P at → IfAny (λ node. AllByRecursion (SameText table other Has at) (node_texts node)) (elements.node_at table at)
   texts_read at p =
       subst (IfAny (λ node. AllByRecursion (SameText table other Has at) (node_texts node))) (node_is at p)
-      (texts_of_some at p (node_at (stands_at at p).unit at.path)
-      (texts-at (ChainKept (Within (find_at at p)) (stands_at at p).lies) (stands_at at p).unit (chains_kept (Within (find_at at p)) (stands_at at p).lies) at.path))
+      (texts_of_some at p (node_at (stands_at at p).unit at.path) (all-written (stands_at at p).unit at.path))
 
   object_read : (at : ElementRef) → P at → SameOne (object_at table at) (object_at other at)
   object_read at p =

@@ -24,7 +24,7 @@ use Rattle.name_resolve.specs.Finds.{Finds, Nothing, One, Several}
 use Rattle.name_resolve.specs.Mirrors.{Meant, MeantPart, Look, or_none, ref_of, element_mirror, found_mirror, named_mirror, parts_mirror, primitive_base, meant, base_meant, part_meant}
 use Rattle.name_resolve.proofs.MirrorsLemmas.{base-rolls, part-rolls, text-rolls}
 use Rattle.reach_map.specs.Chains.{Chains, gathered, type_chains}
-use Rattle.reach_map.proofs.Everywhere.{each_of_map, each_of_flat_map}
+use Rattle.decl_elements.proofs.Everywhere.{each_of_map, each_of_flat_map}
 use Rattle.reach_map.proofs.ChainsLemmas.{base_chains, part_chains, part_name-is, base_chains-roll, part_chains-roll, type_chains-roll}
 use Rattle.closed_cuts.specs.Kept.{IfAny}
 use Rattle.closed_cuts.proofs.PartsWithin.{Within, AllWithin, closed_up}

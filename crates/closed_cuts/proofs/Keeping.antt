@@ -3,7 +3,7 @@ use Rattle.std.proofs.Common.{◌≡◌, Bool, true, false, cond, ◌||◌, List
 use Rattle.std.specs.List.{AllByRecursion, find, flat_map, list_any}
 use Rattle.std.specs.Option.{option_map, option_and_then, option_to_list}
 use Rattle.type_relations.specs.Closed.{closed}
-use Rattle.reach_map.proofs.Everywhere.{OfSome, each_append}
+use Rattle.decl_elements.proofs.Everywhere.{OfSome, each_append}
 use Rattle.closed_cuts.specs.Kept.{IfAny}
 pub use Rattle.closed_cuts.specs.Kept.{Kept}
 

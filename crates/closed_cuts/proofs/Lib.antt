@@ -6,7 +6,7 @@ pub mod SameErasures
 pub mod SameDirects
 pub mod SameSteps
 pub mod SameSubtypes
-pub mod NodeChains
+pub mod WrittenTexts
 pub mod GoodMeanings
 pub mod CutNames
 pub mod CutReads

@@ -18,7 +18,7 @@ use Rattle.reach_map.specs.Chains.{type_chains, unit_chains}
 use Rattle.reach_map.specs.Candidates.{implied_names}
 use Rattle.reach_map.specs.ClosedCuts.{NameSet, cut, IsWritten}
 use Rattle.reach_map.proofs.Cuts.{Lies, SameFinds, SameName, SameTop, names_same, members_same}
-use Rattle.reach_map.proofs.Everywhere.{each_to, each_both, each_contained}
+use Rattle.decl_elements.proofs.Everywhere.{each_to, each_both, each_contained}
 use Rattle.closed_cuts.specs.CutElements.{HasUnit, LiesIn, IsRooted}
 use Rattle.closed_cuts.specs.Kept.{Kept, IfAny}
 use Rattle.closed_cuts.specs.TypeLaws.{Within}

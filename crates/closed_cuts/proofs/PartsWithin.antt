@@ -6,7 +6,7 @@ use Rattle.apt_base.specs.declared.element.ElementRef.{ElementRef}
 use Rattle.type_mirror.specs.declared.mirror.Mirror.{Mirror}
 use Rattle.type_layers.specs.Layers.{Layer, Primitive, Declared, Error, Variable, Array, Unbounded, Extends, Super, Executable, Nothing, Void, Null, Package, layer, mirror_of, map_layer, by_layers}
 use Rattle.type_layers.proofs.LayerLaws.{by_layers-layer, layer-mirror_of, mirror_of-layer}
-use Rattle.reach_map.proofs.Everywhere.{each_left, each_right, each_append}
+use Rattle.decl_elements.proofs.Everywhere.{each_left, each_right, each_append}
 use Rattle.type_queries.specs.Verdicts.{parts_elements, layer_elements, elements_of}
 
 -- what a step gives of a mirror that is put together

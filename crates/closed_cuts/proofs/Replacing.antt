@@ -11,7 +11,7 @@ use Rattle.type_layers.proofs.LayerLaws.{AllParts, ind-layers}
 use Rattle.type_numbers.specs.Replaced.{replaced_layer}
 use Rattle.type_numbers.proofs.ReplacedLayers.{substituted-mirror_of}
 use Rattle.type_relations.specs.RawTypes.{has_entry, added, once_behind}
-use Rattle.reach_map.proofs.Everywhere.{each_append}
+use Rattle.decl_elements.proofs.Everywhere.{each_append}
 use Rattle.closed_cuts.proofs.PartsWithin.{Within, AllWithin, LayerWithin, closed_up, opened-mirror_of}
 
 module _ (P : ElementRef → Type 0) where

@@ -13,7 +13,7 @@ use Rattle.type_relations.specs.Elements.{type_parameters}
 use Rattle.type_relations.specs.Erasure.{executable_of, erased_layer, variable_erasure, erasure, erasures}
 use Rattle.type_relations.specs.RawTypes.{of_enclosing, entries_in, entries, once_behind, replacements}
 use Rattle.type_relations.proofs.PartsByLayers.{held, held-mirrors, by_parts-layer}
-use Rattle.reach_map.proofs.Everywhere.{each_both}
+use Rattle.decl_elements.proofs.Everywhere.{each_both}
 use Rattle.closed_cuts.specs.Kept.{IfAny}
 use Rattle.closed_cuts.proofs.Keeping.{Kept, kept, moved, through, map-facts, append-kept, option_map-kept, closed-kept}
 use Rattle.closed_cuts.proofs.PartsWithin.{Within, LayerWithin, by_layers-mirror_of, closed_up, opened-mirror_of}

@@ -16,7 +16,7 @@ use Rattle.type_relations.specs.Elements.{parameters_of}
 use Rattle.type_relations.specs.Named.{header_types}
 use Rattle.type_elements.specs.MemberElements.{MemberName, is_constructor_name, is_constructor, children_from, enclosed, element_in, class_element, class_elements}
 use Rattle.type_listing.specs.Members.{is_inherited, hides_by_name, hides_method, displaces, is_among, is_displaced, unless_displaced, with_member, with_members, with_supertype, super_elements, members_over, members}
-use Rattle.reach_map.proofs.Everywhere.{each_append}
+use Rattle.decl_elements.proofs.Everywhere.{each_append}
 use Rattle.closed_cuts.specs.Kept.{IfAny}
 use Rattle.closed_cuts.proofs.Keeping.{Kept, kept, by_equal, chosen, through, map-kept, and_then-kept}
 use Rattle.closed_cuts.proofs.PartsWithin.{LayerWithin, opened}

@@ -12,6 +12,7 @@ use Rattle.decl_tree.specs.declared.declaration.Member.TheOpen.{Member-F}
 use Rattle.decl_tree.specs.declared.declaration.TypeDecl.{TypeDecl}
 use Rattle.decl_tree.specs.declared.member.Param.{Param}
 use Rattle.decl_elements.specs.Nodes.{Node, OfPackage, Top, Inside, OfTypeParam, OfParam, DefaultConstructor, Values, ValueOf, ValueOfName, down, body_root, root}
+use Rattle.decl_elements.specs.Written.{types}
 use Rattle.element_table.specs.TypeTable.{TypeTable, unit_of}
 use Rattle.element_table.specs.TableElements.{node_from, node_at, above, package_of, enclosing_at}
 use Rattle.type_mirror.specs.declared.mirror.Mirror.{Mirror}
@@ -21,8 +22,8 @@ use Rattle.type_layers.proofs.LayerLaws.{AllParts, ind-layers}
 use Rattle.type_relations.specs.Elements.{type_parameters, around_of, canonical_name, type_name, parameter_name, name_by}
 use Rattle.type_relations.specs.Named.{meaning_in}
 use Rattle.type_elements.specs.TypeOf.{own_arguments, own_type, executable_type, member_type, node_type, type_at, type_of}
-use Rattle.type_queries.specs.Print.{layer_text, text_of}
-use Rattle.reach_map.proofs.Everywhere.{each_left, each_right, each_of_map}
+use Rattle.type_texts.specs.Print.{layer_text, text_of}
+use Rattle.decl_elements.proofs.Everywhere.{each_left, each_right, each_of_map}
 use Rattle.closed_cuts.specs.Kept.{IfAny}
 use Rattle.closed_cuts.specs.NodeTexts.{argument_texts, member_texts, node_texts}
 use Rattle.closed_cuts.proofs.Keeping.{Kept, kept, by_equal, map-facts}
@@ -165,7 +166,7 @@ module _ (one other : TypeTable) (Has : List ℕ → Type 0) (r : SameReads one 
 
   node_kept : (at : ElementRef) → L at → (node : Node) → (IsInner node → L (around_of one at)) → AllByRecursion (SameText one other Has at) (node_texts node)
       → SameOne (node_type one at node) (node_type other at node)
-  unfolding mirror_of
+  unfolding mirror_of types
   node_kept at l (OfPackage info) i a = record {
     equal = ap (λ (o : Option (List ℕ)). mirror_of (layers.Package (unwrap_or o []))) (canonical-same one other Has r at l);
     good = closed_up L (layers.Package (canonical_name one at)) tt;

@@ -21,7 +21,7 @@ use Rattle.type_subtypes.specs.Subtypes.{subtype, contained}
 use Rattle.type_members.specs.MemberOf.{member_of}
 use Rattle.type_overriding.specs.Overrides.{overrides}
 use Rattle.type_listing.specs.Members.{members}
-use Rattle.type_queries.specs.Print.{text_of}
+use Rattle.type_texts.specs.Print.{text_of}
 use Rattle.type_queries.specs.Verdicts.{elements_of}
 use Rattle.reach_map.specs.ClosedCuts.{NameSet, cut}
 use Rattle.closed_cuts.specs.CutElements.{HasUnit, IsRooted, HaveOneCut}
