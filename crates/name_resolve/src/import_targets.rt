@@ -10,11 +10,11 @@ ghost use Rattle.name_resolve.specs.Placed.{ArePlaced};
 ghost use Rattle.name_resolve.specs.Remembered.{tops_in};
 ghost use Rattle.name_resolve.specs.Shown.{finds_of, Gives};
 
-use crate::effort::Effort;
 use crate::finds::{Finds, is_nothing};
 use crate::member_types::MemberTypes;
 use crate::names::{longer, owned};
 use apt_base::NoMemory;
+use call_effort::Effort;
 use element_table::Part;
 
 impl<'a> MemberTypes<'a> {

@@ -8,13 +8,13 @@ ghost use Rattle.name_resolve.specs.Parts.{lent, tops_beside, by_single_import, 
 ghost use Rattle.name_resolve.specs.Remembered.{IsWanted, AreRight, Tells, tops_in};
 ghost use Rattle.name_resolve.specs.Shown.{finds_of, Gives};
 
-use crate::effort::Effort;
 use crate::finds::{Finds, Found, is_sibling};
 use crate::gathering::gathered;
 use crate::member_types::MemberTypes;
 use crate::memory::{Stop, Wanted};
 use crate::names::{ends_in, split, split_with};
 use apt_base::NoMemory;
+use call_effort::Effort;
 use decl_tree::{Import, ImportKind};
 use element_table::{Part, in_package};
 

@@ -7,7 +7,7 @@ ghost use Rattle.name_resolve.specs.Placed.{IsPlaced};
 ghost use Rattle.name_resolve.specs.Remembered.{AreRight};
 ghost use Rattle.name_resolve.specs.Shown.{find_of, Gives};
 
-use crate::effort::Effort;
+use crate::effort::effort_of_look_up;
 use crate::finds::{Finds, Found};
 use crate::member_types::MemberTypes;
 use crate::memory::Stop;
@@ -29,7 +29,7 @@ impl<'a> MemberTypes<'a> {
         ensures right { AreRight self.new }
         ensures table { self.new.table.now ≡ self.old.table.now }
     {
-        let mut effort = Effort::new();
+        let mut effort = effort_of_look_up();
         for _ in 0..usize::MAX {
             match self.found(LEVELS, header, at, names, &mut effort) {
                 Ok(finds) => return Ok(finds),
@@ -54,7 +54,7 @@ impl<'a> MemberTypes<'a> {
         ensures right { AreRight self.new }
         ensures table { self.new.table.now ≡ self.old.table.now }
     {
-        let mut effort = Effort::new();
+        let mut effort = effort_of_look_up();
         for _ in 0..usize::MAX {
             match self.qualifier(LEVELS, header, at, names, &mut effort) {
                 Ok(finds) => return Ok(finds),

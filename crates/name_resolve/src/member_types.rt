@@ -9,13 +9,14 @@ ghost use Rattle.name_resolve.specs.Remembered.{IsWanted, AreRight, Tells, Tells
 ghost use Rattle.name_resolve.specs.Shown.{find_of, finds_of};
 
 use crate::children::{children_count, declared_parameters, declared_types};
-use crate::effort::{Effort, STEPS_OF_LOOK_UP};
+use crate::effort::STEPS_OF_LOOK_UP;
 use crate::finds::{Finds, Found, is_nothing, simple_name};
 use crate::headers::has_supertypes;
 use crate::memory::{Question, Stop, Wanted, alone, copied, copied_finds};
 use crate::names::owned;
 use crate::tops::top_named;
 use apt_base::NoMemory;
+use call_effort::Effort;
 use element_table::{Part, Table};
 use std::alloc::Global;
 use std::collections::BTreeMap;

@@ -7,11 +7,11 @@ ghost use Rattle.name_resolve.specs.Placed.{ArePlaced};
 ghost use Rattle.name_resolve.specs.Remembered.{IsWanted, AreRight, Tells, tops_in};
 ghost use Rattle.name_resolve.specs.Shown.{finds_of};
 
-use crate::effort::Effort;
 use crate::finds::{Finds, is_nothing};
 use crate::member_types::MemberTypes;
 use crate::memory::Stop;
 use crate::names::{longer, owned};
+use call_effort::Effort;
 use element_table::Part;
 
 impl<'a> MemberTypes<'a> {

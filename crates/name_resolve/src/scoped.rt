@@ -7,10 +7,10 @@ ghost use Rattle.name_resolve.specs.Placed.{IsPlaced};
 ghost use Rattle.name_resolve.specs.Remembered.{IsWanted, AreRight, Tells, tops_in};
 ghost use Rattle.name_resolve.specs.Shown.{find_of};
 
-use crate::effort::Effort;
 use crate::finds::{Finds, Found, is_nothing};
 use crate::member_types::MemberTypes;
 use crate::memory::{Stop, copied};
+use call_effort::Effort;
 use decl_elements::place_at;
 
 fn is_there(at: &Found<'_>) -> bool

@@ -3,11 +3,11 @@
 ghost use Rattle.std.specs.Prelude.{◌≡◌, ◌+◌, ◌<◌, true, false, length, take, filter, nat_lt, vec_len, IfErr, OnErr};
 ghost use Rattle.name_resolve.specs.Remembered.{IsQuestion, AreQuestions, IsWanted, AreRight, AreSteady, IsNext, IsNextAnswer, AreUnsettled, Stays, KeepsFront};
 
-use crate::effort::Effort;
 use crate::finds::Finds;
 use crate::member_types::{MemberTypes, Settled, key_of};
 use crate::memory::{Question, Stop, Wanted};
 use apt_base::{MAX_TYPE_STEPS, NoMemory};
+use call_effort::Effort;
 
 /// The levels of supertypes through which a look-up goes.
 pub(crate) const LEVELS: usize = MAX_TYPE_STEPS as usize;

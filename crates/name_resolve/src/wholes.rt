@@ -6,13 +6,13 @@ ghost use Rattle.name_resolve.specs.Placed.{IsPlaced};
 ghost use Rattle.name_resolve.specs.Remembered.{IsWanted, AreRight, Tells, tops_in};
 ghost use Rattle.name_resolve.specs.Shown.{find_of, super_of};
 
-use crate::effort::Effort;
 use crate::finds::{Finds, Found, is_nothing};
 use crate::gathering::gathered;
 use crate::headers::{Supertype, supertypes};
 use crate::member_types::MemberTypes;
 use crate::memory::{Stop, Wanted};
 use crate::names::names_in;
+use call_effort::Effort;
 
 impl<'a> MemberTypes<'a> {
     /// What names in front of another name mean: the first one as a type in scope, or else the shortest

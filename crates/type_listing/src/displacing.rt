@@ -5,12 +5,13 @@ ghost use Rattle.type_listing.specs.Displacing.{displaces_in, hides_by_name_in, 
 ghost use Rattle.type_listing.specs.Members as members;
 
 use apt_base::{ElementRef, NoMemory};
+use call_effort::Effort;
 use element_table::Table;
 use type_elements::{
     MemberName, are_namesakes, is_constructor, is_private, is_static, member_name, package_allows,
 };
 use type_levels::Answer;
-use type_overriding::{Effort, Methods};
+use type_overriding::Methods;
 
 /// Whether a type inherits an element from a supertype that has it as a member, unless another member displaces it. It takes no memory.
 pub(crate) fn is_inherited(table: &Table, by: &ElementRef, at: &ElementRef) -> bool

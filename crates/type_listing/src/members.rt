@@ -13,11 +13,12 @@ use crate::known::KnownMembers;
 use crate::listing::Listing;
 use crate::remembered::Remembered;
 use apt_base::{ElementRef, List, MAX_TYPE_STEPS, NoMemory};
+use call_effort::Effort;
 use element_table::Table;
 use std::alloc::Global;
 use type_elements::{class_elements, enclosed};
 use type_levels::Answer;
-use type_overriding::{Effort, Methods};
+use type_overriding::{Methods, effort_of_comparisons};
 use type_relations::header_types;
 
 // How many elements are compared in a step, and how many steps an own member takes, one of a supertype, and one that may displace another.
@@ -252,7 +253,7 @@ pub fn all_members(
     ensures { IfOk result (λ list. list ≡ members.members table.now max_type_steps at.now) }
 {
     let mut remembered = Remembered::new(alloc, table);
-    let mut effort = Effort::new();
+    let mut effort = effort_of_comparisons();
     match known_members(alloc, &mut remembered, MAX_TYPE_STEPS, at, &mut effort)? {
         None => Ok(None),
         Some(known) => Ok(Some(known.list)),

@@ -1,10 +1,9 @@
 // What comparing signatures takes.
-ghost use Rattle.std.specs.Prelude.{◌≡◌, ◌+◌, ◌<◌, OnErr, OnOk};
+ghost use Rattle.std.specs.Prelude.{◌≡◌};
 ghost use Rattle.type_numbers.specs.Numbers.{IsKnown};
 ghost use Rattle.type_overriding.specs.Effort.{most_steps};
 
-use apt_base::NoMemory;
-use std::marker::Model;
+use call_effort::Effort;
 use type_numbers::Types;
 
 // How many steps there are, and how many of them it takes to look up a name.
@@ -12,40 +11,11 @@ const MOST_STEPS: usize = 1_048_576;
 
 const OF_NAME: usize = 64;
 
-/// What may still be done, in steps of less than a microsecond. Contracts see how many steps are left.
-#[derive(Drop)]
-pub struct Effort {
-    left: usize,
-}
-
-impl Model for Effort {
-    ghost use Rattle.std.specs.Prelude.{ℕ};
-
-    ghost Value = { ℕ };
-
-    ghost view = { λ a. a.left };
-}
-
-impl Effort {
-    /// All of 1,048,576 steps.
-    pub fn new() -> Effort
-        ensures { result ≡ most_steps }
-    {
-        Effort { left: MOST_STEPS }
-    }
-
-    /// Takes this many steps; out of memory where fewer are left.
-    pub fn take(&mut self, steps: usize) -> Result<(), NoMemory>
-        ensures ok { OnOk result (self.new + steps ≡ self.old) }
-        ensures few { OnErr result (self.old < steps) }
-        ensures err { OnErr result (self.new ≡ self.old) }
-    {
-        if steps > self.left {
-            return Err(NoMemory);
-        }
-        self.left -= steps;
-        Ok(())
-    }
+/// All that the comparisons of one call may take.
+pub fn effort_of_comparisons() -> Effort
+    ensures { result ≡ most_steps }
+{
+    Effort::new(MOST_STEPS)
 }
 
 /// How many steps it takes to compare a signature with the type that has this number: three, and one for each layer of it, of which each different one counts once.

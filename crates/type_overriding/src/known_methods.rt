@@ -11,9 +11,10 @@ ghost use Rattle.type_overriding.specs.Methods as methods;
 ghost use Rattle.type_overriding.specs.Overrides as overriding;
 
 use crate::by_elements::is_below_known;
-use crate::effort::{Effort, steps_of, steps_of_names, steps_of_search};
+use crate::effort::{steps_of, steps_of_names, steps_of_search};
 use crate::overriding::{may_override, signature_of};
 use apt_base::{ElementRef, List, NoMemory};
+use call_effort::Effort;
 use element_table::Table;
 use std::alloc::Global;
 use std::collections::BTreeMap;

@@ -4,9 +4,9 @@
 //!
 //! What the methods themselves settle takes no memory and looks at no type. Else the work is that of two searches over subtypes, of the types of the two methods as members of the type, and of a comparison of their parameters, each of which is replaced and erased once. The types go by their numbers, so that the parameters of a method far up a chain that doubles a type at each step cost what they write.
 //!
-//! `Methods` are for many questions about one type: each signature is resolved once, the header of a type is looked up once, and a comparison is then that of the numbers of parameters. `Effort` bounds what all comparisons take.
+//! `Methods` are for many questions about one type: each signature is resolved once, the header of a type is looked up once, and a comparison is then that of the numbers of parameters. `effort_of_comparisons` bounds what all comparisons take.
 //!
-//! Not promised: that memory is there, which is also said to be wanted where a search would name more than 65,536 arguments and supertypes, beyond the budgets of `type_numbers`, and where the comparisons of an `Effort` take more than 1,048,576 steps.
+//! Not promised: that memory is there, which is also said to be wanted where a search would name more than 65,536 arguments and supertypes, beyond the budgets of `type_numbers`, and where the comparisons of a call take more than 1,048,576 steps.
 #![tactic(auto)]
 
 mod by_elements;
@@ -16,6 +16,6 @@ mod methods;
 mod overriding;
 mod signatures;
 
-pub use effort::Effort;
+pub use effort::effort_of_comparisons;
 pub use methods::Methods;
 pub use overriding::{has_subsignature, may_override, overrides};

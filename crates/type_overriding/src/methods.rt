@@ -3,9 +3,9 @@ ghost use Rattle.std.specs.Prelude.{◌≡◌, IfOk};
 ghost use Rattle.type_overriding.specs.Methods.{container_of};
 ghost use Rattle.type_overriding.specs.Methods as methods;
 
-use crate::effort::Effort;
 use crate::known_methods::KnownMethods;
 use apt_base::{ElementRef, NoMemory};
+use call_effort::Effort;
 use element_table::Table;
 use std::alloc::Global;
 use std::marker::Model;
