@@ -56,7 +56,8 @@ fn annotation_of(alloc: Global, find: &Found<'_>) -> Result<Option<ElementRef>, 
     }
 }
 
-fn found_annotation(alloc: Global, finds: &Finds<'_>) -> Result<Option<ElementRef>, NoMemory>
+/// The annotation interface that was found, or `None` where nothing, different types or something else was.
+pub fn found_annotation(alloc: Global, finds: &Finds<'_>) -> Result<Option<ElementRef>, NoMemory>
     ensures { IfOk result (λ at. at ≡ found_annotation (finds_of finds.now)) }
 {
     match finds {

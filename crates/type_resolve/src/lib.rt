@@ -14,5 +14,6 @@ mod packages;
 mod scopes;
 mod spelling;
 
-pub use annotations::resolve_annotation;
+pub use annotations::{found_annotation, resolve_annotation};
 pub use calls::{interfaces, is_type, resolve_type, superclass};
+pub use scopes::found_in;

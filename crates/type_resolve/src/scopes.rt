@@ -31,9 +31,9 @@ fn part_at(table: &Table, at: &ElementRef) -> Part
     }
 }
 
-/// An element whose unit is this one.
+/// An element whose unit is this one, as what look-ups there begin at.
 #[tactic(auto, unfolding(crate::specs::Scopes::find_in))]
-pub(crate) fn found_in<'a>(
+pub fn found_in<'a>(
     alloc: Global,
     table: &Table,
     unit: &'a Unit,

@@ -1,0 +1,3 @@
+pub mod CarriedLists
+pub mod OuterScopes
+pub mod PresenceLemmas
