@@ -3,12 +3,11 @@
 use Rattle.std.proofs.Common.{◌≡◌, ℕ, true, false, cond, not, ◌==◌, List, [], ◌∷◌, map, codes, length, Option, None, Some, refl, sym, ap, ◌∙◌}
 use Rattle.std.specs.List.{AllByRecursion, range_with_len}
 use Rattle.std.specs.Option.{option_and_then}
-use Rattle.name_resolve.specs.Ways.{declaration_of}
 use Rattle.apt_base.specs.declared.element.ElementRef.{ElementRef}
 use Rattle.decl_tree.specs.declared.type_text.TypeText.{TypeText}
 use Rattle.decl_tree.specs.declared.compilation.UnitText.{UnitText}
 use Rattle.decl_elements.specs.Nodes.{Node}
-use Rattle.decl_elements.specs.Written.{types}
+use Rattle.decl_elements.specs.Written.{declaration_of, types}
 use Rattle.element_table.specs.TypeTable.{TypeTable, unit_of}
 use Rattle.element_table.specs.TableElements.{node_from, node_at, canonical_from, canonical_at, enclosing_at}
 use Rattle.type_mirror.specs.declared.mirror.PrimitiveKind.{PrimitiveKind}

@@ -9,7 +9,8 @@ use Rattle.decl_tree.specs.declared.compilation.Import.{Import}
 use Rattle.decl_tree.specs.declared.compilation.UnitText.{UnitText}
 use Rattle.element_table.specs.declared.part.Part.{Part}
 use Rattle.decl_elements.specs.Nodes.{Node, children}
-use Rattle.name_resolve.specs.Ways.{Place, around, node_at}
+use Rattle.decl_elements.specs.Walk.{Place}
+use Rattle.name_resolve.specs.Ways.{around, node_at}
 use Rattle.name_resolve.specs.QualifiedNames.{Prefix, prefixes}
 use Rattle.element_table.specs.UnitNames.{in_package}
 use Rattle.name_resolve.specs.Finds.{Find, Finds, Nothing, One, Several, same_find, both, first_of, one_if, is_type_named, is_parameter_named, parameters_at, types_at, types_in, declared_types}

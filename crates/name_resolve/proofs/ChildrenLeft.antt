@@ -4,7 +4,8 @@ use Rattle.std.specs.List.{fold, enumerate_from}
 use Rattle.decl_tree.specs.declared.compilation.UnitText.{UnitText}
 use Rattle.decl_elements.specs.Nodes.{Node, children, down, root}
 use Rattle.element_table.specs.declared.part.Part.{Part}
-use Rattle.name_resolve.specs.Ways.{Place, node_at}
+use Rattle.decl_elements.specs.Walk.{Place}
+use Rattle.name_resolve.specs.Ways.{node_at}
 use Rattle.name_resolve.specs.Finds.{Find, Finds, Nothing, both, one_if, find_at, is_type_named, is_parameter_named, types_at, types_in, parameters_at, declared_types}
 use Rattle.name_resolve.specs.Parts.{parameters_in, declared_parameters}
 

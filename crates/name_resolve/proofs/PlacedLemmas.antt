@@ -5,6 +5,7 @@ use Rattle.std.specs.Option.{option_or}
 use Rattle.std.specs.FinMap as fin
 use Rattle.std.proofs.lemmas.Slice.Eq.{bytes_eq-Decides}
 use Rattle.apt_base.specs.Identifiers.{parts}
+use Rattle.apt_base.specs.Limits.{max_type_steps}
 use Rattle.decl_tree.specs.declared.compilation.ImportKind.{ImportKind}
 use Rattle.decl_tree.specs.declared.compilation.ImportKind.TheVariants as import
 use Rattle.decl_tree.specs.declared.compilation.Body.{Body}
@@ -17,7 +18,7 @@ use Rattle.element_table.specs.UnitNames.{in_package, simple_name, unit_name}
 use Rattle.name_resolve.specs.QualifiedNames.{prefixes}
 use Rattle.name_resolve.specs.Finds.{Find, Finds, Nothing, One, Several, same_find}
 use Rattle.name_resolve.specs.Supertypes.{Supertype, Written, Implied, supertypes, names_in}
-use Rattle.name_resolve.specs.Meaning.{Scope, scope_at, scope_of, top_of, top_in, tops_of, members_of, imported, members_within, supertype_found, simple, but_last}
+use Rattle.name_resolve.specs.Meaning.{Scope, scope_at, scope_of, top_of, top_in, tops_of, members_of, imported, members_within, supertype_found, simple, qualifier, qualifier_meaning, members, Within, but_last}
 use Rattle.name_resolve.specs.Placed.{or_bare, IsPlacedUnit, IsPlaced, ArePlaced}
 use Rattle.name_resolve.proofs.Agreement as agreement
 use Rattle.name_resolve.proofs.Agreement.{ImportAsks, SimpleAsks, Asks, SupertypeAsks}
@@ -157,6 +158,11 @@ module _ (table : TypeTable) (is : IsTable table) where
         good_placed _ (agreement.simple-same tops tops Good _ _ (same_members levels) scope g name
         (of_simple (agreement.SameTops tops tops Good (scope_at scope).part) (same_tops (scope_at scope).part) (scope_at scope).unit name)).good
 
+    qualifier-good : (scope : Scope) → IsPlacedUnit table (scope_at scope).unit → (names : List (List ℕ)) → ArePlaced table (qualifier tops (members_within tops levels) scope names)
+    qualifier-good scope g names =
+        good_placed _ (agreement.qualifier-same tops tops Good _ _ (same_members levels) scope g names
+        (of_names (agreement.SameTops tops tops Good (scope_at scope).part) (same_tops (scope_at scope).part) (scope_at scope).unit names)).good
+
     supertype-good : (f : Find) → IsPlacedUnit table f.unit → (s : Supertype) → ArePlaced table (supertype_found tops (members_within tops levels) f s)
     supertype-good f g s =
         good_placed _ (agreement.supertype-same tops tops Good _ _ (same_members levels) f g s
@@ -177,3 +183,8 @@ module _ (table : TypeTable) (levels : ℕ) where
 
   pub supertype-placed : (f : Find) → IsPlaced table f → (s : Supertype) → ArePlaced table (supertype_found (tops_of table) (members_within (tops_of table) levels) f s)
   supertype-placed f g s = supertype-good table g.is_table levels f g.unit s
+
+module _ (table : TypeTable) where
+  pub qualifier-placed : (f : Find) → IsPlaced table f → (names : List (List ℕ)) → ArePlaced table (qualifier_meaning table (Within f) names)
+  unfolding qualifier_meaning members
+  qualifier-placed f g names = qualifier-good table g.is_table max_type_steps (Within f) g.unit names

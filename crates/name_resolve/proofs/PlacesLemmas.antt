@@ -3,7 +3,8 @@ use Rattle.std.proofs.Common.{◌≡◌, ℕ, List, [], ◌∷◌, ◌++◌, ref
 use Rattle.std.specs.List.{flat_map}
 use Rattle.decl_tree.specs.declared.compilation.UnitText.{UnitText}
 use Rattle.element_table.specs.declared.part.Part.{Part}
-use Rattle.name_resolve.specs.Ways.{Place, around}
+use Rattle.decl_elements.specs.Walk.{Place}
+use Rattle.name_resolve.specs.Ways.{around}
 use Rattle.name_resolve.specs.Finds.{Finds, Nothing, One, Several, first_of, parameters_at}
 use Rattle.name_resolve.specs.Meaning.{Tops, Members, Scope, Within, Header, scope_at, in_element, in_elements, in_header, in_scope, in_unit, simple}
 use Rattle.name_resolve.specs.Places.{element_places, header_places, scope_places, unit_places, places}

@@ -3,7 +3,8 @@ use Rattle.std.proofs.Common.{◌≡◌, ℕ, List, None, Some, ap, ◌∙◌}
 use Rattle.std.specs.Option.{option_and_then}
 use Rattle.decl_tree.specs.declared.compilation.UnitText.{UnitText}
 use Rattle.decl_elements.specs.Nodes.{Node, down, root}
-use Rattle.name_resolve.specs.Ways.{declaration_of, node_at, type_at}
+use Rattle.decl_elements.specs.Written.{declaration_of}
+use Rattle.name_resolve.specs.Ways.{node_at, type_at}
 
 module _ (u : UnitText) (at path : List ℕ) (same : path ≡ at) where
   pub type_none : None ≡ down path (root u) → None ≡ type_at u at

@@ -7,7 +7,9 @@ use Rattle.decl_tree.specs.declared.compilation.UnitText.{UnitText}
 use Rattle.decl_elements.specs.Nodes.{Node, OfTypeParam, children}
 use Rattle.element_table.specs.UnitNames.{simple_name}
 use Rattle.element_table.specs.declared.part.Part.{Part}
-use Rattle.name_resolve.specs.Ways.{Place, declaration_of, node_at}
+use Rattle.decl_elements.specs.Walk.{Place}
+use Rattle.decl_elements.specs.Written.{declaration_of}
+use Rattle.name_resolve.specs.Ways.{node_at}
 
 -- an element of a unit; those that a look-up finds are types and type parameters
 pub record Find : Type 0 where

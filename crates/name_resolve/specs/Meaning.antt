@@ -16,7 +16,8 @@ use Rattle.name_resolve.specs.QualifiedNames.{Prefix, prefixes}
 use Rattle.std.specs.FinMap as fin
 use Rattle.element_table.specs.UnitNames.{in_package}
 use Rattle.element_table.specs.TypeTable.{TypeTable}
-use Rattle.name_resolve.specs.Ways.{Place, around}
+use Rattle.decl_elements.specs.Walk.{Place}
+use Rattle.name_resolve.specs.Ways.{around}
 use Rattle.name_resolve.specs.Finds.{Find, Finds, Nothing, One, Several, together, first_of, parameters_at, types_at, declared_types}
 use Rattle.name_resolve.specs.Supertypes.{Supertype, Written, Implied, supertypes, names_in}
 

@@ -5,7 +5,8 @@ use Rattle.std.specs.Str.{bytes_eq}
 use Rattle.decl_tree.specs.declared.compilation.UnitText.{UnitText}
 use Rattle.element_table.specs.declared.part.Part.{Part}
 use Rattle.element_table.specs.UnitNames.{in_package}
-use Rattle.name_resolve.specs.Ways.{Place, around}
+use Rattle.decl_elements.specs.Walk.{Place}
+use Rattle.name_resolve.specs.Ways.{around}
 use Rattle.name_resolve.specs.Finds.{Finds, Nothing, together, parameters_at, types_at}
 use Rattle.name_resolve.specs.Meaning.{Tops, Members, Scope, Within, Header, scope_at, single_import, on_demand_import}
 

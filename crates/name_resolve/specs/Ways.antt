@@ -1,16 +1,11 @@
 -- The way down a unit: what stands at a path, and all that encloses it.
 use Rattle.std.specs.Prelude.{ℕ, List, [], ◌∷◌, ◌++◌, Option, None, Some, slice_get}
 use Rattle.std.specs.Option.{option_and_then}
-use Rattle.decl_tree.specs.declared.declaration.Member.{Member, out-Member}
-use Rattle.decl_tree.specs.declared.declaration.Member.TheOpen.{Member-F}
 use Rattle.decl_tree.specs.declared.declaration.TypeDecl.{TypeDecl}
 use Rattle.decl_tree.specs.declared.compilation.UnitText.{UnitText}
-use Rattle.decl_elements.specs.Nodes.{Node, Top, Inside, children, down, root}
-
--- a path, and what stands there
-pub record Place : Type 0 where
-  pub path : List ℕ
-  pub node : Node
+use Rattle.decl_elements.specs.Nodes.{Node, children, down, root}
+use Rattle.decl_elements.specs.Walk.{Place}
+use Rattle.decl_elements.specs.Written.{declaration_of}
 
 -- a node and all that stands above it, the innermost first
 abbrev pub way : List Place → List ℕ → Node → List ℕ → List Place
@@ -24,18 +19,6 @@ way above at node (step ∷ steps) =
 -- what stands at a path of a unit and what encloses it there, the innermost first; nothing where the path leads nowhere
 unfoldable pub around : UnitText → List ℕ → List Place
 around u path = way [] [] (root u) path
-
--- ---- types
-
-abbrev pub member_type : Member-F Member TypeDecl → Option TypeDecl
-member_type (Member-F.Nested d) = Some d
-member_type _ = None
-
--- the declaration of a type; None for what is no type
-abbrev pub declaration_of : Node → Option TypeDecl
-declaration_of (Top d) = Some d
-declaration_of (Inside kind member) = member_type (out-Member member)
-declaration_of _ = None
 
 -- what stands at a path of a unit
 unfoldable pub node_at : UnitText → List ℕ → Option Node

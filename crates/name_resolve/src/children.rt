@@ -1,10 +1,8 @@
 // What is declared at a place.
 ghost use Rattle.std.specs.Prelude.{◌≡◌, ◌≤◌, length, IfOk};
-ghost use Rattle.std.specs.Option.{option_copied};
 ghost use Rattle.apt_base.specs.Limits.{max_children};
 ghost use Rattle.decl_elements.specs.Nodes.{children};
 ghost use Rattle.decl_elements.specs.Shown.{node_of};
-ghost use Rattle.name_resolve.specs.Ways.{declaration_of};
 ghost use Rattle.name_resolve.specs.Finds.{is_type_named, is_parameter_named, one_if, declared_types};
 ghost use Rattle.name_resolve.specs.Parts.{declared_parameters};
 ghost use Rattle.name_resolve.specs.Shown.{find_of, finds_of, child_of, types_here, params_here};
@@ -12,27 +10,12 @@ ghost use Rattle.name_resolve.specs.Shown.{find_of, finds_of, child_of, types_he
 use crate::finds::{Finds, Found, both};
 use apt_base::NoMemory;
 use decl_elements::{Place, place_at};
-use decl_tree::{Member, TypeDecl};
 use std::alloc::Global;
-
-/// The declaration of a type, or `None` for what is none.
-pub(crate) fn declaration_of<'a>(place: Place<'a>) -> Option<&'a TypeDecl>
-    ensures { option_copied result ≡ declaration_of (node_of place.entry) }
-{
-    match place {
-        Place::Top(declaration) => Some(declaration),
-        Place::Inside(_, member) => match member {
-            Member::Nested(declaration) => Some(declaration),
-            _ => None,
-        },
-        _ => None,
-    }
-}
 
 fn is_type_named(name: &str, place: Place<'_>) -> bool
     ensures { result ≡ is_type_named name.now (node_of place.entry) }
 {
-    match declaration_of(place) {
+    match place.declaration() {
         None => false,
         Some(declaration) => declaration.name.as_str() == name,
     }

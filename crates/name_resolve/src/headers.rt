@@ -5,7 +5,6 @@ ghost use Rattle.name_resolve.specs.Ways.{type_at};
 ghost use Rattle.name_resolve.specs.Supertypes.{Written, is_object, superclass_in, interfaces_in, supertypes_in, supertypes, superclass_at, interfaces_at};
 ghost use Rattle.name_resolve.specs.Shown.{find_of, super_of, supers_of};
 
-use crate::children::declaration_of;
 use crate::finds::{Found, simple_name};
 use apt_base::NoMemory;
 use decl_elements::place_at;
@@ -31,7 +30,7 @@ pub fn type_at<'a>(of: &Found<'a>) -> Option<&'a TypeDecl>
 {
     match place_at(of.unit, of.path.as_slice()) {
         None => None,
-        Some(place) => declaration_of(place),
+        Some(place) => place.declaration(),
     }
 }
 

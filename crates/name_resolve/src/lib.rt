@@ -43,5 +43,7 @@ pub use children::{declared_parameters, declared_types};
 pub use finds::{Finds, Found, both};
 pub use headers::{Supertype, interfaces_at, superclass_at, supertypes, type_at};
 pub use looks::Looks;
+pub use memory::{copied, copied_finds};
 pub use names::{longer, part_names, split};
+pub use scoped::is_there;
 pub use tops::top_level;

@@ -1,15 +1,16 @@
 // The look-ups over a table.
-ghost use Rattle.std.specs.Prelude.{◌≡◌};
+ghost use Rattle.std.specs.Prelude.{◌≡◌, IfOk};
 ghost use Rattle.element_table.specs.TypeTable.{IsTable};
-ghost use Rattle.name_resolve.specs.Meaning.{scope_of, meaning};
+ghost use Rattle.name_resolve.specs.Meaning.{scope_of, tops_of, imported, meaning};
 ghost use Rattle.name_resolve.specs.Parts.{lent, qualifier_at};
-ghost use Rattle.name_resolve.specs.Placed.{IsPlaced};
-ghost use Rattle.name_resolve.specs.Shown.{find_of, Gives};
+ghost use Rattle.name_resolve.specs.Placed.{IsPlaced, ArePlaced};
+ghost use Rattle.name_resolve.specs.Shown.{find_of, finds_of, Gives};
 
+use crate::effort::Effort;
 use crate::finds::{Finds, Found};
 use crate::member_types::MemberTypes;
 use apt_base::NoMemory;
-use element_table::Table;
+use element_table::{Part, Table};
 use std::alloc::Global;
 use std::marker::Model;
 
@@ -85,5 +86,16 @@ impl<'a> Looks<'a> {
         ensures kept { self.new ≡ self.old }
     {
         self.members.qualifier_meaning(header, at, names)
+    }
+
+    /// What an import of these names names, in a unit of this part: a top-level type, or declared member types
+    /// from there. It is never looked up in scope (JLS 7.5).
+    pub fn imported(&mut self, part: Part, names: &[&str]) -> Result<Finds<'a>, NoMemory>
+        ensures value { Gives result (imported (tops_of self.old) part (lent names.now)) }
+        ensures placed { IfOk result (λ f. ArePlaced self.old (finds_of f)) }
+        ensures kept { self.new ≡ self.old }
+    {
+        let mut effort = Effort::new();
+        self.members.imported(part, names, &mut effort)
     }
 }

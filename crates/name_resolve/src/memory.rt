@@ -57,7 +57,7 @@ pub(crate) fn alone<'a>(alloc: Global, wanted: Wanted<'a>) -> Result<Vec<Wanted<
 }
 
 /// An equal find.
-pub(crate) fn copied<'a>(alloc: Global, find: &Found<'a>) -> Result<Found<'a>, NoMemory>
+pub fn copied<'a>(alloc: Global, find: &Found<'a>) -> Result<Found<'a>, NoMemory>
     ensures { IfOk result (λ f. find_of f ≡ find_of find.now) }
 {
     let path = Vec::from_slice(alloc, find.path.as_slice())?;
@@ -69,7 +69,7 @@ pub(crate) fn copied<'a>(alloc: Global, find: &Found<'a>) -> Result<Found<'a>, N
 }
 
 /// Equal finds.
-pub(crate) fn copied_finds<'a>(alloc: Global, finds: &Finds<'a>) -> Result<Finds<'a>, NoMemory>
+pub fn copied_finds<'a>(alloc: Global, finds: &Finds<'a>) -> Result<Finds<'a>, NoMemory>
     ensures { IfOk result (λ f. finds_of f ≡ finds_of finds.now) }
 {
     match finds {

@@ -13,7 +13,8 @@ use crate::memory::{Stop, copied};
 use call_effort::Effort;
 use decl_elements::place_at;
 
-fn is_there(at: &Found<'_>) -> bool
+/// Whether anything stands there. It takes no memory.
+pub fn is_there(at: &Found<'_>) -> bool
     ensures { result ≡ is_some (node_at at.now.unit.now at.now.path.items) }
 {
     place_at(at.unit, at.path.as_slice()).is_some()

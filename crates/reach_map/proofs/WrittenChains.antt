@@ -13,8 +13,8 @@ use Rattle.decl_tree.specs.declared.declaration.TypeDecl.{TypeDecl}
 use Rattle.decl_tree.specs.declared.compilation.UnitText.{UnitText}
 use Rattle.decl_elements.specs.Nodes.{Node, OfPackage, Top, Inside, OfTypeParam, OfParam, DefaultConstructor, Values, ValueOf, ValueOfName, down, root}
 use Rattle.decl_elements.specs.Walk.{Place, place_of, places}
-use Rattle.decl_elements.specs.Written.{annotations, header, member_types, types}
-use Rattle.name_resolve.specs.Ways.{member_type, declaration_of, node_at, type_at}
+use Rattle.decl_elements.specs.Written.{annotations, declaration_of, header, member_type, member_types, types}
+use Rattle.name_resolve.specs.Ways.{node_at, type_at}
 use Rattle.name_resolve.specs.Supertypes.{base_names, bare, names_in}
 use Rattle.reach_map.specs.Chains.{Chains, of_option, type_chains, annotation_chains, node_chains, unit_chains}
 use Rattle.reach_map.proofs.ChainsLemmas.{base_chains, base_chains-roll, part_names, type_chains-base}

@@ -10,9 +10,9 @@ use Rattle.decl_tree.specs.declared.declaration.TypeDecl.{TypeDecl}
 use Rattle.decl_tree.specs.declared.declaration.TypeKind.{TypeKind}
 use Rattle.decl_tree.specs.declared.declaration.TypeKind.TheVariants as kind
 use Rattle.decl_elements.specs.Nodes.{Node, Top, Inside, OfTypeParam}
+use Rattle.decl_elements.specs.Written.{declaration_of}
 use Rattle.element_table.specs.TypeTable.{TypeTable}
 use Rattle.element_table.specs.TableElements.{node_at, enclosing_at, canonical_at}
-use Rattle.name_resolve.specs.Ways.{declaration_of}
 
 -- something stands there
 abbrev pub is_there : TypeTable → ElementRef → Bool

@@ -1,7 +1,7 @@
 // The supertypes of a declaration as its header has them.
 ghost use Rattle.std.specs.Prelude.{◌≡◌, ◌∷◌, ◌++◌, IfOk};
 ghost use Rattle.decl_elements.specs.Shown.{node_of};
-ghost use Rattle.name_resolve.specs.Ways.{declaration_of};
+ghost use Rattle.decl_elements.specs.Written.{declaration_of};
 ghost use Rattle.type_layers.specs.Layers.{layer};
 ghost use Rattle.type_relations.specs.Elements as elements;
 ghost use Rattle.type_relations.specs.Named as named;

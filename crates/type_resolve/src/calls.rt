@@ -1,6 +1,7 @@
 // The calls that give mirrors.
 ghost use Rattle.std.specs.Prelude.{◌≡◌, [], ◌∷◌, None, Some, is_some, true, IfOk};
 ghost use Rattle.decl_elements.specs.Shown.{node_of};
+ghost use Rattle.decl_elements.specs.Written.{declaration_of};
 ghost use Rattle.element_table.specs.TypeTable.{unit_of, IsTable};
 ghost use Rattle.element_table.specs.UnitNames.{unit_name};
 ghost use Rattle.name_resolve.specs.Meaning.{Within};
@@ -8,7 +9,7 @@ ghost use Rattle.name_resolve.specs.Mirrors.{type_meaning, class_mirror, ref_of,
 ghost use Rattle.name_resolve.specs.Placed.{IsPlaced};
 ghost use Rattle.name_resolve.specs.Shown.{find_of};
 ghost use Rattle.type_resolve.specs.MirrorParts.{IsScope, implied_in, supertype_in, supertypes_in};
-ghost use Rattle.name_resolve.specs.Ways.{declaration_of, type_at};
+ghost use Rattle.name_resolve.specs.Ways.{type_at};
 ghost use Rattle.type_resolve.specs.Scopes.{find_in, package_part, package_at, scope_in, is_type, IsBareUnit, IsElement, IsType};
 
 use crate::annotations::reference;
@@ -17,14 +18,17 @@ use crate::packages::Bare;
 use crate::scopes::{Scope, bare_at, found_bare, found_in};
 use apt_base::{ElementRef, List, Name, NoMemory};
 use decl_elements::{Place, place_at};
-use decl_tree::{Member, TypeText, Unit};
+use decl_tree::{TypeText, Unit};
 use element_table::Table;
-use name_resolve::{Finds, Found, Looks, Supertype, interfaces_at, superclass_at, top_level};
+use name_resolve::{
+    Finds, Found, Looks, Supertype, copied, interfaces_at, superclass_at, top_level,
+};
 use std::alloc::Global;
 use type_mirror::{BaseMirror, Mirror};
 
+/// The mirror that a type means where it is written in what was found (JLS 6.4, 6.5.5).
 #[tactic(auto, unfolding(name_resolve::specs::Mirrors::type_meaning))]
-fn mirror_at<'a>(
+pub fn mirror_at<'a>(
     alloc: Global,
     table: &'a Table,
     at: Found<'a>,
@@ -188,13 +192,9 @@ fn interfaces_in(alloc: Global, scope: &Scope<'_>) -> Result<List<Mirror>, NoMem
 fn is_declaration(place: Place<'_>) -> bool
     ensures { result ≡ is_some (declaration_of (node_of place.entry)) }
 {
-    match place {
-        Place::Top(_) => true,
-        Place::Inside(_, member) => match member {
-            Member::Nested(_) => true,
-            _ => false,
-        },
-        _ => false,
+    match place.declaration() {
+        None => false,
+        Some(_) => true,
     }
 }
 
@@ -266,4 +266,26 @@ pub fn interfaces(alloc: Global, table: &Table, at: &ElementRef) -> Result<List<
         }
         None => Ok(List::new(alloc)),
     }
+}
+
+/// The types that the header of what was found names or implies: its superclass, which is `Nothing` where it
+/// has none, and then its interfaces in their order.
+pub fn header_types<'a>(
+    alloc: Global,
+    table: &'a Table,
+    of: &Found<'a>,
+) -> Result<List<Mirror>, NoMemory>
+    requires placed { IsPlaced table.now (find_of of.now) }
+    ensures { IfOk result (λ list. list
+        ≡ superclass table.now (find_of of.now) ∷ interfaces table.now (find_of of.now)) }
+{
+    let scope = Scope {
+        table,
+        header: true,
+        at: copied(alloc, of)?,
+    };
+    let mut types = vec![in alloc; superclass_in(alloc, &scope)?]?;
+    let mut interfaces = interfaces_in(alloc, &scope)?.into_vec();
+    types.append(&mut interfaces)?;
+    Ok(List::from_vec(types))
 }

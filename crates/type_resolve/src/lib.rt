@@ -15,5 +15,5 @@ mod scopes;
 mod spelling;
 
 pub use annotations::{found_annotation, resolve_annotation};
-pub use calls::{interfaces, is_type, resolve_type, superclass};
+pub use calls::{header_types, interfaces, is_type, mirror_at, resolve_type, superclass};
 pub use scopes::found_in;

@@ -8,4 +8,4 @@ returns-in-None c = type_none c.args.of.now.unit.now c.args.of.now.path.items _ 
 
 pub returns-in-Some : goal.returns-in-Some
 returns-in-Some c =
-    c.declaration_of.ensures ∙ type_some c.args.of.now.unit.now c.args.of.now.path.items _ c.as_slice.ensures.value (node_of c.in-Some.place) c.in-Some.ensures.value
+    c.declaration.ensures ∙ type_some c.args.of.now.unit.now c.args.of.now.path.items _ c.as_slice.ensures.value (node_of c.in-Some.place) c.in-Some.ensures.value
