@@ -1,0 +1,3 @@
+pub mod FieldSteps
+pub mod Enclosing
+pub mod NamesSplit
