@@ -1,5 +1,6 @@
 mod Counts
 pub mod Endings
+mod MemberLaws
 mod PackageLaws
 pub mod Paths
 pub mod TableLaws

@@ -33,7 +33,7 @@ chosen P true x y here there = here refl
 chosen P false x y here there = there
 
 -- what holds of the new unit at its name, and of what was there at each name, holds after an insertion
-at_insert : (P : Option UnitText → Type 0) (units : Units) (name : List ℕ) (unit : UnitText) (q : List ℕ) → (q ≡ name → P (Some unit)) → P (fin.get units q) → P (fin.get (fin.insert units name unit) q)
+pub at_insert : (P : Option UnitText → Type 0) (units : Units) (name : List ℕ) (unit : UnitText) (q : List ℕ) → (q ≡ name → P (Some unit)) → P (fin.get units q) → P (fin.get (fin.insert units name unit) q)
 at_insert P units name unit q here there =
     subst P (sym (get-insert nat_list_cmp_total units name unit q)) (chosen P (eq_by_cmp (slice_cmp nat_cmp) q name) (Some unit) (fin.get units q) (λ e. here (same_name q name e)) there)
 

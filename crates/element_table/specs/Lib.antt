@@ -1,4 +1,5 @@
 pub mod Held
+pub mod MemberTypes
 pub mod PackageTypes
 pub mod TableElements
 pub mod TypeCounts

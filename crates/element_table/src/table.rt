@@ -6,13 +6,14 @@ ghost use Rattle.element_table.specs.UnitNames.{unit_name};
 ghost use Rattle.element_table.specs.TypeTable.{empty_table, units_in, unit_of, part_of, has_unit, entered, answer_to, Answers, unit_back, IsTable};
 ghost use Rattle.element_table.specs.TableElements.{is_type, part_has_types, has_types};
 ghost use Rattle.element_table.specs.PackageTypes.{package_types};
+ghost use Rattle.element_table.specs.MemberTypes.{AreWithin};
 ghost use Rattle.element_table.specs.declared.answer.Answer.TheVariants.{IsNew};
 
 use crate::answer::Answer;
 use crate::counting::with_unit;
-use crate::listed::ListedUnits;
+use crate::indexed::IndexedUnits;
 use crate::naming::name_of;
-use crate::{EnterFault, Part};
+use crate::{ChildRange, EnterFault, Part};
 use apt_base::{List, Name, Names, NoMemory};
 use decl_tree::Unit;
 use std::alloc::Global;
@@ -22,8 +23,8 @@ use std::marker::Model;
 #[derive(Drop)]
 pub struct Table {
     alloc: Global,
-    sources: ListedUnits,
-    stubs: ListedUnits,
+    sources: IndexedUnits,
+    stubs: IndexedUnits,
     // How many types the units of both parts have, nested ones included.
     types: usize,
 }
@@ -48,8 +49,8 @@ impl Table {
     {
         Table {
             alloc,
-            sources: ListedUnits::new(alloc),
-            stubs: ListedUnits::new(alloc),
+            sources: IndexedUnits::new(alloc),
+            stubs: IndexedUnits::new(alloc),
             types: 0,
         }
     }
@@ -173,6 +174,26 @@ impl Table {
         self.sources.add_types(package.as_str(), &mut all)?;
         self.stubs.add_types(package.as_str(), &mut all)?;
         all.list()
+    }
+
+    /// Where the member types of a name stand that the type at a path of a unit declares (JLS 8.5, 9.5): all
+    /// of them are among the children of this range, and `None` says that there are none. Other children may
+    /// stand between them. Where no unit has this name, or no type stands there, there are none whatever the
+    /// answer. It takes the time of one look-up, however many children there are, and memory for its key.
+    /// `NoMemory` where there is none.
+    pub fn member_types(
+        &self,
+        alloc: Global,
+        unit: &Name,
+        path: &[u16],
+        name: &str,
+    ) -> Result<Option<ChildRange>, NoMemory>
+        ensures { IfOk result (λ range. AreWithin range (unit_of self.now unit.now) path.now name.now) }
+    {
+        if self.sources.contains(unit.as_str()) {
+            return self.sources.member_types(alloc, unit.as_str(), path, name);
+        }
+        self.stubs.member_types(alloc, unit.as_str(), path, name)
     }
 
     /// The names of the units of a part, ascending by their bytes.
