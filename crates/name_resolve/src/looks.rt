@@ -6,7 +6,7 @@ ghost use Rattle.name_resolve.specs.Parts.{lent, qualifier_at};
 ghost use Rattle.name_resolve.specs.Placed.{IsPlaced, ArePlaced};
 ghost use Rattle.name_resolve.specs.Shown.{find_of, finds_of, Gives};
 
-use crate::effort::Effort;
+use crate::effort::effort_of_look_up;
 use crate::finds::{Finds, Found};
 use crate::member_types::MemberTypes;
 use apt_base::NoMemory;
@@ -95,7 +95,7 @@ impl<'a> Looks<'a> {
         ensures placed { IfOk result (λ f. ArePlaced self.old (finds_of f)) }
         ensures kept { self.new ≡ self.old }
     {
-        let mut effort = Effort::new();
+        let mut effort = effort_of_look_up();
         self.members.imported(part, names, &mut effort)
     }
 }
