@@ -1,5 +1,7 @@
 pub mod Agreement
+pub mod ChildRanges
 pub mod ChildrenLeft
+pub mod DeclaredPlaced
 pub mod Enclosing
 pub mod FirstPlaces
 pub mod GatheredFinds
@@ -8,6 +10,7 @@ pub mod KeptQuestions
 pub mod LookSteps
 pub mod MirrorsLemmas
 pub mod NameParts
+pub mod ParametersFirst
 pub mod PlacedLemmas
 pub mod PlacesLemmas
 pub mod RememberedLemmas

@@ -1,4 +1,5 @@
 pub mod Annotations
+pub mod ChildTypes
 pub mod Effort
 pub mod Finds
 pub mod Meaning

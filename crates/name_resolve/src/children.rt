@@ -3,6 +3,7 @@ ghost use Rattle.std.specs.Prelude.{◌≡◌, ◌≤◌, length, IfOk};
 ghost use Rattle.apt_base.specs.Limits.{max_children};
 ghost use Rattle.decl_elements.specs.Nodes.{children};
 ghost use Rattle.decl_elements.specs.Shown.{node_of};
+ghost use Rattle.name_resolve.specs.ChildTypes.{is_parameter};
 ghost use Rattle.name_resolve.specs.Finds.{is_type_named, is_parameter_named, one_if, declared_types};
 ghost use Rattle.name_resolve.specs.Parts.{declared_parameters};
 ghost use Rattle.name_resolve.specs.Shown.{find_of, finds_of, child_of, types_here, params_here};
@@ -12,7 +13,8 @@ use apt_base::NoMemory;
 use decl_elements::{Place, place_at};
 use std::alloc::Global;
 
-fn is_type_named(name: &str, place: Place<'_>) -> bool
+/// Whether this is a type of this name.
+pub(crate) fn is_type_named(name: &str, place: Place<'_>) -> bool
     ensures { result ≡ is_type_named name.now (node_of place.entry) }
 {
     match place.declaration() {
@@ -21,8 +23,13 @@ fn is_type_named(name: &str, place: Place<'_>) -> bool
     }
 }
 
-// The child with that number, if it passes a test.
-fn one_if<'a>(alloc: Global, passes: bool, of: &Found<'a>, at: u16) -> Result<Finds<'a>, NoMemory>
+/// The child with that number, if it passes a test.
+pub(crate) fn one_if<'a>(
+    alloc: Global,
+    passes: bool,
+    of: &Found<'a>,
+    at: u16,
+) -> Result<Finds<'a>, NoMemory>
     ensures { IfOk result (λ f. finds_of f ≡ one_if passes (child_of (find_of of.now) at)) }
 {
     if !passes {
@@ -86,6 +93,13 @@ fn is_parameter_named(name: &str, place: Place<'_>) -> bool
     }
 }
 
+fn is_parameter(place: Place<'_>) -> bool
+    ensures { result ≡ is_parameter (node_of place.entry) }
+{
+    matches!(place, Place::TypeParameter(_))
+}
+
+// Those in front: all other children stand behind them.
 fn parameters_at<'a>(
     alloc: Global,
     of: &Found<'a>,
@@ -96,10 +110,13 @@ fn parameters_at<'a>(
     ensures { IfOk result (λ f. finds_of f ≡ params_here (find_of of.now) name.now (node_of place.entry)) }
 {
     let mut finds = Finds::Nothing;
-    for number in 0..place.children() {
+    for number in 0..u16::MAX {
         match place.child(number) {
             None => return Ok(finds),
             Some(child) => {
+                if !is_parameter(child) {
+                    return Ok(finds);
+                }
                 let more = one_if(alloc, is_parameter_named(name, child), of, number)?;
                 finds = both(finds, more);
             }

@@ -25,6 +25,7 @@ impl<'a> MemberTypes<'a> {
         name: &str,
         effort: &mut Effort,
     ) -> Result<Finds<'a>, NoMemory>
+        requires { ArePlaced self.now.table.now (finds_of of) }
         ensures { Gives result (members_of declared_types (finds_of of.entry) name.now) }
     {
         match of {
@@ -41,6 +42,7 @@ impl<'a> MemberTypes<'a> {
         names: &[&str],
         effort: &mut Effort,
     ) -> Result<Finds<'a>, NoMemory>
+        requires { ArePlaced self.now.table.now (finds_of start) }
         ensures { Gives result (along declared_types (finds_of start.entry) (lent names.now)) }
     {
         let mut finds = start;
@@ -59,6 +61,7 @@ impl<'a> MemberTypes<'a> {
         others: &[&str],
         effort: &mut Effort,
     ) -> Result<Finds<'a>, NoMemory>
+        requires { IsTable self.now.table.now }
         ensures { Gives result
             (by_prefix (tops_in self.now) declared_types part (prefixes_of first.now others.now)) }
     {

@@ -21,6 +21,7 @@
 
 mod calls;
 mod children;
+mod declared;
 mod effort;
 mod finds;
 mod gathering;

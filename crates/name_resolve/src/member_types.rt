@@ -3,12 +3,10 @@ ghost use Rattle.std.specs.Prelude.{◌≡◌, IfErr, IfOk};
 ghost use Rattle.element_table.specs.TypeTable.{IsTable};
 ghost use Rattle.name_resolve.specs.Finds.{Nothing, declared_types};
 ghost use Rattle.name_resolve.specs.Meaning.{members_of};
-ghost use Rattle.name_resolve.specs.Parts.{declared_parameters};
 ghost use Rattle.name_resolve.specs.Placed.{IsPlaced, ArePlaced};
 ghost use Rattle.name_resolve.specs.Remembered.{IsWanted, AreRight, Tells, TellsSome, tops_in};
 ghost use Rattle.name_resolve.specs.Shown.{find_of, finds_of};
 
-use crate::children::{children_count, declared_parameters, declared_types};
 use crate::effort::STEPS_OF_LOOK_UP;
 use crate::finds::{Finds, Found, is_nothing, simple_name};
 use crate::headers::has_supertypes;
@@ -75,32 +73,6 @@ impl<'a> MemberTypes<'a> {
                 levels: 0,
             },
         }
-    }
-
-    /// The member types of this name that a type declares.
-    pub fn declared(
-        &self,
-        of: &Found<'a>,
-        name: &str,
-        effort: &mut Effort,
-    ) -> Result<Finds<'a>, NoMemory>
-        ensures { IfOk result (λ f. finds_of f ≡ declared_types (find_of of.now) name.now) }
-    {
-        effort.take(children_count(of))?;
-        declared_types(self.alloc, of, name)
-    }
-
-    /// The type parameters of this name that an element declares.
-    pub fn parameters(
-        &self,
-        of: &Found<'a>,
-        name: &str,
-        effort: &mut Effort,
-    ) -> Result<Finds<'a>, NoMemory>
-        ensures { IfOk result (λ f. finds_of f ≡ declared_parameters (find_of of.now) name.now) }
-    {
-        effort.take(children_count(of))?;
-        declared_parameters(self.alloc, of, name)
     }
 
     /// The top-level type of this canonical name that a unit of a part meets.
