@@ -112,15 +112,21 @@ pub down_child : (path : List ℕ) (n node : Node) (i : ℕ) (child : Node) → 
 down_child [] n node i child is at =
     let same : n ≡ node = cc in
     ap (option_and_then (λ child. down [] child)) (ap (λ k. slice_get (children k) i) same ∙ at)
-down_child (step ∷ path) n node i child is at = by (slice_get (children n) step) is
+down_child (step ∷ path) n node i child is at = by (λ next there. down_child path next node i child there at) (slice_get (children n) step) is
   where
-    by : (o : Option Node) → option_and_then (λ child. down path child) o ≡ Some node → option_and_then (λ child. down (path ++ i ∷ []) child) o ≡ Some child
-    by None none = absurd (cc)
-    by (Some next) there = down_child path next node i child there at
+    by : ((next : Node) → down path next ≡ Some node → down (path ++ i ∷ []) next ≡ Some child) → (o : Option Node)
+        → option_and_then (λ x. down path x) o ≡ Some node → option_and_then (λ x. down (path ++ i ∷ []) x) o ≡ Some child
+    by rest None none = absurd (cc)
+    by rest (Some next) there = rest next there
 
 named : (name : List ℕ) (o : Option TypeDecl) → has_name name o ≡ true → (d : TypeDecl) × (o ≡ Some d) × (d.name ≡ name)
 named name None e = absurd (cc)
 named name (Some d) e = (d, refl, (bytes_eq-Decides d.name name).0 e)
+
+-- the same of what is equal
+pub within-is : (range range' : Option ChildRange) (unit unit' : Option UnitText) (path path' name : List ℕ) → range ≡ range' → unit ≡ unit' → path ≡ path' → AreWithin range unit path name → AreWithin range' unit' path' name
+within-is range range' unit unit' path path' name ranges units paths within =
+    subst (λ r. AreWithin r unit' path' name) ranges (subst (λ u. AreWithin range u path' name) units (subst (λ p. AreWithin range unit p name) paths within))
 
 module _ (f : Find) (name : List ℕ) (range : Option ChildRange) (within : AreWithin range (Some f.unit) f.path name) where
   -- the children of this name are within the range

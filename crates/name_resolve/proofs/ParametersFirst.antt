@@ -31,7 +31,7 @@ of_none : (xs : List Node) → AllByRecursion NoParameter xs → AreFirst xs
 of_none xs none n i x y at is behind at' = subst (OfSome NoParameter) at' (each_at NoParameter xs i none)
 
 behind_parameters : (ps : List TypeParam) (rest : List Node) → AllByRecursion NoParameter rest → AreFirst (map OfTypeParam ps ++ rest)
-behind_parameters [] rest none = of_none rest none
+behind_parameters [] rest none n i x y at is behind at' = of_none rest none n i x y at is behind at'
 behind_parameters (p ∷ ps) rest none zero i x y at is behind at' =
     let first : OfTypeParam p ≡ x = cc in
     let no : is_parameter (OfTypeParam p) ≡ false = ap is_parameter first ∙ is in

@@ -17,7 +17,7 @@ returns-then-not-is_parameter c =
 
 pub loop-number-preserved : goal.loop-number-preserved
 loop-number-preserved c =
-    rw (c.both-finds.ensures, c.in_ok-more.ensures, c.is_parameter_named.ensures) (sym (next _ _ _ _ _ _ (node_of c.in-Some.child) (sym c.in-Some.ensures)) ∙ c.loop-number.invariant)
+    rw (c.both-finds.ensures, c.in_ok-more-in-Some.ensures, c.is_parameter_named.ensures) (sym (next _ _ _ _ _ _ (node_of c.in-Some.child) (sym c.in-Some.ensures)) ∙ c.loop-number.invariant)
 
 pub returns : goal.returns
 returns c = sym (from_past _ _ _ _ _ _ (none_past (children (node_of c.args.place)) c.loop-number.number (omega (arith, c.requires)))) ∙ c.loop-number.invariant

@@ -7,3 +7,8 @@ pub along_declared-requires : goal.along_declared-requires
 along_declared-requires c =
     let table = c.args.self.now.table.now in
     subst (ArePlaced table) (sym c.in_ok-here.ensures) (tops-placed table c.requires c.args.part c.args.first.now)
+
+pub along_declared-requires-then-not-is_nothing-2 : goal.along_declared-requires-then-not-is_nothing-2
+along_declared-requires-then-not-is_nothing-2 c =
+    let table = c.args.self.now.table.now in
+    subst (ArePlaced table) (sym c.in_ok-here-2.ensures) (tops-placed table c.requires c.args.part _)
