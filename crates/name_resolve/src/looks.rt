@@ -23,7 +23,7 @@ use std::marker::Model;
 /// search gives each question its answers with no level, with one, and so on, until none of them changes: so
 /// circles of look-ups end there, and only what goes on changing is followed through all 64 levels.
 ///
-/// Out of memory comes also beyond 65,536 questions, and where one look-up would take more than 67,108,864
+/// Out of memory comes also beyond 98,304 questions, and where one look-up would take more than 67,108,864
 /// steps: comparisons with the name of a child of an element, and look-ups in maps, each counted as 32 of
 /// these.
 ///
@@ -57,6 +57,12 @@ impl<'a> Looks<'a> {
         Looks {
             members: MemberTypes::new(alloc, table),
         }
+    }
+
+    /// Whether so few questions are remembered that 65,536 more have room, and all of them are settled: then
+    /// these look-ups are as good for what comes as new ones. It takes no memory.
+    pub fn are_few(&self) -> bool {
+        self.members.are_few()
     }
 
     /// What a whole name means there, through all levels.

@@ -12,12 +12,15 @@ use call_effort::Effort;
 /// The levels of supertypes through which a look-up goes.
 pub(crate) const LEVELS: usize = MAX_TYPE_STEPS as usize;
 
-// How many questions are remembered at most.
-const MOST_QUESTIONS: usize = 65_536;
+// How many questions are remembered at most from one look-up to the next one.
+const MOST_KEPT: usize = 32_768;
+
+// How many there are at most: those that are remembered, and 65,536 more of one look-up.
+const MOST_QUESTIONS: usize = 98_304;
 
 impl<'a> MemberTypes<'a> {
     // Asks a question, unless it was asked before. Its type declares none of the name, so that nothing is
-    // found without any level. Out of memory beyond 65,536 questions.
+    // found without any level. Out of memory beyond 98,304 questions.
     fn ask(&mut self, wanted: Wanted<'a>) -> Result<(), NoMemory>
         requires wanted { IsQuestion self.old.table.now wanted }
         requires right { AreRight self.old }
@@ -226,9 +229,15 @@ impl<'a> MemberTypes<'a> {
         self.places.retain(|_, at| *at < place);
     }
 
+    /// Whether at most 32,768 questions are remembered, and all of them are settled: a question that never is
+    /// takes all later searches through 64 levels. It takes no memory.
+    pub(crate) fn are_few(&self) -> bool {
+        self.questions.len() <= MOST_KEPT && self.settled.count == self.questions.len()
+    }
+
     /// Asks questions that were not asked before, and gives them and all that they ask for in turn their
     /// answers: with no level, with one and so on, until none of them changes any more or all 64 levels are
-    /// gone through. Out of memory beyond 65,536 questions, or where the look-up has no steps left: then all
+    /// gone through. Out of memory beyond 98,304 questions, or where the look-up has no steps left: then all
     /// that was asked is forgotten again, so that no question is left with too few answers.
     pub(crate) fn learn(
         &mut self,

@@ -15,7 +15,8 @@ ghost use Rattle.type_resolve.specs.Scopes.{find_in, package_part, package_at, s
 use crate::annotations::reference;
 use crate::mirrors::{class_type, element_type, mirror};
 use crate::packages::Bare;
-use crate::scopes::{Scope, bare_at, found_bare, found_in};
+use crate::resolver::Resolver;
+use crate::scopes::{Scope, found_bare, found_in};
 use apt_base::{ElementRef, List, Name, NoMemory};
 use decl_elements::{Place, place_at};
 use decl_tree::{TypeText, Unit};
@@ -27,7 +28,6 @@ use std::alloc::Global;
 use type_mirror::{BaseMirror, Mirror};
 
 /// The mirror that a type means where it is written in what was found (JLS 6.4, 6.5.5).
-#[tactic(auto, unfolding(name_resolve::specs::Mirrors::type_meaning))]
 pub fn mirror_at<'a>(
     alloc: Global,
     table: &'a Table,
@@ -37,17 +37,35 @@ pub fn mirror_at<'a>(
     requires { IsPlaced table.now (find_of at) }
     ensures { IfOk result (λ m. m ≡ type_meaning table.now (Within (find_of at.entry)) text.now) }
 {
+    let mut looks = Looks::new(alloc, table);
+    mirror_with(alloc, &mut looks, table, at, text)
+}
+
+/// The same by look-ups over that table.
+#[tactic(auto, unfolding(name_resolve::specs::Mirrors::type_meaning))]
+pub(crate) fn mirror_with<'a>(
+    alloc: Global,
+    looks: &mut Looks<'a>,
+    table: &'a Table,
+    at: Found<'a>,
+    text: &TypeText,
+) -> Result<Mirror, NoMemory>
+    requires placed { IsPlaced table.now (find_of at) }
+    requires table { looks.old ≡ table.now }
+    ensures value { IfOk result (λ m. m ≡ type_meaning table.now (Within (find_of at.entry)) text.now) }
+    ensures kept { looks.new ≡ looks.old }
+{
     let scope = Scope {
         table,
         header: false,
         at,
     };
-    let mut looks = Looks::new(alloc, table);
-    mirror(alloc, &mut looks, &scope, text)
+    mirror(alloc, looks, &scope, text)
 }
 
-// The same in a package without a unit. Who calls holds the bare unit and lets it go.
-fn mirror_in_bare(
+/// The same in a package without a unit. Who calls holds the bare unit and lets it go, so that nothing is
+/// remembered of it.
+pub(crate) fn mirror_in_bare(
     alloc: Global,
     table: &Table,
     bare: &Bare,
@@ -60,7 +78,8 @@ fn mirror_in_bare(
     ensures { IfOk result (λ m. m ≡ type_meaning table.now (scope_in table.now scope.now) text.now) }
 {
     let at = found_bare(alloc, table, bare, scope)?;
-    mirror_at(alloc, table, at, text)
+    let mut looks = Looks::new(alloc, table);
+    mirror_with(alloc, &mut looks, table, at, text)
 }
 
 /// The mirror that a type means where it is written in this element, which is one of the table, as a condition (JLS 6.4, 6.5.5). A name that means nothing, or different types, gives an error type with the text. Types behind `extends` and `implements` are not for this call: `superclass` and `interfaces` have them.
@@ -73,18 +92,8 @@ pub fn resolve_type(
     requires { IsElement table.now scope.now }
     ensures { IfOk result (λ m. m ≡ type_meaning table.now (scope_in table.now scope.now) text.now) }
 {
-    match table.find(&scope.unit) {
-        Some(unit) => {
-            let at = found_in(alloc, table, unit, scope)?;
-            mirror_at(alloc, table, at, text)
-        }
-        None => {
-            let bare = bare_at(alloc, table, scope)?;
-            let meant = mirror_in_bare(alloc, table, &bare, scope, text);
-            drop(bare);
-            meant
-        }
-    }
+    let mut resolver = Resolver::new(alloc, table);
+    resolver.resolve_type(scope, text)
 }
 
 // The type of an implied name; where the table has none an error type with that name.
@@ -145,47 +154,60 @@ fn supertype<'a>(
     }
 }
 
+/// The superclass in the header of a type.
 #[tactic(auto, using(crate::proofs::HeaderLemmas::headers))]
-fn superclass_in(alloc: Global, scope: &Scope<'_>) -> Result<Mirror, NoMemory>
+pub(crate) fn superclass_in<'a>(
+    alloc: Global,
+    looks: &mut Looks<'a>,
+    scope: &Scope<'a>,
+) -> Result<Mirror, NoMemory>
     requires scope { IsScope scope.now }
     requires header { scope.now.header ≡ true }
-    ensures { IfOk result (λ m. m ≡ superclass scope.now.table.now (find_of scope.now.at)) }
+    requires table { looks.old ≡ scope.now.table.now }
+    ensures value { IfOk result (λ m. m ≡ superclass scope.now.table.now (find_of scope.now.at)) }
+    ensures kept { looks.new ≡ looks.old }
 {
     match superclass_at(&scope.at) {
         None => Ok(Mirror::plain(alloc, BaseMirror::Nothing)),
-        Some(each) => {
-            let mut looks = Looks::new(alloc, scope.table);
-            supertype(alloc, &mut looks, scope, each)
-        }
+        Some(each) => supertype(alloc, looks, scope, each),
     }
 }
 
-fn all_supertypes(
+fn all_supertypes<'a>(
     alloc: Global,
-    scope: &Scope<'_>,
+    looks: &mut Looks<'a>,
+    scope: &Scope<'a>,
     list: &[Supertype<'_>],
 ) -> Result<List<Mirror>, NoMemory>
     requires scope { IsScope scope.now }
     requires header { scope.now.header ≡ true }
-    ensures { IfOk result (λ all. all ≡ supertypes_in scope.now list.now) }
+    requires table { looks.old ≡ scope.now.table.now }
+    ensures value { IfOk result (λ all. all ≡ supertypes_in scope.now list.now) }
+    ensures kept { looks.new ≡ looks.old }
 {
-    let mut looks = Looks::new(alloc, scope.table);
     let mut mirrors = List::new(alloc);
     for each in list {
-        let one = supertype(alloc, &mut looks, scope, *each)?;
+        let one = supertype(alloc, looks, scope, *each)?;
         mirrors.push(one)?;
     }
     Ok(mirrors)
 }
 
+/// The interfaces in the header of a type.
 #[tactic(auto, using(crate::proofs::HeaderLemmas::headers))]
-fn interfaces_in(alloc: Global, scope: &Scope<'_>) -> Result<List<Mirror>, NoMemory>
+pub(crate) fn interfaces_in<'a>(
+    alloc: Global,
+    looks: &mut Looks<'a>,
+    scope: &Scope<'a>,
+) -> Result<List<Mirror>, NoMemory>
     requires scope { IsScope scope.now }
     requires header { scope.now.header ≡ true }
-    ensures { IfOk result (λ list. list ≡ interfaces scope.now.table.now (find_of scope.now.at)) }
+    requires table { looks.old ≡ scope.now.table.now }
+    ensures value { IfOk result (λ list. list ≡ interfaces scope.now.table.now (find_of scope.now.at)) }
+    ensures kept { looks.new ≡ looks.old }
 {
     let supertypes = interfaces_at(alloc, &scope.at)?;
-    let list = all_supertypes(alloc, scope, supertypes.as_slice())?;
+    let list = all_supertypes(alloc, looks, scope, supertypes.as_slice())?;
     Ok(list)
 }
 
@@ -217,8 +239,8 @@ pub fn is_type(table: &Table, at: &ElementRef) -> bool
     }
 }
 
-// Where the names in the header of a type are looked up.
-fn header_of<'a>(
+/// Where the names in the header of a type are looked up.
+pub(crate) fn header_of<'a>(
     alloc: Global,
     table: &'a Table,
     unit: &'a Unit,
@@ -245,13 +267,8 @@ pub fn superclass(alloc: Global, table: &Table, at: &ElementRef) -> Result<Mirro
     requires { IsType table.now at.now }
     ensures { IfOk result (λ m. m ≡ superclass table.now (find_in table.now at.now)) }
 {
-    match table.find(&at.unit) {
-        Some(unit) => {
-            let header = header_of(alloc, table, unit, at)?;
-            superclass_in(alloc, &header)
-        }
-        None => Ok(Mirror::plain(alloc, BaseMirror::Nothing)),
-    }
+    let mut resolver = Resolver::new(alloc, table);
+    resolver.superclass(at)
 }
 
 /// The interfaces of a type of the table, which it is as a condition, in their order: those of its header, and of an annotation interface `java.lang.annotation.Annotation` alone (JLS 8.1.5, 9.1.3, 9.6).
@@ -259,13 +276,8 @@ pub fn interfaces(alloc: Global, table: &Table, at: &ElementRef) -> Result<List<
     requires { IsType table.now at.now }
     ensures { IfOk result (λ list. list ≡ interfaces table.now (find_in table.now at.now)) }
 {
-    match table.find(&at.unit) {
-        Some(unit) => {
-            let header = header_of(alloc, table, unit, at)?;
-            interfaces_in(alloc, &header)
-        }
-        None => Ok(List::new(alloc)),
-    }
+    let mut resolver = Resolver::new(alloc, table);
+    resolver.interfaces(at)
 }
 
 /// The types that the header of what was found names or implies: its superclass, which is `Nothing` where it
@@ -284,8 +296,9 @@ pub fn header_types<'a>(
         header: true,
         at: copied(alloc, of)?,
     };
-    let mut types = vec![in alloc; superclass_in(alloc, &scope)?]?;
-    let mut interfaces = interfaces_in(alloc, &scope)?.into_vec();
+    let mut looks = Looks::new(alloc, table);
+    let mut types = vec![in alloc; superclass_in(alloc, &mut looks, &scope)?]?;
+    let mut interfaces = interfaces_in(alloc, &mut looks, &scope)?.into_vec();
     types.append(&mut interfaces)?;
     Ok(List::from_vec(types))
 }
