@@ -1,3 +1,4 @@
 pub mod MirrorParts
+pub mod Remembered
 pub mod Scopes
 pub mod Spelling

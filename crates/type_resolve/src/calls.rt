@@ -93,7 +93,7 @@ pub fn resolve_type(
     ensures { IfOk result (λ m. m ≡ type_meaning table.now (scope_in table.now scope.now) text.now) }
 {
     let mut resolver = Resolver::new(alloc, table);
-    resolver.resolve_type(scope, text)
+    resolver.meaning(scope, text)
 }
 
 // The type of an implied name; where the table has none an error type with that name.
@@ -268,7 +268,7 @@ pub fn superclass(alloc: Global, table: &Table, at: &ElementRef) -> Result<Mirro
     ensures { IfOk result (λ m. m ≡ superclass table.now (find_in table.now at.now)) }
 {
     let mut resolver = Resolver::new(alloc, table);
-    resolver.superclass(at)
+    resolver.superclass_of(at)
 }
 
 /// The interfaces of a type of the table, which it is as a condition, in their order: those of its header, and of an annotation interface `java.lang.annotation.Annotation` alone (JLS 8.1.5, 9.1.3, 9.6).
@@ -277,7 +277,7 @@ pub fn interfaces(alloc: Global, table: &Table, at: &ElementRef) -> Result<List<
     ensures { IfOk result (λ list. list ≡ interfaces table.now (find_in table.now at.now)) }
 {
     let mut resolver = Resolver::new(alloc, table);
-    resolver.interfaces(at)
+    resolver.interfaces_of(at)
 }
 
 /// The types that the header of what was found names or implies: its superclass, which is `Nothing` where it

@@ -9,6 +9,8 @@
 
 mod annotations;
 mod calls;
+mod known_headers;
+mod known_texts;
 mod mirrors;
 mod packages;
 mod resolver;

@@ -1,10 +1,13 @@
-// What is meant over one table, with the look-ups that are remembered.
-ghost use Rattle.std.specs.Prelude.{◌≡◌, IfOk};
+// What is meant over one table, of which what was looked up is remembered.
+ghost use Rattle.std.specs.Prelude.{◌≡◌, IfOk, IfSome};
 ghost use Rattle.element_table.specs.TypeTable.{IsTable};
 ghost use Rattle.name_resolve.specs.Mirrors.{type_meaning, superclass, interfaces};
+ghost use Rattle.type_resolve.specs.Remembered.{IsHeader, IsText};
 ghost use Rattle.type_resolve.specs.Scopes.{find_in, scope_in, IsElement, IsType};
 
-use crate::calls::{header_of, interfaces_in, mirror_with, mirror_in_bare, superclass_in};
+use crate::calls::{header_of, interfaces_in, mirror_in_bare, mirror_with, superclass_in};
+use crate::known_headers::{KnownHeader, KnownHeaders, copied};
+use crate::known_texts::{KnownText, KnownTexts};
 use crate::scopes::{bare_at, found_in};
 use apt_base::{ElementRef, List, NoMemory};
 use decl_tree::TypeText;
@@ -14,21 +17,28 @@ use std::alloc::Global;
 use std::marker::Model;
 use type_mirror::{BaseMirror, Mirror};
 
-/// What types and headers mean in elements of one table. What was looked up of its names is remembered from
-/// one call to the next. Contracts see the table alone, so that the answers are the same, whatever was asked
-/// before.
+/// What types and headers mean in elements of one table. Contracts see the table alone, so that the answers are
+/// those of the calls `resolve_type`, `superclass` and `interfaces`, whatever was asked before.
+///
+/// From one call to the next it remembers what each type means in the element where it is written, for up to
+/// 32,768 of them; the superclass and the interfaces of each type, for up to 32,768 types; and which member
+/// types of a name a type inherits, for up to 32,768 names of types. Beyond its number a text or a header is
+/// looked up each time, and where there are more inherited names, or one of them is never settled, all names
+/// are forgotten.
 #[derive(Drop)]
 pub struct Resolver<'a> {
     alloc: Global,
     table: &'a Table,
     // The look-ups, where some are remembered.
     looks: Option<Looks<'a>>,
+    texts: KnownTexts,
+    headers: KnownHeaders,
 }
 
 impl<'a> Model for Resolver<'a> {
-    ghost use Rattle.std.specs.Prelude.{◌≡◌, IfSome};
     ghost use Rattle.element_table.specs.TypeTable.{TypeTable};
     ghost use Rattle.element_table.specs.Held.{table_code};
+    ghost use Rattle.type_resolve.specs.Remembered.{IsRemembered};
 
     ghost Value = { TypeTable };
 
@@ -36,7 +46,7 @@ impl<'a> Model for Resolver<'a> {
 
     ghost view = { λ a. a.table.now };
 
-    ghost invariant = { λ a. IfSome a.looks (λ looks. looks ≡ a.table.now) };
+    ghost invariant = { λ a. IsRemembered a.table.now a.looks a.texts a.headers };
 }
 
 impl<'a> Resolver<'a> {
@@ -48,6 +58,8 @@ impl<'a> Resolver<'a> {
             alloc,
             table,
             looks: None,
+            texts: KnownTexts::new(alloc),
+            headers: KnownHeaders::new(alloc),
         }
     }
 
@@ -57,6 +69,8 @@ impl<'a> Resolver<'a> {
     {
         self.table
     }
+
+    // ---- look-ups
 
     // The look-ups, which are then no longer remembered.
     fn take_looks(&mut self) -> Looks<'a>
@@ -80,8 +94,14 @@ impl<'a> Resolver<'a> {
         }
     }
 
-    /// The mirror that a type means where it is written in this element, as the call `resolve_type` gives it.
-    pub fn resolve_type(&mut self, scope: &ElementRef, text: &TypeText) -> Result<Mirror, NoMemory>
+    // ---- types where they are written
+
+    /// The mirror that a type means in this element, without a look at what is remembered of it.
+    pub(crate) fn meaning(
+        &mut self,
+        scope: &ElementRef,
+        text: &TypeText,
+    ) -> Result<Mirror, NoMemory>
         requires { IsElement self.old scope.now }
         ensures value { IfOk result (λ m. m ≡ type_meaning self.old (scope_in self.old scope.now) text.now) }
         ensures kept { self.new ≡ self.old }
@@ -104,8 +124,58 @@ impl<'a> Resolver<'a> {
         }
     }
 
-    /// The superclass of a type of the table, as the call `superclass` gives it.
-    pub fn superclass(&mut self, at: &ElementRef) -> Result<Mirror, NoMemory>
+    // What is remembered of a text in an element.
+    fn recalled_text(&self, scope: &ElementRef, text: &TypeText) -> Result<Option<Mirror>, NoMemory>
+        ensures { IfOk result (λ found. IfSome found
+            (λ m. m ≡ type_meaning self.now (scope_in self.now scope.now) text.now)) }
+    {
+        match self.texts.find(scope, text)? {
+            None => Ok(None),
+            Some(known) => {
+                let copy = known.meant.copy(self.alloc)?;
+                Ok(Some(copy))
+            }
+        }
+    }
+
+    fn remember_text(
+        &mut self,
+        scope: &ElementRef,
+        text: &TypeText,
+        meant: &Mirror,
+    ) -> Result<(), NoMemory>
+        requires { meant.now ≡ type_meaning self.old (scope_in self.old scope.now) text.now }
+        ensures { self.new ≡ self.old }
+    {
+        if self.texts.is_full() {
+            return Ok(());
+        }
+        let at = scope.copy(self.alloc)?;
+        let text = text.copy(self.alloc)?;
+        let meant = meant.copy(self.alloc)?;
+        self.texts.add(KnownText { at, text, meant })
+    }
+
+    /// The mirror that a type means where it is written in this element, as the call `resolve_type` gives it.
+    pub fn resolve_type(&mut self, scope: &ElementRef, text: &TypeText) -> Result<Mirror, NoMemory>
+        requires { IsElement self.old scope.now }
+        ensures value { IfOk result (λ m. m ≡ type_meaning self.old (scope_in self.old scope.now) text.now) }
+        ensures kept { self.new ≡ self.old }
+    {
+        match self.recalled_text(scope, text)? {
+            Some(known) => Ok(known),
+            None => {
+                let meant = self.meaning(scope, text)?;
+                self.remember_text(scope, text, &meant)?;
+                Ok(meant)
+            }
+        }
+    }
+
+    // ---- headers
+
+    /// The superclass of a type, without a look at what is remembered of it.
+    pub(crate) fn superclass_of(&mut self, at: &ElementRef) -> Result<Mirror, NoMemory>
         requires { IsType self.old at.now }
         ensures value { IfOk result (λ m. m ≡ superclass self.old (find_in self.old at.now)) }
         ensures kept { self.new ≡ self.old }
@@ -123,8 +193,8 @@ impl<'a> Resolver<'a> {
         }
     }
 
-    /// The interfaces of a type of the table, as the call `interfaces` gives them.
-    pub fn interfaces(&mut self, at: &ElementRef) -> Result<List<Mirror>, NoMemory>
+    /// The interfaces of a type, without a look at what is remembered of them.
+    pub(crate) fn interfaces_of(&mut self, at: &ElementRef) -> Result<List<Mirror>, NoMemory>
         requires { IsType self.old at.now }
         ensures value { IfOk result (λ list. list ≡ interfaces self.old (find_in self.old at.now)) }
         ensures kept { self.new ≡ self.old }
@@ -139,6 +209,92 @@ impl<'a> Resolver<'a> {
                 Ok(list)
             }
             None => Ok(List::new(alloc)),
+        }
+    }
+
+    // The superclass and the interfaces of a type.
+    fn found_header(&mut self, at: &ElementRef) -> Result<KnownHeader, NoMemory>
+        requires { IsType self.old at.now }
+        ensures at { IfOk result (λ header. header.at ≡ at.now) }
+        ensures header { IfOk result (λ header. IsHeader self.old header) }
+        ensures kept { self.new ≡ self.old }
+    {
+        let superclass = self.superclass_of(at)?;
+        let interfaces = self.interfaces_of(at)?;
+        let at = at.copy(self.alloc)?;
+        Ok(KnownHeader {
+            at,
+            superclass,
+            interfaces,
+        })
+    }
+
+    fn remember_header(&mut self, header: KnownHeader) -> Result<(), NoMemory>
+        requires { IsHeader self.old header.entry }
+        ensures { self.new ≡ self.old }
+    {
+        self.headers.add(header)
+    }
+
+    // What is remembered of the superclass of a type.
+    fn recalled_superclass(&self, at: &ElementRef) -> Result<Option<Mirror>, NoMemory>
+        ensures { IfOk result (λ found. IfSome found
+            (λ m. m ≡ superclass self.now (find_in self.now at.now))) }
+    {
+        match self.headers.find(at)? {
+            None => Ok(None),
+            Some(known) => {
+                let copy = known.superclass.copy(self.alloc)?;
+                Ok(Some(copy))
+            }
+        }
+    }
+
+    // What is remembered of the interfaces of a type.
+    fn recalled_interfaces(&self, at: &ElementRef) -> Result<Option<List<Mirror>>, NoMemory>
+        ensures { IfOk result (λ found. IfSome found
+            (λ list. list ≡ interfaces self.now (find_in self.now at.now))) }
+    {
+        match self.headers.find(at)? {
+            None => Ok(None),
+            Some(known) => {
+                let copy = copied(self.alloc, known.interfaces.as_slice())?;
+                Ok(Some(copy))
+            }
+        }
+    }
+
+    /// The superclass of a type of the table, as the call `superclass` gives it.
+    pub fn superclass(&mut self, at: &ElementRef) -> Result<Mirror, NoMemory>
+        requires { IsType self.old at.now }
+        ensures value { IfOk result (λ m. m ≡ superclass self.old (find_in self.old at.now)) }
+        ensures kept { self.new ≡ self.old }
+    {
+        match self.recalled_superclass(at)? {
+            Some(known) => Ok(known),
+            None => {
+                let header = self.found_header(at)?;
+                let superclass = header.superclass.copy(self.alloc)?;
+                self.remember_header(header)?;
+                Ok(superclass)
+            }
+        }
+    }
+
+    /// The interfaces of a type of the table, as the call `interfaces` gives them.
+    pub fn interfaces(&mut self, at: &ElementRef) -> Result<List<Mirror>, NoMemory>
+        requires { IsType self.old at.now }
+        ensures value { IfOk result (λ list. list ≡ interfaces self.old (find_in self.old at.now)) }
+        ensures kept { self.new ≡ self.old }
+    {
+        match self.recalled_interfaces(at)? {
+            Some(known) => Ok(known),
+            None => {
+                let header = self.found_header(at)?;
+                let interfaces = copied(self.alloc, header.interfaces.as_slice())?;
+                self.remember_header(header)?;
+                Ok(interfaces)
+            }
         }
     }
 }

@@ -154,3 +154,12 @@ pub(crate) fn spelled(alloc: Global, parts: &[NamedPart]) -> Result<String, NoMe
     add_parts(&mut text, parts)?;
     Ok(text)
 }
+
+/// The text of a type.
+pub(crate) fn spelled_type(alloc: Global, of: &TypeText) -> Result<String, NoMemory>
+    ensures { IfOk result (λ text. string_bytes text ≡ type_spelled of.now) }
+{
+    let mut text = String::new(alloc);
+    add_type(&mut text, of)?;
+    Ok(text)
+}

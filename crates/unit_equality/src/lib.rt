@@ -10,4 +10,5 @@ mod texts;
 mod types;
 mod units;
 
+pub use types::is_same_type;
 pub use units::is_equal;

@@ -13,7 +13,7 @@ fn is_same_kind(one: &PrimitiveKind, other: &PrimitiveKind) -> bool
 
 /// The same type, letter by letter: nothing is resolved.
 #[cycle(types)]
-pub(crate) fn is_same_type(one: &TypeText, other: &TypeText) -> bool
+pub fn is_same_type(one: &TypeText, other: &TypeText) -> bool
     ensures { IsTrue result ↔ one.now ≡ other.now }
 {
     is_same_around(one.around.as_slice(), other.around.as_slice())
