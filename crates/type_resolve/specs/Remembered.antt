@@ -18,14 +18,14 @@ AreTexts table texts = AllByRecursion (IsText table) texts.list.items
 
 -- the supertypes are those of the header of its type
 pub record IsHeader (table : TypeTable) (known : KnownHeader) : Type 0 where
-  pub superclass : known.superclass ≡ superclass table (find_in table known.at)
-  pub interfaces : known.interfaces ≡ interfaces table (find_in table known.at)
+  pub first : known.superclass ≡ superclass table (find_in table known.at)
+  pub others : known.interfaces ≡ interfaces table (find_in table known.at)
 
 abbrev pub AreHeaders : TypeTable → KnownHeaders → Type 0
 AreHeaders table headers = AllByRecursion (IsHeader table) headers.list.items
 
 -- all of it is right
 pub record IsRemembered (table : TypeTable) (looks : Option TypeTable) (texts : KnownTexts) (headers : KnownHeaders) : Type 0 where
-  pub over : IfSome looks (λ over. over ≡ table)
-  pub texts : AreTexts table texts
-  pub headers : AreHeaders table headers
+  pub looked_up : IfSome looks (λ over. over ≡ table)
+  pub meant : AreTexts table texts
+  pub written : AreHeaders table headers

@@ -81,7 +81,7 @@ impl KnownHeaders {
 
     /// Remembers one, unless as many are remembered as may be: 32,768.
     pub fn add(&mut self, known: KnownHeader) -> Result<(), NoMemory>
-        ensures { (table : TypeTable) → AreHeaders table self.old → IsHeader table known.entry
+        ensures { (table : TypeTable) → AreHeaders table self.old → IsHeader table known
             → AreHeaders table self.new }
     {
         let place = self.list.len();

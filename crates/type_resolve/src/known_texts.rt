@@ -96,7 +96,7 @@ impl KnownTexts {
 
     /// Remembers one.
     pub fn add(&mut self, known: KnownText) -> Result<(), NoMemory>
-        ensures { (table : TypeTable) → AreTexts table self.old → IsText table known.entry
+        ensures { (table : TypeTable) → AreTexts table self.old → IsText table known
             → AreTexts table self.new }
     {
         let place = self.list.len();

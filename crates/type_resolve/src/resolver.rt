@@ -230,7 +230,7 @@ impl<'a> Resolver<'a> {
     }
 
     fn remember_header(&mut self, header: KnownHeader) -> Result<(), NoMemory>
-        requires { IsHeader self.old header.entry }
+        requires { IsHeader self.old header }
         ensures { self.new ≡ self.old }
     {
         self.headers.add(header)
