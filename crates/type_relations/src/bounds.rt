@@ -13,7 +13,26 @@ use decl_tree::TypeText;
 use element_table::Table;
 use std::alloc::Global;
 use type_mirror::Mirror;
-use type_resolve::resolve_type;
+use type_resolve::{Resolver, resolve_type};
+
+/// The types that several texts mean in an element, as `written_types` gives them.
+pub fn written_types_with(
+    alloc: Global,
+    resolver: &mut Resolver<'_>,
+    at: &ElementRef,
+    texts: &[TypeText],
+) -> Result<List<Mirror>, NoMemory>
+    requires { IsElement resolver.old at.now }
+    ensures value { IfOk result (λ list. list ≡ named.written_types resolver.old at.now texts.now) }
+    ensures kept { resolver.new ≡ resolver.old }
+{
+    let mut list = List::new(alloc);
+    for each in texts {
+        let one = resolver.resolve_type(at, each)?;
+        list.push(one)?;
+    }
+    Ok(list)
+}
 
 /// The types that several texts mean in an element of the table, which it is as a condition.
 pub fn written_types(
@@ -25,12 +44,8 @@ pub fn written_types(
     requires { IsElement table.now at.now }
     ensures { IfOk result (λ list. list ≡ named.written_types table.now at.now texts.now) }
 {
-    let mut list = List::new(alloc);
-    for each in texts {
-        let one = resolve_type(alloc, table, at, each)?;
-        list.push(one)?;
-    }
-    Ok(list)
+    let mut resolver = Resolver::new(alloc, table);
+    written_types_with(alloc, &mut resolver, at, texts)
 }
 
 fn bounds_of<'a>(place: Place<'a>) -> &'a [TypeText]

@@ -15,7 +15,7 @@ use decl_tree::{Member, TypeKind};
 use element_table::Table;
 use std::alloc::Global;
 use type_mirror::{BaseMirror, Mirror};
-use type_resolve::{interfaces, is_type, superclass};
+use type_resolve::{Resolver, is_type};
 
 // ---- interfaces
 
@@ -78,17 +78,30 @@ fn with_superclass(superclass: Mirror, interfaces: List<Mirror>) -> Result<List<
     put_first(superclass, interfaces)
 }
 
-/// The superclass of a type in the table, if it has one, and then its interfaces in order, as they are written or implied. `java.lang.Object` is none of an interface; what is no type has none.
+/// The superclass and the interfaces of a type, as `header_types` gives them.
 #[tactic(auto, unfolding(crate::specs::Named::header_types))]
+pub fn header_types_with(
+    alloc: Global,
+    resolver: &mut Resolver<'_>,
+    at: &ElementRef,
+) -> Result<List<Mirror>, NoMemory>
+    ensures value { IfOk result (λ list. list ≡ header_types resolver.old at.now) }
+    ensures kept { resolver.new ≡ resolver.old }
+{
+    if !is_type(resolver.table(), at) {
+        return Ok(List::new(alloc));
+    }
+    let superclass = resolver.superclass(at)?;
+    let interfaces = resolver.interfaces(at)?;
+    with_superclass(superclass, interfaces)
+}
+
+/// The superclass of a type in the table, if it has one, and then its interfaces in order, as they are written or implied. `java.lang.Object` is none of an interface; what is no type has none.
 pub fn header_types(alloc: Global, table: &Table, at: &ElementRef) -> Result<List<Mirror>, NoMemory>
     ensures { IfOk result (λ list. list ≡ header_types table.now at.now) }
 {
-    if !is_type(table, at) {
-        return Ok(List::new(alloc));
-    }
-    let superclass = superclass(alloc, table, at)?;
-    let interfaces = interfaces(alloc, table, at)?;
-    with_superclass(superclass, interfaces)
+    let mut resolver = Resolver::new(alloc, table);
+    header_types_with(alloc, &mut resolver, at)
 }
 
 fn object_of_interface(
@@ -118,8 +131,21 @@ fn or_object(
     Ok(types)
 }
 
-/// The supertypes of a type in the table as its header has them, the superclass before the interfaces. An interface without any has `java.lang.Object`; what is no type has none.
+/// The supertypes of a type, as `declared_supertypes` gives them.
 #[tactic(auto, unfolding(crate::specs::Named::declared_supertypes))]
+pub fn declared_supertypes_with(
+    alloc: Global,
+    resolver: &mut Resolver<'_>,
+    at: &ElementRef,
+) -> Result<List<Mirror>, NoMemory>
+    ensures value { IfOk result (λ list. list ≡ named.declared_supertypes resolver.old at.now) }
+    ensures kept { resolver.new ≡ resolver.old }
+{
+    let types = header_types_with(alloc, resolver, at)?;
+    or_object(alloc, resolver.table(), at, types)
+}
+
+/// The supertypes of a type in the table as its header has them, the superclass before the interfaces. An interface without any has `java.lang.Object`; what is no type has none.
 pub fn declared_supertypes(
     alloc: Global,
     table: &Table,
@@ -127,6 +153,6 @@ pub fn declared_supertypes(
 ) -> Result<List<Mirror>, NoMemory>
     ensures { IfOk result (λ list. list ≡ named.declared_supertypes table.now at.now) }
 {
-    let types = header_types(alloc, table, at)?;
-    or_object(alloc, table, at, types)
+    let mut resolver = Resolver::new(alloc, table);
+    declared_supertypes_with(alloc, &mut resolver, at)
 }

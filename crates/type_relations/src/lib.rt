@@ -17,10 +17,10 @@ mod places;
 mod replacing;
 mod supertypes;
 
-pub use bounds::written_types;
+pub use bounds::{written_types, written_types_with};
 pub use boxing::{box_of, boxed_kind, primitive_of};
 pub use erasing::erasure_within;
-pub use headers::{declared_supertypes, header_types};
+pub use headers::{declared_supertypes, declared_supertypes_with, header_types, header_types_with};
 pub use named::named_type;
 pub use parts::{array_of, class_type, executable};
 pub use places::{
