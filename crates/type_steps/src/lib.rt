@@ -17,4 +17,4 @@ mod supertypes;
 pub use entries::replaced_in;
 pub use erasing::erasure_of;
 pub use raw::is_raw;
-pub use supertypes::direct_of;
+pub use supertypes::{direct_of, direct_with};

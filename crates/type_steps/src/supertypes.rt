@@ -1,5 +1,5 @@
 // Direct supertypes by numbers.
-ghost use Rattle.std.specs.Prelude.{[], Some, unwrap_or, IfOk};
+ghost use Rattle.std.specs.Prelude.{◌≡◌, [], Some, unwrap_or, IfOk};
 ghost use Rattle.type_numbers.specs.Numbers.{IsKnown, AreKnown, AllStand, Grows};
 ghost use Rattle.type_relations.specs.Direct as directs;
 ghost use Rattle.type_numbers.specs.Replaced.{AreKnownIn, all_replaced};
@@ -15,7 +15,8 @@ use element_table::Table;
 use std::alloc::Global;
 use type_mirror::{BaseMirror, Mirror, PrimitiveKind};
 use type_numbers::{Node, Types, substitute};
-use type_relations::{array_of, class_type, declared_supertypes, direct};
+use type_relations::{array_of, class_type, declared_supertypes_with, direct};
+use type_resolve::Resolver;
 
 // Of a type that is small as a tree.
 fn of_mirror(
@@ -55,16 +56,18 @@ fn substitute_each(
 // What the header has, with what the class type puts in the place of type parameters.
 fn of_header(
     alloc: Global,
-    table: &Table,
+    resolver: &mut Resolver<'_>,
     types: &mut Types,
     element: ElementRef,
     number: usize,
 ) -> Result<List<usize>, NoMemory>
     requires { IsKnown types.old number }
-    ensures stands { IfOk result (λ n. AllStand types.new n (header_at table.now types.old element number)) }
+    ensures stands { IfOk result (λ n. AllStand types.new n (header_at resolver.old types.old element number)) }
     ensures grows { Grows types.old types.new }
+    ensures kept { resolver.new ≡ resolver.old }
 {
-    let header = declared_supertypes(alloc, table, &element)?;
+    let table = resolver.table();
+    let header = declared_supertypes_with(alloc, resolver, &element)?;
     let by = replacements(alloc, table, types, number)?;
     let numbers = add_each(alloc, types, header.as_slice())?;
     substitute_each(alloc, types, by.as_slice(), numbers.as_slice())
@@ -131,14 +134,16 @@ fn of_array(
 // Of what is no array.
 fn of_item(
     alloc: Global,
-    table: &Table,
+    resolver: &mut Resolver<'_>,
     types: &mut Types,
     number: usize,
 ) -> Result<Option<List<usize>>, NoMemory>
     requires { IsKnown types.old number }
-    ensures stands { IfOk result (λ n. AllMayStand types.new n (item_at table.now types.old number)) }
+    ensures stands { IfOk result (λ n. AllMayStand types.new n (item_at resolver.old types.old number)) }
     ensures grows { Grows types.old types.new }
+    ensures kept { resolver.new ≡ resolver.old }
 {
+    let table = resolver.table();
     let node = types.node(number).copy(alloc)?;
     match node {
         Node::Primitive(kind) => {
@@ -154,11 +159,34 @@ fn of_item(
                 let mirror = class_type(alloc, element, List::new(alloc));
                 return of_mirror(alloc, table, types, &mirror);
             }
-            let supertypes = of_header(alloc, table, types, element, number)?;
+            let supertypes = of_header(alloc, resolver, types, element, number)?;
             Ok(Some(supertypes))
         }
         _ => Ok(Some(List::new(alloc))),
     }
+}
+
+/// The numbers of the direct supertypes of the type with this number, as `direct_of` gives them.
+pub fn direct_with(
+    alloc: Global,
+    resolver: &mut Resolver<'_>,
+    types: &mut Types,
+    number: usize,
+) -> Result<Option<List<usize>>, NoMemory>
+    requires { IsKnown types.old number }
+    ensures stands { IfOk result (λ n. AllMayStand types.new n (direct_at resolver.old types.old number)) }
+    ensures grows { Grows types.old types.new }
+    ensures kept { resolver.new ≡ resolver.old }
+{
+    let table = resolver.table();
+    let (around, item) = item_of(types, number);
+    let mut primitive = is_primitive(types, item);
+    let mut all = of_item(alloc, resolver, types, item)?;
+    for _ in 0..around {
+        all = of_array(alloc, table, types, primitive, all)?;
+        primitive = false;
+    }
+    Ok(all)
 }
 
 /// The numbers of the direct supertypes of the type with this number (JLS 4.10.1 to 4.10.3), the superclass before the interfaces; `None` where those of a raw type have no erasure within 64 steps. Each is added where it is not there, and each number that was given before still has the same type.
@@ -172,12 +200,6 @@ pub fn direct_of(
     ensures stands { IfOk result (λ n. AllMayStand types.new n (direct_at table.now types.old number)) }
     ensures grows { Grows types.old types.new }
 {
-    let (around, item) = item_of(types, number);
-    let mut primitive = is_primitive(types, item);
-    let mut all = of_item(alloc, table, types, item)?;
-    for _ in 0..around {
-        all = of_array(alloc, table, types, primitive, all)?;
-        primitive = false;
-    }
-    Ok(all)
+    let mut resolver = Resolver::new(alloc, table);
+    direct_with(alloc, &mut resolver, types, number)
 }
