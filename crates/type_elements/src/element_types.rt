@@ -20,9 +20,9 @@ use std::alloc::Global;
 use type_mirror::{BaseMirror, Mirror};
 use type_relations::{
     around_of, array_of, canonical_name, class_type, executable, named_type, place_of,
-    type_parameters, written_types,
+    type_parameters, written_types_with,
 };
-use type_resolve::resolve_type;
+use type_resolve::Resolver;
 
 // ---- mirrors
 
@@ -76,16 +76,17 @@ fn enclosing_type(alloc: Global, table: &Table, at: &ElementRef) -> Result<Mirro
 
 fn parameter_types(
     alloc: Global,
-    table: &Table,
+    resolver: &mut Resolver<'_>,
     at: &ElementRef,
     parameters: &[Param],
 ) -> Result<List<Mirror>, NoMemory>
-    requires { IsElement table.now at.now }
-    ensures { IfOk result (λ list. list ≡ parameter_types table.now at.now parameters.now) }
+    requires { IsElement resolver.old at.now }
+    ensures value { IfOk result (λ list. list ≡ parameter_types resolver.old at.now parameters.now) }
+    ensures kept { resolver.new ≡ resolver.old }
 {
     let mut list = List::new(alloc);
     for each in parameters {
-        let one = resolve_type(alloc, table, at, &each.of)?;
+        let one = resolver.resolve_type(at, &each.of)?;
         list.push(one)?;
     }
     Ok(list)
@@ -93,66 +94,70 @@ fn parameter_types(
 
 fn executable_type(
     alloc: Global,
-    table: &Table,
+    resolver: &mut Resolver<'_>,
     at: &ElementRef,
     parameters: &[Param],
     outcome: Mirror,
     thrown: &[TypeText],
 ) -> Result<Mirror, NoMemory>
-    requires { IsElement table.now at.now }
-    ensures { IfOk result (λ m. m ≡ executable_type table.now at.now parameters.now outcome thrown.now) }
+    requires { IsElement resolver.old at.now }
+    ensures value { IfOk result (λ m. m ≡ executable_type resolver.old at.now parameters.now outcome thrown.now) }
+    ensures kept { resolver.new ≡ resolver.old }
 {
-    let variables = type_parameters(alloc, table, at)?;
-    let parameters = parameter_types(alloc, table, at, parameters)?;
-    let thrown = written_types(alloc, table, at, thrown)?;
+    let variables = type_parameters(alloc, resolver.table(), at)?;
+    let parameters = parameter_types(alloc, resolver, at, parameters)?;
+    let thrown = written_types_with(alloc, resolver, at, thrown)?;
     executable(alloc, variables, parameters, outcome, thrown)
 }
 
 fn method_type(
     alloc: Global,
-    table: &Table,
+    resolver: &mut Resolver<'_>,
     at: &ElementRef,
     method: &MethodDecl,
 ) -> Result<Mirror, NoMemory>
-    requires { IsElement table.now at.now }
-    ensures { IfOk result (λ m. m ≡ member_type table.now at.now (Member-F.Method method.now)) }
+    requires { IsElement resolver.old at.now }
+    ensures value { IfOk result (λ m. m ≡ member_type resolver.old at.now (Member-F.Method method.now)) }
+    ensures kept { resolver.new ≡ resolver.old }
 {
-    let outcome = resolve_type(alloc, table, at, &method.result)?;
+    let outcome = resolver.resolve_type(at, &method.result)?;
     let parameters = method.arguments.as_slice();
     let thrown = method.thrown.as_slice();
-    executable_type(alloc, table, at, parameters, outcome, thrown)
+    executable_type(alloc, resolver, at, parameters, outcome, thrown)
 }
 
 fn constructor_type(
     alloc: Global,
-    table: &Table,
+    resolver: &mut Resolver<'_>,
     at: &ElementRef,
     constructor: &ConstructorDecl,
 ) -> Result<Mirror, NoMemory>
-    requires { IsElement table.now at.now }
-    ensures { IfOk result (λ m. m ≡ member_type table.now at.now (Member-F.Constructor constructor.now)) }
+    requires { IsElement resolver.old at.now }
+    ensures value { IfOk result (λ m. m ≡ member_type resolver.old at.now (Member-F.Constructor constructor.now)) }
+    ensures kept { resolver.new ≡ resolver.old }
 {
     let outcome = void(alloc);
     let parameters = constructor.arguments.as_slice();
     let thrown = constructor.thrown.as_slice();
-    executable_type(alloc, table, at, parameters, outcome, thrown)
+    executable_type(alloc, resolver, at, parameters, outcome, thrown)
 }
 
 fn member_type(
     alloc: Global,
-    table: &Table,
+    resolver: &mut Resolver<'_>,
     at: &ElementRef,
     member: &Member,
 ) -> Result<Mirror, NoMemory>
-    requires { IsElement table.now at.now }
-    ensures { IfOk result (λ m. m ≡ member_type table.now at.now (out-Member member.now)) }
+    requires { IsElement resolver.old at.now }
+    ensures value { IfOk result (λ m. m ≡ member_type resolver.old at.now (out-Member member.now)) }
+    ensures kept { resolver.new ≡ resolver.old }
 {
     match member {
-        Member::Field(field) => resolve_type(alloc, table, at, &field.of),
-        Member::Method(method) => method_type(alloc, table, at, method),
-        Member::Constructor(constructor) => constructor_type(alloc, table, at, constructor),
-        Member::Constant(_) => enclosing_type(alloc, table, at),
-        Member::Nested(_) => own_type(alloc, table, at),
+        Member::Field(field) => resolver.resolve_type(at, &field.of),
+        Member::Method(method) => method_type(alloc, resolver, at, method),
+        Member::Constructor(constructor) => constructor_type(alloc, resolver, at, constructor),
+        Member::Constant(_) => enclosing_type(alloc, resolver.table(), at),
+        Member::Nested(_) => own_type(alloc, resolver.table(), at),
     }
 }
 
@@ -218,33 +223,47 @@ fn package_type(alloc: Global, table: &Table, at: &ElementRef) -> Result<Mirror,
 
 fn node_type(
     alloc: Global,
-    table: &Table,
+    resolver: &mut Resolver<'_>,
     at: &ElementRef,
     place: Place<'_>,
 ) -> Result<Mirror, NoMemory>
-    requires { node_at table.now at.now ≡ Some (node_of place) }
-    ensures { IfOk result (λ m. m ≡ node_type table.now at.now (node_of place.entry)) }
+    requires { node_at resolver.old at.now ≡ Some (node_of place) }
+    ensures value { IfOk result (λ m. m ≡ node_type resolver.old at.now (node_of place.entry)) }
+    ensures kept { resolver.new ≡ resolver.old }
 {
     match place {
-        Place::Package(_) => package_type(alloc, table, at),
-        Place::Top(_) => own_type(alloc, table, at),
-        Place::Inside(_, member) => member_type(alloc, table, at, member),
+        Place::Package(_) => package_type(alloc, resolver.table(), at),
+        Place::Top(_) => own_type(alloc, resolver.table(), at),
+        Place::Inside(_, member) => member_type(alloc, resolver, at, member),
         Place::TypeParameter(_) => variable(alloc, at),
-        Place::Parameter(parameter) => resolve_type(alloc, table, at, &parameter.of),
+        Place::Parameter(parameter) => resolver.resolve_type(at, &parameter.of),
         Place::DefaultConstructor(_, _) => default_constructor_type(alloc),
-        Place::Values => values_type(alloc, table, at),
-        Place::ValueOf => value_of_type(alloc, table, at),
-        Place::ValueOfName => string(alloc, table),
+        Place::Values => values_type(alloc, resolver.table(), at),
+        Place::ValueOf => value_of_type(alloc, resolver.table(), at),
+        Place::ValueOfName => string(alloc, resolver.table()),
+    }
+}
+
+/// The type of an element, as `type_of_element` gives it.
+#[tactic(auto, using(crate::proofs::TypesAtElements::typed))]
+pub fn type_of_element_with(
+    alloc: Global,
+    resolver: &mut Resolver<'_>,
+    at: &ElementRef,
+) -> Result<Mirror, NoMemory>
+    ensures value { IfOk result (λ m. m ≡ type_of resolver.old at.now) }
+    ensures kept { resolver.new ≡ resolver.old }
+{
+    match place_of(resolver.table(), at) {
+        None => Ok(Mirror::plain(alloc, BaseMirror::Nothing)),
+        Some(place) => node_type(alloc, resolver, at, place),
     }
 }
 
 /// The type of an element, as its `asType` gives it: of a type the one with its own type parameters as arguments, of an enum constant that of its enum, of a field or a parameter what is written, of a method or a constructor the types of its parts. Where nothing stands it is that of nothing.
-#[tactic(auto, using(crate::proofs::TypesAtElements::typed))]
 pub fn type_of_element(alloc: Global, table: &Table, at: &ElementRef) -> Result<Mirror, NoMemory>
     ensures { IfOk result (λ m. m ≡ type_of table.now at.now) }
 {
-    match place_of(table, at) {
-        None => Ok(Mirror::plain(alloc, BaseMirror::Nothing)),
-        Some(place) => node_type(alloc, table, at, place),
-    }
+    let mut resolver = Resolver::new(alloc, table);
+    type_of_element_with(alloc, &mut resolver, at)
 }

@@ -15,6 +15,6 @@ mod nesting;
 
 pub use access::{is_private, is_static, package_allows};
 pub use class_types::{class_element, class_elements, same_class};
-pub use element_types::type_of_element;
+pub use element_types::{type_of_element, type_of_element_with};
 pub use names::{MemberName, are_namesakes, is_constructor, is_method, member_name};
 pub use nesting::{enclosed, is_in_parameterized};
