@@ -1,5 +1,5 @@
 -- Direct supertypes that are remembered are right, also when types are added.
-use Rattle.std.proofs.Common.{ℕ, List, Option, Some, None, sym, ap, ◌∙◌}
+use Rattle.std.proofs.Common.{◌≡◌, ℕ, List, Option, Some, None, sym, ap, subst, ◌∙◌}
 use Rattle.std.specs.BTreeMap.{BTreeMap}
 use Rattle.element_table.specs.TypeTable.{TypeTable}
 use Rattle.type_memory.specs.Known.{Known, IsKnown, known_of}
@@ -37,3 +37,13 @@ module _ (table : TypeTable) (t t' : List Mirror) (g : numbers.Grows t t') where
   supertypes-grown held right =
       each-weaker (Had old) (Had new) held
       (λ number found was. (grown-known t t' number g was.0, direct-grown number found was.0 (direct_later number found was.1))) right
+
+-- the same, where the table is that of before by an equation
+module _ (was table : TypeTable) (t t' : List Mirror) (kept : table ≡ was) (g : numbers.Grows t t') where
+  pub direct-over : (number : ℕ) (found : Option (List ℕ)) → numbers.IsKnown t number → AreDirect (known_of was t) (known_of was t') number found
+      → AreDirect (known_of table t') (known_of table t') number found
+  direct-over number found known s =
+      subst (λ (k : TypeTable). AreDirect (known_of k t') (known_of k t') number found) (sym kept) (direct-grown was t t' g number found known s)
+
+  pub supertypes-over : (held : BTreeMap ℕ (Option (List ℕ))) → AreSupertypes (known_of was t) held → AreSupertypes (known_of table t') held
+  supertypes-over held right = subst (λ (k : TypeTable). AreSupertypes (known_of k t') held) (sym kept) (supertypes-grown was t t' g held right)

@@ -11,13 +11,14 @@ use std::collections::BTreeMap;
 use std::marker::Model;
 use type_mirror::Mirror;
 use type_numbers::Types;
-use type_steps::direct_of;
+use type_resolve::Resolver;
+use type_steps::direct_with;
 
 /// The types of one table by numbers, with the direct supertypes of each that was asked for them. Contracts see the table, and the types in the order of their numbers.
 #[derive(Drop)]
 pub struct KnownTypes<'a> {
     alloc: Global,
-    table: &'a Table,
+    resolver: Resolver<'a>,
     types: Types,
     supertypes: BTreeMap<usize, Option<List<usize>>>,
 }
@@ -30,9 +31,9 @@ impl<'a> Model for KnownTypes<'a> {
 
     ghost coded = { known_code };
 
-    ghost view = { λ a. known_of a.table.now a.types };
+    ghost view = { λ a. known_of a.resolver a.types };
 
-    ghost invariant = { λ a. AreSupertypes (known_of a.table.now a.types) a.supertypes };
+    ghost invariant = { λ a. AreSupertypes (known_of a.resolver a.types) a.supertypes };
 }
 
 fn copied(alloc: Global, numbers: &Option<List<usize>>) -> Result<Option<List<usize>>, NoMemory>
@@ -54,7 +55,7 @@ impl<'a> KnownTypes<'a> {
     {
         KnownTypes {
             alloc,
-            table,
+            resolver: Resolver::new(alloc, table),
             types: Types::new(alloc),
             supertypes: BTreeMap::new(alloc),
         }
@@ -64,7 +65,7 @@ impl<'a> KnownTypes<'a> {
     pub fn table(&self) -> &'a Table
         ensures { result.now ≡ self.now.table }
     {
-        self.table
+        self.resolver.table()
     }
 
     /// The types by their numbers.
@@ -101,7 +102,7 @@ impl<'a> KnownTypes<'a> {
         ensures stands { IfOk result (λ n. AreDirect self.old self.new number n) }
         ensures grows { Grows self.old self.new }
     {
-        let found = direct_of(self.alloc, self.table, &mut self.types, number)?;
+        let found = direct_with(self.alloc, &mut self.resolver, &mut self.types, number)?;
         let copy = copied(self.alloc, &found)?;
         self.supertypes.insert(number, copy)?;
         Ok(found)
