@@ -5,12 +5,12 @@ ghost use Rattle.type_members.specs.NearestLevels.{MayBeLevel, next_level};
 ghost use Rattle.type_members.specs.Once.{with_new, with_each};
 
 use apt_base::NoMemory;
-use element_table::Table;
 use indexmap::IndexSet;
 use std::alloc::Global;
 use std::marker::Model;
 use type_numbers::Types;
-use type_steps::direct_of;
+use type_resolve::Resolver;
+use type_steps::direct_with;
 
 /// Different types by their numbers, in the order in which they were first added. Contracts see the list.
 #[derive(Drop)]
@@ -88,17 +88,18 @@ impl Level {
 /// The direct supertypes of the types of a level, those of the first one first; `None` where those of one of them are open.
 pub(crate) fn further(
     alloc: Global,
-    table: &Table,
+    resolver: &mut Resolver<'_>,
     types: &mut Types,
     level: &[usize],
 ) -> Result<Option<Level>, NoMemory>
     requires known { AreKnown types.old level.now }
-    ensures level { IfOk result (λ l. MayBeLevel types.new l (next_level table.now types.old level.now)) }
+    ensures level { IfOk result (λ l. MayBeLevel types.new l (next_level resolver.old types.old level.now)) }
     ensures grows { Grows types.old types.new }
+    ensures kept { resolver.new ≡ resolver.old }
 {
     let mut next = Level::new(alloc);
     for number in level {
-        match direct_of(alloc, table, types, *number)? {
+        match direct_with(alloc, resolver, types, *number)? {
             None => return Ok(None),
             Some(supertypes) => next.add_each(supertypes.as_slice())?,
         }

@@ -11,5 +11,5 @@ mod levels;
 mod member_types;
 mod reaching;
 
-pub use member_types::{member_of, number_of};
+pub use member_types::{member_of, member_with, number_of, number_with};
 pub use reaching::is_reached;

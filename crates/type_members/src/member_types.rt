@@ -9,10 +9,26 @@ use crate::levels::{Level, further};
 use apt_base::{ElementRef, MAX_TYPE_STEPS, NoMemory};
 use element_table::Table;
 use std::alloc::Global;
-use type_elements::{is_in_parameterized, is_static, type_of_element};
+use type_elements::{is_in_parameterized, is_static, type_of_element_with};
 use type_numbers::{Node, Types};
 use type_relations::around_of;
+use type_resolve::Resolver;
 use type_steps::{erasure_of, is_raw, replaced_in};
+
+/// The number of the type of an element, as `number_of` gives it.
+pub fn number_with(
+    alloc: Global,
+    resolver: &mut Resolver<'_>,
+    types: &mut Types,
+    at: &ElementRef,
+) -> Result<usize, NoMemory>
+    ensures stands { IfOk result (λ n. Stands types.new n (elements.type_of resolver.old at.now)) }
+    ensures grows { Grows types.old types.new }
+    ensures kept { resolver.new ≡ resolver.old }
+{
+    let mirror = type_of_element_with(alloc, resolver, at)?;
+    types.add(&mirror)
+}
 
 /// The number of the type of an element, as its `asType` gives it. It is added where it is not there, and each number that was given before still has the same type.
 pub fn number_of(
@@ -24,8 +40,8 @@ pub fn number_of(
     ensures stands { IfOk result (λ n. Stands types.new n (elements.type_of table.now at.now)) }
     ensures grows { Grows types.old types.new }
 {
-    let mirror = type_of_element(alloc, table, at)?;
-    types.add(&mirror)
+    let mut resolver = Resolver::new(alloc, table);
+    number_with(alloc, &mut resolver, types, at)
 }
 
 /// Whether it is a class type of this element.
@@ -55,15 +71,16 @@ fn first_of(types: &Types, at: &ElementRef, level: &[usize]) -> Option<usize>
 // The first one of this element: in a level, or else further on within this many steps.
 fn nearest(
     alloc: Global,
-    table: &Table,
+    resolver: &mut Resolver<'_>,
     types: &mut Types,
     at: &ElementRef,
     steps: u32,
     level: &[usize],
 ) -> Result<Option<usize>, NoMemory>
     requires known { AreKnown types.old level.now }
-    ensures stands { IfOk result (λ n. NearestStands table.now types.old types.new at.now steps level.now n) }
+    ensures stands { IfOk result (λ n. NearestStands resolver.old types.old types.new at.now steps level.now n) }
     ensures grows { Grows types.old types.new }
+    ensures kept { resolver.new ≡ resolver.old }
 {
     if let Some(found) = first_of(types, at, level) {
         return Ok(Some(found));
@@ -71,29 +88,30 @@ fn nearest(
     if steps == 0 {
         return Ok(None);
     }
-    match further(alloc, table, types, level)? {
+    match further(alloc, resolver, types, level)? {
         None => Ok(None),
-        Some(next) => nearest(alloc, table, types, at, steps - 1, next.as_slice()),
+        Some(next) => nearest(alloc, resolver, types, at, steps - 1, next.as_slice()),
     }
 }
 
 // The type of a member as it is seen in the supertype that declares it.
 fn seen_in(
     alloc: Global,
-    table: &Table,
+    resolver: &mut Resolver<'_>,
     types: &mut Types,
     at: &ElementRef,
     declaring: usize,
 ) -> Result<Option<usize>, NoMemory>
     requires known { IsKnown types.old declaring }
-    ensures stands { IfOk result (λ n. SeenStands table.now types.old types.new at.now declaring n) }
+    ensures stands { IfOk result (λ n. SeenStands resolver.old types.old types.new at.now declaring n) }
     ensures grows { Grows types.old types.new }
+    ensures kept { resolver.new ≡ resolver.old }
 {
-    let own = number_of(alloc, table, types, at)?;
-    if is_raw(table, types, declaring) {
-        return erasure_of(alloc, table, types, own);
+    let own = number_with(alloc, resolver, types, at)?;
+    if is_raw(resolver.table(), types, declaring) {
+        return erasure_of(alloc, resolver.table(), types, own);
     }
-    let seen = replaced_in(alloc, table, types, declaring, own)?;
+    let seen = replaced_in(alloc, resolver.table(), types, declaring, own)?;
     Ok(Some(seen))
 }
 
@@ -107,8 +125,40 @@ fn is_fixed(alloc: Global, table: &Table, at: &ElementRef) -> Result<bool, NoMem
     Ok(!inside)
 }
 
-/// The number of the type of a member as a member of the type with this number (JLS 4.5.2, 4.8): its own type where it is static, or where nothing around it has type parameters; else that in the supertype which declares it, the one with the fewest steps. `None` where no such supertype is within 64 steps, or where the erasure in a raw one is open. It is added where it is not there, and each number that was given before still has the same type.
+/// The number of the type of a member as a member of the type with this number, as `member_of` gives it.
 #[tactic(auto, unfolding(crate::specs::MemberOf::member_of))]
+pub fn member_with(
+    alloc: Global,
+    resolver: &mut Resolver<'_>,
+    types: &mut Types,
+    container: usize,
+    at: &ElementRef,
+) -> Result<Option<usize>, NoMemory>
+    requires known { IsKnown types.old container }
+    ensures stands { IfOk result (λ n. MemberStands resolver.old types.old types.new container at.now n) }
+    ensures grows { Grows types.old types.new }
+    ensures kept { resolver.new ≡ resolver.old }
+{
+    if is_fixed(alloc, resolver.table(), at)? {
+        let own = number_with(alloc, resolver, types, at)?;
+        return Ok(Some(own));
+    }
+    let around = around_of(alloc, resolver.table(), at)?;
+    let level = Level::of(alloc, container)?;
+    match nearest(
+        alloc,
+        resolver,
+        types,
+        &around,
+        MAX_TYPE_STEPS,
+        level.as_slice(),
+    )? {
+        None => Ok(None),
+        Some(declaring) => seen_in(alloc, resolver, types, at, declaring),
+    }
+}
+
+/// The number of the type of a member as a member of the type with this number (JLS 4.5.2, 4.8): its own type where it is static, or where nothing around it has type parameters; else that in the supertype which declares it, the one with the fewest steps. `None` where no such supertype is within 64 steps, or where the erasure in a raw one is open. It is added where it is not there, and each number that was given before still has the same type.
 pub fn member_of(
     alloc: Global,
     table: &Table,
@@ -120,21 +170,6 @@ pub fn member_of(
     ensures stands { IfOk result (λ n. MemberStands table.now types.old types.new container at.now n) }
     ensures grows { Grows types.old types.new }
 {
-    if is_fixed(alloc, table, at)? {
-        let own = number_of(alloc, table, types, at)?;
-        return Ok(Some(own));
-    }
-    let around = around_of(alloc, table, at)?;
-    let level = Level::of(alloc, container)?;
-    match nearest(
-        alloc,
-        table,
-        types,
-        &around,
-        MAX_TYPE_STEPS,
-        level.as_slice(),
-    )? {
-        None => Ok(None),
-        Some(declaring) => seen_in(alloc, table, types, at, declaring),
-    }
+    let mut resolver = Resolver::new(alloc, table);
+    member_with(alloc, &mut resolver, types, container, at)
 }
