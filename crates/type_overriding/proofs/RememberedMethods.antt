@@ -73,6 +73,12 @@ module _ (table : TypeTable) (element : ElementRef) (t t' : List Mirror) (g : nu
     below = each-weaker (IsBelow old) (IsBelow new) answers below_grown right.below;
   }
 
+-- the same, where the table is that of before by an equation
+pub right-over : (was table : TypeTable) (element : ElementRef) (t t' : List Mirror) → table ≡ was → numbers.Grows t t' → (known : Known) (types : BTreeMap ℕ (Option ℕ))
+    (answers : BTreeMap ℕ Answer) → AreRight (seen_of was element t) known types answers → AreRight (seen_of table element t') known types answers
+right-over was table element t t' kept g known types answers right =
+    subst (λ (k : TypeTable). AreRight (seen_of k element t') known types answers) (sym kept) (right-grown was element t t' g known types answers right)
+
 -- ---- what stands at numbers
 
 module _ (seen : Seen) (known : Known) where

@@ -20,16 +20,17 @@ use std::alloc::Global;
 use std::collections::BTreeMap;
 use std::marker::Model;
 use type_levels::Answer;
-use type_members::{member_of, number_of};
+use type_members::{member_with, number_with};
 use type_memory::KnownTypes;
 use type_numbers::{Node, Types};
 use type_relations::around_of;
+use type_resolve::Resolver;
 
 /// Methods as members of one type over one table. Contracts see the table, the type and the types in the order of their numbers.
 #[derive(Drop)]
 pub(crate) struct KnownMethods<'a> {
     alloc: Global,
-    table: &'a Table,
+    resolver: Resolver<'a>,
     within: &'a ElementRef,
     types: Types,
     known: KnownTypes<'a>,
@@ -44,9 +45,9 @@ impl<'a> Model for KnownMethods<'a> {
 
     ghost coded = { seen_code };
 
-    ghost view = { λ a. seen_of a.table.now a.within.now a.types };
+    ghost view = { λ a. seen_of a.resolver a.within.now a.types };
 
-    ghost invariant = { λ a. AreRight (seen_of a.table.now a.within.now a.types) a.known a.signatures a.below };
+    ghost invariant = { λ a. AreRight (seen_of a.resolver a.within.now a.types) a.known a.signatures a.below };
 }
 
 // A number for an element, the same one each time.
@@ -63,16 +64,17 @@ fn number_for(alloc: Global, types: &mut Types, at: &ElementRef) -> Result<usize
 #[tactic(auto, using(crate::proofs::MethodSteps::resolving))]
 fn signature_in(
     alloc: Global,
-    table: &Table,
+    resolver: &mut Resolver<'_>,
     types: &mut Types,
     within: &ElementRef,
     at: &ElementRef,
 ) -> Result<Option<usize>, NoMemory>
-    ensures stands { IfOk result (λ n. OptionStands types.new n (member_in table.now within.now at.now)) }
+    ensures stands { IfOk result (λ n. OptionStands types.new n (member_in resolver.old within.now at.now)) }
     ensures grows { numbers.Grows types.old types.new }
+    ensures kept { resolver.new ≡ resolver.old }
 {
-    let container = number_of(alloc, table, types, within)?;
-    let signature = member_of(alloc, table, types, container, at)?;
+    let container = number_with(alloc, resolver, types, within)?;
+    let signature = member_with(alloc, resolver, types, container, at)?;
     Ok(signature)
 }
 
@@ -83,7 +85,7 @@ impl<'a> KnownMethods<'a> {
     {
         KnownMethods {
             alloc,
-            table,
+            resolver: Resolver::new(alloc, table),
             within,
             types: Types::new(alloc),
             known: KnownTypes::new(alloc, table),
@@ -96,7 +98,7 @@ impl<'a> KnownMethods<'a> {
     pub fn table(&self) -> &'a Table
         ensures { result.now ≡ self.now.table }
     {
-        self.table
+        self.resolver.table()
     }
 
     // The number under which what is known of an element is remembered.
@@ -131,7 +133,13 @@ impl<'a> KnownMethods<'a> {
         ensures stands { IfOk result (λ n. OptionStands self.new.types n (as_member self.old at.now)) }
         ensures grows { Grows self.old self.new }
     {
-        signature_in(self.alloc, self.table, &mut self.types, self.within, at)
+        signature_in(
+            self.alloc,
+            &mut self.resolver,
+            &mut self.types,
+            self.within,
+            at,
+        )
     }
 
     // What it took to look up the names in a method.
@@ -195,7 +203,13 @@ impl<'a> KnownMethods<'a> {
         ensures answer { IfOk result (λ r. r ≡ signature_of self.old.table self.old.types first second) }
         ensures grows { Grows self.old self.new }
     {
-        signature_of(self.alloc, self.table, &mut self.types, first, second)
+        signature_of(
+            self.alloc,
+            self.resolver.table(),
+            &mut self.types,
+            first,
+            second,
+        )
     }
 
     /// Whether one of two methods has, as a member, a subsignature of the other one.
@@ -243,7 +257,7 @@ impl<'a> KnownMethods<'a> {
     {
         is_below_known(
             self.alloc,
-            self.table,
+            self.resolver.table(),
             &mut self.known,
             self.within,
             declaring,
@@ -294,7 +308,7 @@ impl<'a> KnownMethods<'a> {
     fn around(&self, at: &ElementRef) -> Result<ElementRef, NoMemory>
         ensures { IfOk result (λ around. around ≡ elements.around_of self.now.table at.now) }
     {
-        around_of(self.alloc, self.table, at)
+        around_of(self.alloc, self.resolver.table(), at)
     }
 
     // Whether the type is below the one that declares a method.
@@ -329,7 +343,7 @@ impl<'a> KnownMethods<'a> {
     fn allows(&self, one: &ElementRef, other: &ElementRef) -> bool
         ensures { result ≡ overriding.may_override self.now.table one.now other.now }
     {
-        may_override(self.table, one, other)
+        may_override(self.resolver.table(), one, other)
     }
 
     /// Whether the first method overrides the second one. Their signatures are compared first, since where they differ no type has to be looked at.

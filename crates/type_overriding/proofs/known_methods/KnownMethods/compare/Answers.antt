@@ -3,5 +3,5 @@ use Rattle.type_overriding.proofs.known_methods.KnownMethods.compare.Goals as go
 
 pub invariant_of-self : goal.invariant_of-self
 invariant_of-self c =
-    right-grown c.self.inside.table.now c.self.inside.within.now c.self.inside.types c.signature_of.new.types c.signature_of.ensures.grows c.self.inside.known c.self.inside.signatures
+    right-grown c.self.inside.resolver c.self.inside.within.now c.self.inside.types c.signature_of.new.types c.signature_of.ensures.grows c.self.inside.known c.self.inside.signatures
     c.self.inside.below c.self.invariant

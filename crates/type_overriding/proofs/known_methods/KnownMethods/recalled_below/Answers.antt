@@ -6,5 +6,5 @@ use Rattle.type_overriding.proofs.known_methods.KnownMethods.recalled_below.Goal
 pub returns-in-Some : goal.returns-in-Some
 returns-in-Some c =
     subst (λ (s : Seen). IsBelow s c.args.number c.in-Some.answer.now) c.self.view_is
-    (below-found (seen_of c.self.inside.table.now c.self.inside.within.now c.self.inside.types) c.self.inside.known c.self.inside.signatures c.self.inside.below c.self.invariant
+    (below-found (seen_of c.self.inside.resolver c.self.inside.within.now c.self.inside.types) c.self.inside.known c.self.inside.signatures c.self.inside.below c.self.invariant
     c.args.number c.in-Some.answer.now (sym c.in-Some.ensures.value))

@@ -6,5 +6,5 @@ use Rattle.type_overriding.proofs.known_methods.KnownMethods.recalled_signature.
 pub returns-in-Some : goal.returns-in-Some
 returns-in-Some c =
     subst (λ (s : Seen). IsSignature s c.args.number c.in-Some.found.now) c.self.view_is
-    (signature-found (seen_of c.self.inside.table.now c.self.inside.within.now c.self.inside.types) c.self.inside.known c.self.inside.signatures c.self.inside.below c.self.invariant
+    (signature-found (seen_of c.self.inside.resolver c.self.inside.within.now c.self.inside.types) c.self.inside.known c.self.inside.signatures c.self.inside.below c.self.invariant
     c.args.number c.in-Some.found.now (sym c.in-Some.ensures.value))

@@ -5,11 +5,11 @@ use Rattle.type_overriding.proofs.known_methods.KnownMethods.remember_signature.
 
 pub invariant_of-self : goal.invariant_of-self
 invariant_of-self c =
-    signatures-same (seen_of c.self.inside.table.now c.self.inside.within.now c.self.inside.types) c.self.inside.known c.self.inside.signatures c.self.inside.below c.self.invariant
+    signatures-same (seen_of c.self.inside.resolver c.self.inside.within.now c.self.inside.types) c.self.inside.known c.self.inside.signatures c.self.inside.below c.self.invariant
     c.insert.new.self c.in_err-insert.ensures.err
 
 pub invariant_of-self-2 : goal.invariant_of-self-2
 invariant_of-self-2 c =
-    signatures-more (seen_of c.self.inside.table.now c.self.inside.within.now c.self.inside.types) c.self.inside.known c.self.inside.signatures c.self.inside.below c.self.invariant
+    signatures-more (seen_of c.self.inside.resolver c.self.inside.within.now c.self.inside.types) c.self.inside.known c.self.inside.signatures c.self.inside.below c.self.invariant
     c.insert.new.self c.args.number c.args.found (λ q. c.in_ok-insert.ensures.updates.0 q)
     (subst (λ (s : Seen). IsSignature s c.args.number c.args.found) (sym c.self.view_is) c.requires)

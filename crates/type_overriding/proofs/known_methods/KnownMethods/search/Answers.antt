@@ -7,5 +7,5 @@ is_below_known-requires c = c.self.invariant.same
 
 pub invariant_of-self : goal.invariant_of-self
 invariant_of-self c =
-    right-searched (seen_of c.self.inside.table.now c.self.inside.within.now c.self.inside.types) c.self.inside.known c.self.inside.signatures c.self.inside.below
+    right-searched (seen_of c.self.inside.resolver c.self.inside.within.now c.self.inside.types) c.self.inside.known c.self.inside.signatures c.self.inside.below
     c.self.invariant c.is_below_known.new.known c.is_below_known.ensures.same
