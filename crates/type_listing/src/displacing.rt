@@ -48,7 +48,7 @@ fn has_same_name(table: &Table, one: &ElementRef, other: &ElementRef) -> bool
 #[tactic(auto, using(crate::proofs::DisplacingMethods::displacing))]
 fn hides_method(
     table: &Table,
-    methods: &mut Methods<'_>,
+    methods: &mut Methods<'_, '_>,
     one: &ElementRef,
     other: &ElementRef,
     effort: &mut Effort,
@@ -68,7 +68,7 @@ fn hides_method(
 #[tactic(auto, using(crate::proofs::DisplacingMethods::displacing))]
 pub(crate) fn displaces(
     table: &Table,
-    methods: &mut Methods<'_>,
+    methods: &mut Methods<'_, '_>,
     one: &ElementRef,
     other: &ElementRef,
     effort: &mut Effort,

@@ -19,7 +19,6 @@ use std::alloc::Global;
 use type_elements::{class_elements, enclosed};
 use type_levels::Answer;
 use type_overriding::{Methods, effort_of_comparisons};
-use type_relations::header_types;
 
 // How many elements are compared in a step, and how many steps an own member takes, one of a supertype, and one that may displace another.
 const SEEN_IN_A_STEP: usize = 16;
@@ -58,7 +57,7 @@ fn is_yes(answer: Answer) -> bool
 
 // Whether one of the list hides or overrides a member in the type of these methods: those of its name are asked alone, up to the first one that does.
 fn is_displaced(
-    methods: &mut Methods<'_>,
+    methods: &mut Methods<'_, '_>,
     list: &Listing<'_>,
     at: &ElementRef,
     effort: &mut Effort,
@@ -83,7 +82,7 @@ fn is_displaced(
 // Adds a member of a supertype, unless it is there, is not inherited, or one that is there hides or overrides it. False where the steps do not suffice to decide that, and the list is then as it was.
 fn add_inherited(
     alloc: Global,
-    methods: &mut Methods<'_>,
+    methods: &mut Methods<'_, '_>,
     within: &ElementRef,
     list: &mut Listing<'_>,
     at: &ElementRef,
@@ -118,7 +117,7 @@ fn add_inherited(
 // decide for one of them.
 fn add_all(
     alloc: Global,
-    methods: &mut Methods<'_>,
+    methods: &mut Methods<'_, '_>,
     within: &ElementRef,
     list: &mut Listing<'_>,
     others: &[ElementRef],
@@ -135,6 +134,29 @@ fn add_all(
         }
     }
     Ok(true)
+}
+
+// The same, where methods take part in what is remembered over the table.
+fn add_above<'a>(
+    alloc: Global,
+    remembered: &mut Remembered<'a>,
+    methods: &mut Methods<'a, '_>,
+    within: &ElementRef,
+    list: &mut Listing<'_>,
+    others: &[ElementRef],
+    effort: &mut Effort,
+) -> Result<bool, NoMemory>
+    requires methods { methods.old ≡ container_of list.old.table within.now }
+    requires remembered { remembered.old ≡ list.old.table }
+    ensures due { IfOk result (λ closed. AreDue closed list.old within.now others.now list.new.list) }
+    ensures table { OnOk result (list.new.table ≡ list.old.table) }
+    ensures kept { methods.new ≡ methods.old }
+    ensures remembered { remembered.new ≡ remembered.old }
+{
+    let own = methods.exchange(remembered.take_resolver());
+    let closed = add_all(alloc, methods, within, list, others, effort)?;
+    remembered.keep_resolver(methods.exchange(own));
+    Ok(closed)
 }
 
 // The own members.
@@ -158,12 +180,13 @@ fn own_listing<'a>(
 // The superclass and the interfaces that are of the table.
 fn super_elements(
     alloc: Global,
-    table: &Table,
+    remembered: &mut Remembered<'_>,
     at: &ElementRef,
 ) -> Result<List<ElementRef>, NoMemory>
-    ensures { IfOk result (λ list. list ≡ members.super_elements table.now at.now) }
+    ensures value { IfOk result (λ list. list ≡ members.super_elements remembered.old at.now) }
+    ensures kept { remembered.new ≡ remembered.old }
 {
-    let types = header_types(alloc, table, at)?;
+    let types = remembered.header_types(at)?;
     class_elements(alloc, types.as_slice())
 }
 
@@ -187,7 +210,7 @@ fn known_members(
         }
         return Ok(Some(known));
     }
-    let supers = super_elements(alloc, remembered.table(), at)?;
+    let supers = super_elements(alloc, remembered, at)?;
     match gathered(alloc, remembered, levels, at, supers.as_slice(), effort)? {
         None => Ok(None),
         Some(known) => {
@@ -222,8 +245,9 @@ fn gathered(
         match known_members(alloc, remembered, levels - 1, each, effort)? {
             None => return Ok(None),
             Some(above) => {
-                if !add_all(
+                if !add_above(
                     alloc,
+                    remembered,
                     &mut methods,
                     at,
                     &mut list,

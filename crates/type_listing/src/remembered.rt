@@ -1,20 +1,25 @@
 // The members of types that are remembered.
 ghost use Rattle.std.specs.Prelude.{◌≡◌, IfOk, IfSome};
 ghost use Rattle.type_listing.specs.Remembered.{AreMembers};
+ghost use Rattle.type_relations.specs.Named.{header_types};
 
 use crate::known::KnownMembers;
-use apt_base::{ElementRef, NoMemory};
+use apt_base::{ElementRef, List, NoMemory};
 use element_table::Table;
 use std::alloc::Global;
 use std::collections::BTreeMap;
 use std::marker::Model;
+use std::mem;
+use type_mirror::Mirror;
 use type_numbers::element_key;
+use type_relations::header_types_with;
+use type_resolve::Resolver;
 
-/// The members of types over one table, each type once. Contracts see the table.
+/// The members of types over one table, each type once, and what was looked up there. Contracts see the table.
 #[derive(Drop)]
 pub(crate) struct Remembered<'a> {
     alloc: Global,
-    table: &'a Table,
+    resolver: Resolver<'a>,
     known: BTreeMap<Vec<usize>, KnownMembers>,
 }
 
@@ -27,9 +32,9 @@ impl<'a> Model for Remembered<'a> {
 
     ghost coded = { table_code };
 
-    ghost view = { λ a. a.table.now };
+    ghost view = { λ a. a.resolver };
 
-    ghost invariant = { λ a. AreRight a.table.now a.known.entries };
+    ghost invariant = { λ a. AreRight a.resolver a.known.entries };
 }
 
 impl<'a> Remembered<'a> {
@@ -39,7 +44,7 @@ impl<'a> Remembered<'a> {
     {
         Remembered {
             alloc,
-            table,
+            resolver: Resolver::new(alloc, table),
             known: BTreeMap::new(alloc),
         }
     }
@@ -48,7 +53,32 @@ impl<'a> Remembered<'a> {
     pub fn table(&self) -> &'a Table
         ensures { result.now ≡ self.now }
     {
-        self.table
+        self.resolver.table()
+    }
+
+    /// The superclass and the interfaces of a type, as `header_types` of `type_relations` gives them.
+    pub fn header_types(&mut self, at: &ElementRef) -> Result<List<Mirror>, NoMemory>
+        ensures value { IfOk result (λ list. list ≡ header_types self.old at.now) }
+        ensures kept { self.new ≡ self.old }
+    {
+        header_types_with(self.alloc, &mut self.resolver, at)
+    }
+
+    /// What was looked up over the table. Nothing of it is then remembered here.
+    pub fn take_resolver(&mut self) -> Resolver<'a>
+        ensures resolver { result ≡ self.old }
+        ensures kept { self.new ≡ self.old }
+    {
+        let none = Resolver::new(self.alloc, self.table());
+        mem::replace(&mut self.resolver, none)
+    }
+
+    /// Remembers what was looked up over the table.
+    pub fn keep_resolver(&mut self, resolver: Resolver<'a>)
+        requires { resolver ≡ self.old }
+        ensures { self.new ≡ self.old }
+    {
+        self.resolver = resolver;
     }
 
     /// What is remembered of a type, if anything.

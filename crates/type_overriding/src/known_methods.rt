@@ -19,6 +19,7 @@ use element_table::Table;
 use std::alloc::Global;
 use std::collections::BTreeMap;
 use std::marker::Model;
+use std::mem;
 use type_levels::Answer;
 use type_members::{member_with, number_with};
 use type_memory::KnownTypes;
@@ -28,17 +29,17 @@ use type_resolve::Resolver;
 
 /// Methods as members of one type over one table. Contracts see the table, the type and the types in the order of their numbers.
 #[derive(Drop)]
-pub(crate) struct KnownMethods<'a> {
+pub(crate) struct KnownMethods<'a, 'w> {
     alloc: Global,
     resolver: Resolver<'a>,
-    within: &'a ElementRef,
+    within: &'w ElementRef,
     types: Types,
     known: KnownTypes<'a>,
     signatures: BTreeMap<usize, Option<usize>>,
     below: BTreeMap<usize, Answer>,
 }
 
-impl<'a> Model for KnownMethods<'a> {
+impl<'a, 'w> Model for KnownMethods<'a, 'w> {
     ghost use Rattle.type_overriding.specs.Methods.{AreRight, Seen, seen_code, seen_of};
 
     ghost Value = { Seen };
@@ -78,9 +79,9 @@ fn signature_in(
     Ok(signature)
 }
 
-impl<'a> KnownMethods<'a> {
+impl<'a, 'w> KnownMethods<'a, 'w> {
     /// Nothing is known yet. It takes no memory.
-    pub fn new(alloc: Global, table: &'a Table, within: &'a ElementRef) -> KnownMethods<'a>
+    pub fn new(alloc: Global, table: &'a Table, within: &'w ElementRef) -> KnownMethods<'a, 'w>
         ensures { result ≡ seen_of table.now within.now [] }
     {
         KnownMethods {
@@ -99,6 +100,15 @@ impl<'a> KnownMethods<'a> {
         ensures { result.now ≡ self.now.table }
     {
         self.resolver.table()
+    }
+
+    /// Takes over what was looked up, and gives what it had itself.
+    pub fn exchange(&mut self, resolver: Resolver<'a>) -> Resolver<'a>
+        requires { resolver ≡ self.old.table }
+        ensures given { result ≡ self.old.table }
+        ensures kept { self.new ≡ self.old }
+    {
+        mem::replace(&mut self.resolver, resolver)
     }
 
     // The number under which what is known of an element is remembered.
