@@ -2,7 +2,7 @@
 //!
 //! `specs/Scopes` leads from an element to the place where a look-up begins; the crate `name_resolve` has the meanings there. `specs/Spelling` has the text of a type, which is what is left of a name that means nothing, and `specs/MirrorParts` words for parts of a mirror.
 //!
-//! A name is looked up anew each time it stands in a type, and names in front of others only where type arguments are written on them or before them.
+//! A name is looked up anew each time it stands in a type, and names in front of others only where type arguments are written on them or before them. Which member types are inherited is remembered by a `Resolver` from one call to the next; the calls without one forget it.
 //!
 //! Not promised: that memory is there.
 #![tactic(auto)]
