@@ -13,6 +13,7 @@ use Rattle.reach_map.specs.Reach.{IsReachList}
 use Rattle.reach_map.proofs.NamesLemmas.{or_cases, or_left, or_right, same_as, is_itself}
 use Rattle.closed_cuts.specs.AgreementLaws.{AgreeOnReach, ShareAllOfReach}
 use Rattle.closed_cuts.specs.NameLaws.{AllNamesAgree}
+use Rattle.closed_cuts.specs.PresenceLaws.{AllPresenceAgrees}
 use Rattle.closed_cuts.specs.QuestionLaws.{AllQuestionsAgree}
 use Rattle.closed_cuts.specs.RootedLaws.{SharedReachesAreOne}
 use Rattle.closed_cuts.specs.TypeLaws.{AllTypesAgree}
@@ -45,13 +46,18 @@ module _ (one other : TypeTable) (root : List ℕ) (names : List (List ℕ)) (r 
   source_by None (Some stub) e = absurd (cc)
   source_by None None e = absurd (cc)
 
-  pub share-all : SharedReachesAreOne → AllNamesAgree → AllTypesAgree → AllQuestionsAgree → IsTable one → IsTable other → one.stub ≡ other.stub
+  pub share-all : SharedReachesAreOne → AllNamesAgree → AllTypesAgree → AllQuestionsAgree → AllPresenceAgrees → IsTable one → IsTable other → one.stub ≡ other.stub
       → part_of one root ≡ Some Source → ShareReaches one other names → ShareAllOfReach one other root
-  share-all are_one names_agree types_agree questions_agree t t' stubs is_source share set reach =
+  share-all are_one names_agree types_agree questions_agree presence_agrees t t' stubs is_source share set reach =
       let source = source_by (fin.get one.source root) (fin.get one.stub root) is_source in
       let shared = share root set reach (reach.least (among names) r.reach.itself r.reach.closed) in
       let same = are_one one other root source.0 set t t' stubs source.1 reach shared in
       record {
         reach = shared;
-        all = record { names = names_agree one other set same; types = types_agree one other set same; questions = questions_agree one other set same };
+        all = record {
+          names = names_agree one other set same;
+          types = types_agree one other set same;
+          questions = questions_agree one other set same;
+          presence = presence_agrees one other set same;
+        };
       }

@@ -1,6 +1,6 @@
 -- Values that are the same on two sides, and of which something holds; what is made of them in the same way is so too.
-use Rattle.std.proofs.Common.{◌≡◌, Bool, true, false, cond, ◌||◌, List, [], ◌∷◌, ◌++◌, map, Option, None, Some, refl, sym, ap, ap₂, subst, ◌∙◌}
-use Rattle.std.specs.List.{AllByRecursion, find, flat_map, list_any}
+use Rattle.std.proofs.Common.{◌≡◌, Bool, true, false, cond, ◌||◌, List, [], ◌∷◌, ◌++◌, map, filter, filter_map, Option, None, Some, refl, sym, ap, ap₂, subst, ◌∙◌}
+use Rattle.std.specs.List.{AllByRecursion, find, flat_map, list_any, cons_option}
 use Rattle.std.specs.Option.{option_map, option_and_then, option_to_list}
 use Rattle.type_relations.specs.Closed.{closed}
 use Rattle.decl_elements.proofs.Everywhere.{OfSome, each_append}
@@ -94,3 +94,30 @@ module _ {A : Type 0} (G : A → Type 0) where
 
   pub closed-kept : (os os' : List (Option A)) → Kept (AllByRecursion (IfAny G)) os os' → Kept (IfAny (AllByRecursion G)) (closed os) (closed os')
   closed-kept os os' k = record { equal = ap closed k.equal; good = closed-good os k.good }
+
+  pub cons_option-good : (o : Option A) → IfAny G o → (xs : List A) → AllByRecursion G xs → AllByRecursion G (cons_option o xs)
+  cons_option-good None g xs all = all
+  cons_option-good (Some x) g xs all = (g, all)
+
+  -- ---- filters by tests that are the same where it holds
+
+  pub filter-kept : (test test' : A → Bool) → ((x : A) → G x → test x ≡ test' x) → (xs : List A) → AllByRecursion G xs → Kept (AllByRecursion G) (filter test xs) (filter test' xs)
+  filter-kept test test' e [] all = kept (AllByRecursion G) [] tt
+  filter-kept test test' e (x ∷ xs) all =
+      let more = filter-kept test test' e xs all.1 in
+      chosen (AllByRecursion G) (test x) (test' x) _ _ _ _ (e x all.0)
+      (record { equal = ap (λ (ys : List A). x ∷ ys) more.equal; good = (all.0, more.good) }) more
+
+  pub filter_map-same : {B : Type 0} (F F' : A → Option B) → ((x : A) → G x → F x ≡ F' x) → (xs : List A) → AllByRecursion G xs → filter_map F xs ≡ filter_map F' xs
+  filter_map-same F F' e [] all = refl
+  filter_map-same {B} F F' e (x ∷ xs) all = ap₂ (λ (o : Option B) (ys : List B). cons_option o ys) (e x all.0) (filter_map-same F F' e xs all.1)
+
+module _ {A B : Type 0} (G : A → Type 0) (H : B → Type 0) where
+  pub filter_map-good : (F : A → Option B) → ((x : A) → G x → IfAny H (F x)) → (xs : List A) → AllByRecursion G xs → AllByRecursion H (filter_map F xs)
+  filter_map-good F to [] all = tt
+  filter_map-good F to (x ∷ xs) all = cons_option-good H (F x) (to x all.0) (filter_map F xs) (filter_map-good F to xs all.1)
+
+  pub flat_map-kept : (F F' : A → List B) → ((x : A) → G x → Kept (AllByRecursion H) (F x) (F' x)) → (xs : List A) → AllByRecursion G xs
+      → Kept (AllByRecursion H) (flat_map F xs) (flat_map F' xs)
+  flat_map-kept F F' to [] all = kept (AllByRecursion H) [] tt
+  flat_map-kept F F' to (x ∷ xs) all = append-kept H _ _ _ _ (to x all.0) (flat_map-kept F F' to xs all.1)

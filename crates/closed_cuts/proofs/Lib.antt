@@ -19,5 +19,7 @@ pub mod QuestionLawsProofs
 pub mod NameLawsProofs
 pub mod RootedLawsProofs
 pub mod AgreeingCuts
+pub mod SamePresence
+pub mod PresenceLawsProofs
 pub mod AgreementLawsProofs
 pub mod ElementLawsProofs

@@ -1,6 +1,6 @@
 -- The members of a type are the same over two tables that agree on what they read.
 use Rattle.std.proofs.Common.{◌≡◌, ℕ, zero, suc, ◌-◌, Bool, not, ◌&&◌, ◌||◌, List, [], ◌∷◌, ◌++◌, map, fold, length, unwrap_or, Option, None, Some, refl, ap, ap₂}
-use Rattle.std.specs.List.{AllByRecursion, range_with_len, cons_option}
+use Rattle.std.specs.List.{AllByRecursion, range_with_len}
 use Rattle.std.specs.Option.{option_map, option_and_then}
 use Rattle.apt_base.specs.declared.element.ElementRef.{ElementRef}
 use Rattle.decl_elements.specs.Nodes.{Node, children}
@@ -18,7 +18,7 @@ use Rattle.type_elements.specs.MemberElements.{MemberName, is_constructor_name, 
 use Rattle.type_listing.specs.Members.{is_inherited, hides_by_name, hides_method, displaces, is_among, is_displaced, unless_displaced, with_member, with_members, with_supertype, super_elements, members_over, members}
 use Rattle.decl_elements.proofs.Everywhere.{each_append}
 use Rattle.closed_cuts.specs.Kept.{IfAny}
-use Rattle.closed_cuts.proofs.Keeping.{Kept, kept, by_equal, chosen, through, map-kept, and_then-kept}
+use Rattle.closed_cuts.proofs.Keeping.{Kept, kept, by_equal, chosen, through, map-kept, and_then-kept, cons_option-good}
 use Rattle.closed_cuts.proofs.PartsWithin.{LayerWithin, opened}
 use Rattle.closed_cuts.proofs.AgreeingReads.{Lies, Good, AllGood, SameReads, node-same, children-lie, header-kept}
 use Rattle.closed_cuts.proofs.SameOverriding.{member_name-same, namesakes-same, allows-same, static-same, private-same, has_subsignature-same, overrides-same}
@@ -124,13 +124,9 @@ module _ (one other : TypeTable) (Has : List ℕ → Type 0) (r : SameReads one 
   pub class_lies : (m : Mirror) → G m → IfAny L (class_element m)
   class_lies m g = element_lies (layer m) (opened L m g)
 
-  cons_lies : (o : Option ElementRef) → IfAny L o → (rest : List ElementRef) → Ls rest → Ls (cons_option o rest)
-  cons_lies None g rest h = h
-  cons_lies (Some at) g rest h = (g, h)
-
   pub elements_lie : (ms : List Mirror) → AllGood one other Has ms → Ls (class_elements ms)
   elements_lie [] g = tt
-  elements_lie (m ∷ ms) g = cons_lies (class_element m) (element_lies (layer m) (opened L m g.0)) (class_elements ms) (elements_lie ms g.1)
+  elements_lie (m ∷ ms) g = cons_option-good L (class_element m) (element_lies (layer m) (opened L m g.0)) (class_elements ms) (elements_lie ms g.1)
 
   supers_kept : (at : ElementRef) → L at → Kept Ls (super_elements one at) (super_elements other at)
   supers_kept at l =

@@ -10,6 +10,7 @@ use Rattle.closed_cuts.specs.CutElements.{HasUnit}
 use Rattle.closed_cuts.specs.NameLaws.{NamesStay}
 use Rattle.closed_cuts.specs.TypeLaws.{TypesStay}
 use Rattle.closed_cuts.specs.QuestionLaws.{QuestionsStay}
+use Rattle.closed_cuts.specs.PresenceLaws.{PresenceStays}
 
 -- the reach of a unit over the first table, as a list of names on which both tables agree
 pub record AgreeOnReach (one other : TypeTable) (root : List ℕ) : Type 0 where
@@ -22,6 +23,7 @@ pub record AllStays (one other : TypeTable) (Has : List ℕ → Type 0) : Type 0
   pub names : (at : ElementRef) → Has at.unit → NamesStay one other Has at
   pub types : TypesStay one other Has
   pub questions : QuestionsStay one other Has
+  pub presence : PresenceStays one other Has
 
 -- these names are the reach of the unit over the other table too, with the same sources in it, and over the cut to them and the stubs all is the same
 pub record ShareAll (one other : TypeTable) (root : List ℕ) (names : NameSet) : Type 0 where

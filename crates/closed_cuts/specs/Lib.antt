@@ -4,6 +4,7 @@ pub mod ElementLaws
 pub mod Kept
 pub mod NameLaws
 pub mod NodeTexts
+pub mod PresenceLaws
 pub mod QuestionLaws
 pub mod RootedLaws
 pub mod TypeLaws

@@ -4,7 +4,9 @@ ghost use Rattle.element_table.specs.TypeTable.{part_of};
 ghost use Rattle.element_table.specs.declared.part.Part.TheVariants.{Source};
 ghost use Rattle.closed_cuts.specs.AgreementLaws.{AgreeOnReach, ShareAllOfReach};
 
-use crate::laws::{names_agree, questions_agree, shared_reaches_are_one, types_agree};
+use crate::laws::{
+    names_agree, presence_agrees, questions_agree, shared_reaches_are_one, types_agree,
+};
 use apt_base::{Name, NoMemory};
 use element_table::Table;
 use reach_map::{agrees, reach};
@@ -13,8 +15,9 @@ use std::alloc::Global;
 /// Whether two tables with the same stubs agree on the reach of a source unit of the first: under each of
 /// its names both have a source unit with the same shape, or neither has a source unit.
 ///
-/// Where they do, that is the reach of the unit over both, and all that can be asked of names and types at
-/// the elements of its sources and of the stubs has the same answer over both (`specs/AgreementLaws`).
+/// Where they do, that is the reach of the unit over both, and all that can be asked of names, types and
+/// present annotations at the elements of its sources and of the stubs has the same answer over both
+/// (`specs/AgreementLaws`).
 pub fn agrees_on_reach(
     alloc: Global,
     one: &Table,
@@ -33,6 +36,7 @@ pub fn agrees_on_reach(
     names_agree();
     types_agree();
     questions_agree();
+    presence_agrees();
     let names = reach(alloc, one, root)?;
     Ok(agrees(one, other, &names))
 }

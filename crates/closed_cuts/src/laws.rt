@@ -1,6 +1,7 @@
-// Laws of names and types over closed cuts.
+// Laws of names, types and present annotations over closed cuts.
 ghost use Rattle.closed_cuts.specs.NameLaws.{AllNamesStay, AllNamesAgree};
 ghost use Rattle.closed_cuts.specs.NodeTexts.{AllIsWritten};
+ghost use Rattle.closed_cuts.specs.PresenceLaws.{AllPresenceStays, AllPresenceAgrees};
 ghost use Rattle.closed_cuts.specs.QuestionLaws.{AllQuestionsStay, AllQuestionsAgree};
 ghost use Rattle.closed_cuts.specs.RootedLaws.{ReachesAreRooted, UnionsAreRooted, SharedReachesAreOne, AbsentStays};
 ghost use Rattle.closed_cuts.specs.TypeLaws.{AllTypesStay, AllTypesAgree};
@@ -44,6 +45,19 @@ pub fn questions_stay()
 /// The same of two tables that have one cut.
 pub fn questions_agree()
     ensures { AllQuestionsAgree }
+{}
+
+/// The annotations that are written on an element of the cut or of the stubs and those that are present on
+/// it, inherited ones too, with the annotation interfaces that their names mean, are the same over the cut,
+/// and lie in the cut or in the stubs. So are the names that are present in a round with such units as its
+/// roots, and the elements that carry each of them.
+pub fn presence_stays()
+    ensures { AllPresenceStays }
+{}
+
+/// The same of two tables that have one cut.
+pub fn presence_agrees()
+    ensures { AllPresenceAgrees }
 {}
 
 /// The reach of a source unit is a set that the laws are of.
