@@ -1,8 +1,8 @@
 -- The law on presence over closed cuts. At an element of the cut or of a stub, the annotations that are
 -- written there, those that are present there, inherited ones too, and the annotation interfaces that their
--- names mean are the same over the cut, and lie in it. So are the annotations that are present in a round with
--- such units as its roots, and the elements that carry them. All of it is the same over two tables that have
--- one cut.
+-- names mean are the same over the cut, and lie in it. So are the annotations that are present in a round
+-- with such units as its roots, and the elements that carry them. All of it is the same over two tables that
+-- have one cut.
 use Rattle.std.specs.Prelude.{◌≡◌, ℕ, List}
 use Rattle.std.specs.List.{AllByRecursion, Contains}
 use Rattle.apt_base.specs.declared.element.ElementRef.{ElementRef}
