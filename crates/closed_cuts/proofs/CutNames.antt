@@ -4,24 +4,46 @@ use Rattle.std.specs.Option.{option_or}
 use Rattle.std.specs.List.{AllByRecursion, flat_map}
 use Rattle.std.specs.FinMap as fin
 use Rattle.apt_base.specs.Identifiers.{parts}
+use Rattle.apt_base.specs.declared.element.ElementRef.{ElementRef}
 use Rattle.decl_tree.specs.declared.compilation.UnitText.{UnitText}
 use Rattle.element_table.specs.declared.part.Part.{Part}
 use Rattle.element_table.specs.declared.part.Part.TheVariants.{Source, Stub}
 use Rattle.element_table.specs.TypeTable.{TypeTable, unit_of, part_of, has_unit, IsTable}
 use Rattle.element_table.specs.UnitNames.{unit_name}
 use Rattle.name_resolve.specs.Finds.{Finds, Nothing, One, Several}
-use Rattle.name_resolve.specs.Meaning.{imported, tops_of}
+use Rattle.name_resolve.specs.Meaning.{imported, tops_of, but_last}
 use Rattle.name_resolve.specs.QualifiedNames.{prefixes}
 use Rattle.name_resolve.proofs.Agreement.{imported-same}
 use Rattle.name_resolve.proofs.TopTypes.{part_by}
+use Rattle.type_resolve.specs.Scopes.{find_from, find_in, or_stub}
 use Rattle.reach_map.specs.Chains.{unit_chains}
 use Rattle.reach_map.specs.Candidates.{prefix_names, chain_candidates, implied_names, import_prefixes, prefixes_of_all, candidates}
 use Rattle.reach_map.specs.ClosedCuts.{cut, IsClosedSet}
-use Rattle.reach_map.proofs.Asked.{of_implied}
+use Rattle.reach_map.proofs.Asked.{front, of_implied}
 use Rattle.reach_map.proofs.Cuts.{Lies, GoodFinds, SameFinds, SameTop, candidates_same, get_cut, unit_of-cut}
 use Rattle.decl_elements.proofs.Everywhere.{each_left, each_right, each_of_map, each_of_flat_map, each_to}
 use Rattle.closed_cuts.specs.CutElements.{HasUnit, LiesIn}
 use Rattle.closed_cuts.proofs.GoodMeanings.{FindsHave}
+
+-- ---- a unit of a table has the name that it stands under
+
+name_is : (o : Option UnitText) (name : List ℕ) (u : UnitText) → o ≡ Some u → IfSome o (λ unit. unit_name unit ≡ name) → unit_name u ≡ name
+name_is None name u e n = absurd (cc)
+name_is (Some v) name u e n = let same : v ≡ u = cc in ap unit_name (sym same) ∙ n
+
+name_of : (source stub : Option UnitText) (name : List ℕ) (u : UnitText) → option_or source stub ≡ Some u
+    → IfSome source (λ unit. unit_name unit ≡ name) → IfSome stub (λ unit. unit_name unit ≡ name) → unit_name u ≡ name
+name_of (Some s) stub name u e n m = name_is (Some s) name u e n
+name_of None stub name u e n m = name_is stub name u e m
+
+pub unit-named : (table : TypeTable) → IsTable table → (name : List ℕ) (u : UnitText) → unit_of table name ≡ Some u → unit_name u ≡ name
+unit-named table t name u e = name_of (fin.get table.source name) (fin.get table.stub name) name u e (t.sources_named name) (t.stubs_named name)
+
+-- an element of it, by that unit
+pub held : (table : TypeTable) (at : ElementRef) (u : UnitText) → unit_of table at.unit ≡ Some u
+    → find_in table at ≡ record { part = or_stub (part_of table at.unit); unit = u; path = at.path }
+unfolding find_in
+held table at u e = ap (λ (o : Option UnitText). find_from table o at) e
 
 -- ---- a unit of the cut, by whether the name is in the set and what each part has
 
@@ -30,18 +52,34 @@ has b source stub = is_some (cond b source None) || is_some stub
 
 module _ (table : TypeTable) (names : List ℕ → Bool) where
   module _ (closed : IsClosedSet table names) where
-    -- what an import names
-    pub imports_same : (part : Part) (u : UnitText) → Lies table names part u
-        → AllByRecursion (λ i. SameFinds table names (imported (tops_of table) part (parts i.name)) (imported (tops_of (cut table names)) part (parts i.name))) u.imports
+    -- the prefixes of what an import names
+    import_names : (part : Part) (u : UnitText) → Lies table names part u
+        → AllByRecursion (λ i. AllByRecursion (λ p. SameTop table names part p.joined) (prefixes (parts i.name))) u.imports
     unfolding candidates
-    imports_same part u l =
+    import_names part u l =
         let S : List ℕ → Type 0 = SameTop table names part in
         let chains : List (List ℕ) = flat_map (chain_candidates u) (unit_chains u) in
         let all : AllByRecursion S (candidates u) = candidates_same table names closed part u l in
-        each_to (λ i. AllByRecursion S (prefix_names (parts i.name))) _
-        (λ i a. imported-same (tops_of table) (tops_of (cut table names)) (Lies table names) part (parts i.name) (each_of_map S (λ p. p.joined) (prefixes (parts i.name)) a)) u.imports
+        each_to (λ i. AllByRecursion S (prefix_names (parts i.name))) _ (λ i a. each_of_map S (λ p. p.joined) (prefixes (parts i.name)) a) u.imports
         (each_of_flat_map S (λ i. prefix_names (parts i.name)) u.imports
         (each_right S chains (import_prefixes u.imports) (each_left S (chains ++ import_prefixes u.imports) (prefixes_of_all implied_names) all.1.1)))
+
+    -- what an import names
+    pub imports_same : (part : Part) (u : UnitText) → Lies table names part u
+        → AllByRecursion (λ i. SameFinds table names (imported (tops_of table) part (parts i.name)) (imported (tops_of (cut table names)) part (parts i.name))) u.imports
+    imports_same part u l =
+        each_to _ _
+        (λ i a. imported-same (tops_of table) (tops_of (cut table names)) (Lies table names) part (parts i.name) a) u.imports (import_names part u l)
+
+    -- what the names in front of its last one mean
+    pub import_types_same : (part : Part) (u : UnitText) → Lies table names part u
+        → AllByRecursion
+        (λ i. SameFinds table names (imported (tops_of table) part (but_last (parts i.name))) (imported (tops_of (cut table names)) part (but_last (parts i.name)))) u.imports
+    import_types_same part u l =
+        each_to _ _
+        (λ i a.
+        imported-same (tops_of table) (tops_of (cut table names)) (Lies table names) part (but_last (parts i.name)) (front (SameTop table names part) (parts i.name) a))
+        u.imports (import_names part u l)
 
     -- each implied name
     pub implied_same : (part : Part) (u : UnitText) → Lies table names part u → AllByRecursion (SameTop table names part) implied_names
@@ -66,10 +104,6 @@ module _ (table : TypeTable) (names : List ℕ → Bool) where
   unfolding has
   stub_there b source stub u e = ap (λ (o : Option UnitText). is_some (cond b source None) || is_some o) e ∙ has_stub (is_some (cond b source None)) b
 
-  name_is : (o : Option UnitText) (name : List ℕ) (u : UnitText) → o ≡ Some u → IfSome o (λ unit. unit_name unit ≡ name) → unit_name u ≡ name
-  name_is None name u e n = absurd (cc)
-  name_is (Some v) name u e n = let same : v ≡ u = cc in ap unit_name (sym same) ∙ n
-
   pub lies-has : IsTable table → (part : Part) (u : UnitText) → Lies table names part u → HasUnit (cut table names) (unit_name u)
   lies-has t Source u l =
       let e = name_is (fin.get table.source l.0) l.0 u l.2 (t.sources_named l.0) in
@@ -77,6 +111,26 @@ module _ (table : TypeTable) (names : List ℕ → Bool) where
   lies-has t Stub u l =
       let e = name_is (fin.get table.stub l.0) l.0 u l.1 (t.stubs_named l.0) in
       subst (HasUnit (cut table names)) (sym e) (cut_has l.0 ∙ stub_there (names l.0) (fin.get table.source l.0) (fin.get table.stub l.0) u l.1)
+
+  -- it stands under its own name in its part
+  abbrev pub IsPlacedIn : Part → UnitText → List ℕ → Type 0
+  IsPlacedIn part u name = (part_of table name ≡ Some part) × (unit_of table name ≡ Some u)
+
+  source_placed : (source stub : Option UnitText) (u : UnitText) → source ≡ Some u → (part_by source stub ≡ Some Source) × (option_or source stub ≡ Some u)
+  source_placed source stub u e = (rw e refl, rw e refl)
+
+  stub_placed : (source stub : Option UnitText) (u : UnitText) → (is_some source ≡ true → is_some stub ≡ false) → stub ≡ Some u
+      → (part_by source stub ≡ Some Stub) × (option_or source stub ≡ Some u)
+  stub_placed None stub u apart e = (rw e refl, e)
+  stub_placed (Some s) stub u apart e = let no : is_some stub ≡ false = apart refl in let yes : is_some stub ≡ true = ap is_some e in absurd (cc)
+
+  pub lies-placed : IsTable table → (part : Part) (u : UnitText) → Lies table names part u → IsPlacedIn part u (unit_name u)
+  lies-placed t Source u l =
+      subst (IsPlacedIn Source u) (sym (name_is (fin.get table.source l.0) l.0 u l.2 (t.sources_named l.0)))
+      (source_placed (fin.get table.source l.0) (fin.get table.stub l.0) u l.2)
+  lies-placed t Stub u l =
+      subst (IsPlacedIn Stub u) (sym (name_is (fin.get table.stub l.0) l.0 u l.1 (t.stubs_named l.0)))
+      (stub_placed (fin.get table.source l.0) (fin.get table.stub l.0) u (λ e. t.apart l.0 e) l.1)
 
   pub finds-have : IsTable table → (fs : Finds) → GoodFinds table names fs → FindsHave (LiesIn table names) fs
   finds-have t Nothing g = tt

@@ -24,7 +24,7 @@ use Rattle.name_resolve.specs.Finds.{Find, Finds}
 use Rattle.name_resolve.specs.Supertypes.{Supertype, Written, Implied, is_object, written_or_object, superclass_in, interfaces_in}
 use Rattle.name_resolve.specs.Meaning.{Scope, Within, Header, scope_at, tops_of, meaning, qualifier_meaning, found, qualifier}
 use Rattle.name_resolve.specs.Mirrors.{Meant, look_at, ref_of, found_mirror, type_meaning, implied_arguments, class_mirror, supertype_mirror, first_or_nothing, superclass_of, superclass, interfaces_of, interfaces}
-use Rattle.type_resolve.specs.Scopes.{find_from, find_in, or_stub}
+use Rattle.type_resolve.specs.Scopes.{find_in, or_stub}
 use Rattle.type_relations.specs.Boxed.{box_of}
 use Rattle.type_relations.specs.Named.{named_in, object_at}
 use Rattle.reach_map.specs.Chains.{of_option, type_chains, unit_chains}
@@ -42,7 +42,7 @@ use Rattle.closed_cuts.proofs.PartsWithin.{closed_up}
 use Rattle.closed_cuts.proofs.GoodMeanings.{FindsHave, HaveAt, found-good, mirror-good}
 use Rattle.closed_cuts.proofs.WrittenTexts.{all-written}
 use Rattle.closed_cuts.proofs.AgreeingReads.{Good, AllGood, SameMirror, SameMirrors, SameText, SameUnit, SameReads}
-use Rattle.closed_cuts.proofs.CutNames.{implied_same, lies-has, finds-have, Stands, stands}
+use Rattle.closed_cuts.proofs.CutNames.{implied_same, lies-has, finds-have, held, Stands, stands}
 
 module _ (table : TypeTable) (names : NameSet) (rooted : IsRooted table names) where
   abbrev other : TypeTable
@@ -204,12 +204,9 @@ module _ (table : TypeTable) (names : NameSet) (rooted : IsRooted table names) w
   abbrev pub find_at : (at : ElementRef) → P at → Find
   find_at at p = record { part = (stands_at at p).part; unit = (stands_at at p).unit; path = at.path }
 
-  found_here : (t : TypeTable) (at : ElementRef) (part : Part) (u : UnitText) → part_of t at.unit ≡ Some part → unit_of t at.unit ≡ Some u
+  pub found_here : (t : TypeTable) (at : ElementRef) (part : Part) (u : UnitText) → part_of t at.unit ≡ Some part → unit_of t at.unit ≡ Some u
       → find_in t at ≡ record { part = part; unit = u; path = at.path }
-  unfolding find_in
-  found_here t at part u e e' =
-      ap (λ (o : Option UnitText). find_from t o at) e'
-      ∙ ap (λ (o : Option Part). find_of o) e
+  found_here t at part u e e' = held t at u e' ∙ ap (λ (o : Option Part). find_of o) e
     where
       find_of : Option Part → Find
       find_of o = record { part = or_stub o; unit = u; path = at.path }

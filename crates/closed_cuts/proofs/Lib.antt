@@ -19,6 +19,9 @@ pub mod QuestionLawsProofs
 pub mod NameLawsProofs
 pub mod RootedLawsProofs
 pub mod AgreeingCuts
+pub mod FoundElements
+pub mod SameFields
+pub mod FieldLawsProofs
 pub mod SamePresence
 pub mod PresenceLawsProofs
 pub mod AgreementLawsProofs

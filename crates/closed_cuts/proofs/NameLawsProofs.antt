@@ -17,7 +17,7 @@ use Rattle.type_resolve.specs.Scopes.{find_in}
 use Rattle.reach_map.specs.Chains.{type_chains, unit_chains}
 use Rattle.reach_map.specs.Candidates.{implied_names}
 use Rattle.reach_map.specs.ClosedCuts.{NameSet, cut, IsWritten}
-use Rattle.reach_map.proofs.Cuts.{Lies, SameFinds, SameName, SameTop, names_same, members_same}
+use Rattle.reach_map.proofs.Cuts.{Lies, GoodFinds, SameFinds, SameName, SameTop, names_same, members_same}
 use Rattle.decl_elements.proofs.Everywhere.{each_to, each_both, each_contained}
 use Rattle.closed_cuts.specs.CutElements.{HasUnit, LiesIn, IsRooted}
 use Rattle.closed_cuts.specs.Kept.{Kept, IfAny}
@@ -25,20 +25,21 @@ use Rattle.closed_cuts.specs.TypeLaws.{Within}
 use Rattle.closed_cuts.specs.NameLaws as laws
 use Rattle.closed_cuts.specs.NameLaws.{FindsLie, ScopeStays, PlaceStays, NamesStay, AllNamesStay, AllNamesAgree}
 use Rattle.closed_cuts.proofs.AgreeingCuts.{joined, one_cut}
-use Rattle.closed_cuts.proofs.GoodMeanings.{FindsHave}
-use Rattle.closed_cuts.proofs.CutNames.{imports_same, implied_same, finds-have}
-use Rattle.closed_cuts.proofs.CutReads.{ChainKept, chain_kept, text_kept, stands_at, find_at, finds_table, finds_cut}
+use Rattle.closed_cuts.proofs.CutNames.{imports_same, import_types_same, implied_same, lies-has, lies-placed}
+use Rattle.closed_cuts.proofs.CutReads.{ChainKept, chain_kept, text_kept, found_here, stands_at, find_at, finds_table, finds_cut}
 
 module _ (table : TypeTable) (names : NameSet) (rooted : IsRooted table names) where
   abbrev other : TypeTable
   other = cut table names
 
   found_kept : (fs gs : Finds) → SameFinds table names fs gs → laws.SameFinds table (cut table names) (HasUnit (cut table names)) fs gs
-  found_kept fs gs s = record { equal = s.equal; good = at fs (finds-have table names rooted.is_table fs s.good) }
+  found_kept fs gs s = record { equal = s.equal; good = at fs s.good }
     where
-      at : (fs : Finds) → FindsHave (LiesIn table names) fs → FindsLie table (cut table names) (HasUnit (cut table names)) fs
+      at : (fs : Finds) → GoodFinds table names fs → FindsLie table (cut table names) (HasUnit (cut table names)) fs
       at Nothing g = tt
-      at (One f) g = g
+      at (One f) l =
+          let placed = lies-placed table names rooted.is_table f.part f.unit l in
+          record { unit = lies-has table names rooted.is_table f.part f.unit l; is_there = found_here table names rooted table (ref_of f) f.part f.unit placed.0 placed.1 }
       at Several g = tt
 
   kind_lies : (k : TypeKind) (at : ElementRef) → LiesIn table names at → IfAny (LiesIn table names) (if_annotation k at)
@@ -53,7 +54,7 @@ module _ (table : TypeTable) (names : NameSet) (rooted : IsRooted table names) w
 
   annotation_lies : (fs : Finds) → FindsLie table (cut table names) (HasUnit (cut table names)) fs → IfAny (LiesIn table names) (found_annotation fs)
   annotation_lies Nothing g = tt
-  annotation_lies (One f) g = of_lies (type_at f.unit f.path) (ref_of f) g
+  annotation_lies (One f) g = of_lies (type_at f.unit f.path) (ref_of f) g.unit
   annotation_lies Several g = tt
 
   whole_at : (scope : Scope) (l : Lies table names (scope_at scope).part (scope_at scope).unit) (name : List ℕ) → Contains (unit_chains (scope_at scope).unit) (parts name)
@@ -96,6 +97,7 @@ module _ (table : TypeTable) (names : NameSet) (rooted : IsRooted table names) w
     scopes = in_scope f l;
     members = λ name. found_kept _ _ (members_same table names rooted.closed f l name);
     imports = each_to _ _ (λ i s. found_kept _ _ s) f.unit.imports (imports_same table names rooted.closed f.part f.unit l);
+    import_types = each_to _ _ (λ i s. found_kept _ _ s) f.unit.imports (import_types_same table names rooted.closed f.part f.unit l);
     implied = each_to (SameTop table names f.part) _ (λ name s. found_kept _ _ s) implied_names (implied_same table names rooted.closed f.part f.unit l);
   }
 
@@ -117,7 +119,7 @@ module _ (one other third : TypeTable) (Has : List ℕ → Type 0) (f : Find) wh
     where
       lies : (x : Finds) → FindsLie one third Has x → FindsLie one other Has x
       lies Nothing g = tt
-      lies (One f) g = g
+      lies (One f) g = record { unit = g.unit; is_there = g.is_there }
       lies Several g = tt
 
   join_scope : (header : Bool) → ScopeStays one third Has f header → ScopeStays other third Has f header → ScopeStays one other Has f header
@@ -133,6 +135,7 @@ module _ (one other third : TypeTable) (Has : List ℕ → Type 0) (f : Find) wh
     scopes = λ header. join_scope header (r.scopes header) (s.scopes header);
     members = λ name. join_finds _ _ _ (r.members name) (s.members name);
     imports = each_both _ _ _ (λ i a b. join_finds _ _ _ a b) f.unit.imports r.imports s.imports;
+    import_types = each_both _ _ _ (λ i a b. join_finds _ _ _ a b) f.unit.imports r.import_types s.import_types;
     implied =
         each_both
         (λ name. Kept (FindsLie one third Has) (tops_of one f.part name) (tops_of third f.part name))

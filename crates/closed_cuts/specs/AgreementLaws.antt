@@ -7,6 +7,7 @@ use Rattle.reach_map.specs.Agree.{Agree, ShareReach}
 use Rattle.reach_map.specs.ClosedCuts.{NameSet, cut}
 use Rattle.reach_map.specs.Reach.{IsReach, IsReachList}
 use Rattle.closed_cuts.specs.CutElements.{HasUnit}
+use Rattle.closed_cuts.specs.FieldLaws.{FieldsStay}
 use Rattle.closed_cuts.specs.NameLaws.{NamesStay}
 use Rattle.closed_cuts.specs.TypeLaws.{TypesStay}
 use Rattle.closed_cuts.specs.QuestionLaws.{QuestionsStay}
@@ -21,6 +22,7 @@ pub record AgreeOnReach (one other : TypeTable) (root : List ℕ) : Type 0 where
 -- all that the laws on cuts speak of, at elements of the units whose names have this property
 pub record AllStays (one other : TypeTable) (Has : List ℕ → Type 0) : Type 0 where
   pub names : (at : ElementRef) → Has at.unit → NamesStay one other Has at
+  pub fields : (at : ElementRef) → Has at.unit → FieldsStay one other Has at
   pub types : TypesStay one other Has
   pub questions : QuestionsStay one other Has
   pub presence : PresenceStays one other Has

@@ -4,6 +4,7 @@ use Rattle.apt_base.specs.declared.element.ElementRef.{ElementRef}
 use Rattle.element_table.specs.TypeTable.{TypeTable}
 use Rattle.reach_map.specs.ClosedCuts.{NameSet, cut}
 use Rattle.closed_cuts.specs.CutElements.{HasUnit, IsRooted}
+use Rattle.closed_cuts.specs.FieldLaws.{FieldsStay}
 use Rattle.closed_cuts.specs.NameLaws.{NamesStay}
 use Rattle.closed_cuts.specs.PresenceLaws.{ElementPresenceStays}
 use Rattle.closed_cuts.specs.TypeLaws.{ElementStays}
@@ -11,6 +12,7 @@ use Rattle.closed_cuts.specs.TypeLaws.{ElementStays}
 -- the names that are written at it, what stands there, and the annotations on it
 pub record Stays (one other : TypeTable) (Has : List ℕ → Type 0) (at : ElementRef) : Type 0 where
   pub names : NamesStay one other Has at
+  pub fields : FieldsStay one other Has at
   pub element : ElementStays one other Has at
   pub presence : ElementPresenceStays one other Has at
 

@@ -1,6 +1,7 @@
 pub mod AgreementLaws
 pub mod CutElements
 pub mod ElementLaws
+pub mod FieldLaws
 pub mod Kept
 pub mod NameLaws
 pub mod NodeTexts

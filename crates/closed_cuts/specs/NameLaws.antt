@@ -8,7 +8,7 @@ use Rattle.decl_tree.specs.declared.type_text.TypeText.{TypeText}
 use Rattle.element_table.specs.TypeTable.{TypeTable}
 use Rattle.name_resolve.specs.Annotations.{annotation_meaning}
 use Rattle.name_resolve.specs.Finds.{Find, Finds, Nothing, One, Several}
-use Rattle.name_resolve.specs.Meaning.{scope_of, tops_of, imported, members, meaning, qualifier_meaning}
+use Rattle.name_resolve.specs.Meaning.{scope_of, tops_of, imported, members, meaning, qualifier_meaning, but_last}
 use Rattle.name_resolve.specs.Mirrors.{ref_of, type_meaning}
 use Rattle.type_resolve.specs.Scopes.{find_in}
 use Rattle.reach_map.specs.Candidates.{implied_names}
@@ -20,9 +20,14 @@ use Rattle.closed_cuts.specs.Kept.{Kept, IfAny}
 
 -- over two tables, at elements of the units whose names have a property
 module _ (one other : TypeTable) (Has : List ℕ → Type 0) where
-  -- the element that is found, if one is, is of one of these units
+  -- what stands at an element of one of these units
+  pub record FindLies (f : Find) : Type 0 where
+    pub unit : Has (ref_of f).unit
+    pub is_there : find_in one (ref_of f) ≡ f
+
+  -- the element that is found, if one is, is such a one
   abbrev pub FindsLie : Finds → Type 0
-  FindsLie (One f) = Has (ref_of f).unit
+  FindsLie (One f) = FindLies f
   FindsLie Nothing = Unit {0}
   FindsLie Several = Unit {0}
 
@@ -55,6 +60,12 @@ module _ (one other : TypeTable) (Has : List ℕ → Type 0) where
     pub imports :
         AllByRecursion
         (λ i. SameFinds (imported (tops_of one) f.part (parts i.name)) (imported (tops_of other) f.part (parts i.name))) f.unit.imports
+    -- what the names in front of the last one of an import mean: a static one takes its members from there
+    pub import_types :
+        AllByRecursion
+        (λ i.
+        SameFinds (imported (tops_of one) f.part (but_last (parts i.name)))
+        (imported (tops_of other) f.part (but_last (parts i.name)))) f.unit.imports
     pub implied : AllByRecursion (λ name. SameFinds (tops_of one f.part name) (tops_of other f.part name)) implied_names
 
   pub record NamesStay (at : ElementRef) : Type 0 where

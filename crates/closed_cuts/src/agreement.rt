@@ -5,7 +5,8 @@ ghost use Rattle.element_table.specs.declared.part.Part.TheVariants.{Source};
 ghost use Rattle.closed_cuts.specs.AgreementLaws.{AgreeOnReach, ShareAllOfReach};
 
 use crate::laws::{
-    names_agree, presence_agrees, questions_agree, shared_reaches_are_one, types_agree,
+    fields_agree, names_agree, presence_agrees, questions_agree, shared_reaches_are_one,
+    types_agree,
 };
 use apt_base::{Name, NoMemory};
 use element_table::Table;
@@ -34,6 +35,7 @@ pub fn agrees_on_reach(
     other.find(root);
     shared_reaches_are_one();
     names_agree();
+    fields_agree();
     types_agree();
     questions_agree();
     presence_agrees();

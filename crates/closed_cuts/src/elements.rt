@@ -4,7 +4,7 @@ ghost use Rattle.reach_map.specs.ClosedCuts.{among};
 ghost use Rattle.closed_cuts.specs.CutElements.{LiesIn};
 ghost use Rattle.closed_cuts.specs.ElementLaws.{StaysInCut};
 
-use crate::laws::{names_stay, presence_stays, types_stay};
+use crate::laws::{fields_stay, names_stay, presence_stays, types_stay};
 use apt_base::{ElementRef, List, Name};
 use element_table::Table;
 use reach_map::find_in_cut;
@@ -20,6 +20,7 @@ pub fn lies_in_cut(table: &Table, names: &List<Name>, element: &ElementRef) -> b
     ensures law { IsTrue result → StaysInCut table.now (among names.now) element.now }
 {
     names_stay();
+    fields_stay();
     types_stay();
     presence_stays();
     find_in_cut(table, names, &element.unit).is_some()

@@ -1,4 +1,5 @@
 // Laws of names, types and present annotations over closed cuts.
+ghost use Rattle.closed_cuts.specs.FieldLaws.{AllFieldsStay, AllFieldsAgree};
 ghost use Rattle.closed_cuts.specs.NameLaws.{AllNamesStay, AllNamesAgree};
 ghost use Rattle.closed_cuts.specs.NodeTexts.{AllIsWritten};
 ghost use Rattle.closed_cuts.specs.PresenceLaws.{AllPresenceStays, AllPresenceAgrees};
@@ -22,6 +23,18 @@ pub fn names_stay()
 /// The same of two tables that have one cut.
 pub fn names_agree()
     ensures { AllNamesAgree }
+{}
+
+/// The fields and enum constants that a type of the cut or of the stubs has, inherited ones too, and what
+/// each name chain that is written there means as the name of one are the same over the cut, and lie in the
+/// cut or in the stubs.
+pub fn fields_stay()
+    ensures { AllFieldsStay }
+{}
+
+/// The same of two tables that have one cut.
+pub fn fields_agree()
+    ensures { AllFieldsAgree }
 {}
 
 /// What stands at an element of the cut or of the stubs, the headers of types and the bounds of type

@@ -3,9 +3,9 @@
 //!
 //! A set of names is closed where it holds, with each source unit of the table in it, the candidates of that
 //! unit (`reach_map`). `specs/CutElements` says which elements lie in a cut, and which sets the laws are of:
-//! closed ones that have a source of the table. `specs/NameLaws`, `specs/TypeLaws`, `specs/QuestionLaws` and
-//! `specs/PresenceLaws` have the laws, and `specs/RootedLaws` has some sets that they are of, as the reach of
-//! a source. Each law is the contract of a function that does nothing, and a caller has it by calling that
+//! closed ones that have a source of the table. `specs/NameLaws`, `specs/FieldLaws`, `specs/TypeLaws`,
+//! `specs/QuestionLaws` and `specs/PresenceLaws` have the laws, and `specs/RootedLaws` has some sets that they
+//! are of, as the reach of a source. Each law is the contract of a function that does nothing, and a caller has it by calling that
 //! function, as `agrees_on_reach` and `lies_in_cut` do.
 //!
 //! `proofs/AgreeingReads` says what a question on types reads of a table, and the files `proofs/Same..` that
@@ -24,7 +24,7 @@ mod laws;
 pub use agreement::agrees_on_reach;
 pub use elements::lies_in_cut;
 pub use laws::{
-    absent_stays, elements_are_written, names_agree, names_stay, presence_agrees, presence_stays,
-    questions_agree, questions_stay, reaches_are_rooted, shared_reaches_are_one, types_agree,
-    types_stay, unions_are_rooted,
+    absent_stays, elements_are_written, fields_agree, fields_stay, names_agree, names_stay,
+    presence_agrees, presence_stays, questions_agree, questions_stay, reaches_are_rooted,
+    shared_reaches_are_one, types_agree, types_stay, unions_are_rooted,
 };

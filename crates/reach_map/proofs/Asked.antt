@@ -66,7 +66,7 @@ module _ (P : List ℕ → Type 0) where
   front_after before (last ∷ []) a = tt
   front_after before (first ∷ next ∷ more) a = (a.0, front_after (before ++ 46 ∷ first) (next ∷ more) a.1)
 
-  front : (names : List (List ℕ)) → EachPrefix (prefixes names) → EachPrefix (prefixes (but_last names))
+  pub front : (names : List (List ℕ)) → EachPrefix (prefixes names) → EachPrefix (prefixes (but_last names))
   front [] a = tt
   front (last ∷ []) a = tt
   front (first ∷ next ∷ more) a = (a.0, front_after first (next ∷ more) a.1)
