@@ -30,6 +30,9 @@ CHILD = ["sh", "-c", "printf '" + "".join(f"\\{byte:03o}" for byte in ANSWERS) +
 def make_project(count):
     folder = tempfile.mkdtemp(prefix="apt-bench-first-")
     os.makedirs(os.path.join(folder, "src", "p"))
+    os.makedirs(os.path.join(folder, "stubs"))
+    with open(os.path.join(folder, "stubs", "A.java"), "w", encoding="ascii") as file:
+        file.write("package q; public @interface A {}\n")
     for number in range(count):
         name = f"C{number:05}"
         with open(os.path.join(folder, "src", "p", name + ".java"), "w", encoding="ascii") as file:

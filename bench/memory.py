@@ -92,6 +92,7 @@ class Texts:
         """The files of the project by their paths."""
         files = {f"src/p/C{number:05}.java": self.type("p", f"C{number:05}", True) for number in range(FILES)}
         files.update({f"stubs/q/S{number:05}.java": self.type("q", f"S{number:05}", False) for number in range(FILES)})
+        files["stubs/q/A.java"] = "package q; public @interface A {}\n"
         return files
 
 

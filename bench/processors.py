@@ -35,6 +35,9 @@ def make_project(count):
     """A folder with the sources, and a configuration that names this many processors."""
     folder = tempfile.mkdtemp(prefix="apt-bench-processors-", dir="/dev/shm" if os.path.isdir("/dev/shm") else None)
     os.makedirs(os.path.join(folder, "src", "p"))
+    os.makedirs(os.path.join(folder, "stubs"))
+    with open(os.path.join(folder, "stubs", "A.java"), "w", encoding="ascii") as file:
+        file.write("package q; public @interface A {}\n")
     for number in range(SOURCES):
         name = f"C{number:05}"
         with open(os.path.join(folder, "src", "p", name + ".java"), "w", encoding="ascii") as file:

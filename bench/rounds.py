@@ -61,6 +61,9 @@ class Project:
         self.end = end
         self.folder = tempfile.mkdtemp(prefix="apt-bench-rounds-", dir=where)
         os.makedirs(os.path.join(self.folder, "src", "p"))
+        os.makedirs(os.path.join(self.folder, "stubs"))
+        with open(os.path.join(self.folder, "stubs", "A.java"), "w", encoding="ascii") as file:
+            file.write("package q; public @interface A {}\n")
         with open(os.path.join(self.folder, "src", "p", "C.java"), "wb") as file:
             file.write(b"package p; @q.A class C {}\n")
         with open(os.path.join(self.folder, "apt.json"), "w", encoding="ascii") as file:

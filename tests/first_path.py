@@ -86,7 +86,7 @@ def a_source_of_a_type_that_a_stub_has(project):
 
 @case
 def stubs_are_no_roots(project):
-    project.write("stubs/q/A.java", b"package q; public @interface A {}")
+    project.write("stubs/q/B.java", b"package q; public @interface B {}")
     project.write("stubs/r/B.java", b"package r; @q.B class B {}")
     run = project.run(project.scripted(CREATES))
     expect("the output", run.output, REPORT_OF_ONE_FILE)
@@ -446,6 +446,7 @@ def a_child_that_creates_a_file_twice(project):
 @case
 def a_claim_that_is_broken(project):
     project.write("src/p/C.java", b"package p; @apt.demo.Registered class C {}")
+    project.write("stubs/apt/demo/Registered.java", b"package apt.demo; public @interface Registered {}")
     hello = by_hand("00000021 40 00000001 00000013") + b"apt.demo.Registered" + by_hand("00000000 00")
     steps = ["read", say(hello), "read", say(by_hand("00000002 41 00")), "rest"]
     refused(project, project.scripted(steps), CLAIM_BROKEN, "ClaimBroken(maker, always, false)")
@@ -1039,8 +1040,8 @@ def more_sources_than_may_be(project):
 
 @case
 def as_many_types_in_one_file_as_may_be(project):
-    # the project has another file with one type
-    types = "".join(f"class T{number} {{}}\n" for number in range(49_999))
+    # the project has another file with one type, and a stub
+    types = "".join(f"class T{number} {{}}\n" for number in range(49_998))
     project.write("src/p/Types.java", f"package p;\n{types}".encode())
     run = project.run(["build"], before=WITH_300_MEGABYTES)
     expect("the output", run.output, REPORT_WITHOUT_PROCESSOR)

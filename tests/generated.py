@@ -292,6 +292,7 @@ def roots_and_files_ascend(project):
 
 @case
 def a_later_round_offers_what_its_roots_have(project):
+    project.write("stubs/r/B.java", b"package r; public @interface B {}")
     other = b"package p; @r.B class D {}"
     publishes(project, [[create_source("p.D", other)], [create_source("p.E")], [], []],
               ["file SOURCE_OUTPUT/p/D.java 26", "file SOURCE_OUTPUT/p/E.java 26", done(4, 2)],
@@ -303,6 +304,7 @@ def a_later_round_offers_what_its_roots_have(project):
 @case
 def a_processor_that_is_never_asked(project):
     project.write("src/p/C.java", b"package p; @r.B class C {}")
+    project.write("stubs/r/B.java", b"package r; public @interface B {}")
     publishes(project, [], [done(2, 0)], {}, sent=[])
 
 
@@ -348,13 +350,14 @@ def made(project, count):
 
 @case
 def as_many_types_as_may_be(project):
-    errs(project, [made(project, 49_999), [message(ERROR, "full")], []],
+    # the project has a type and the stub of its annotation
+    errs(project, [made(project, 49_998), [message(ERROR, "full")], []],
          ["error: [maker] full", "errors: 3 rounds, 1 errors, 0 warnings"])
 
 
 @case
 def one_type_too_many(project):
-    refuses(project, [made(project, 50_000)], PAST_A_LIMIT, "TooLarge(Types, 50000)")
+    refuses(project, [made(project, 49_999)], PAST_A_LIMIT, "TooLarge(Types, 50000)")
 
 
 @case
@@ -389,6 +392,7 @@ def no_java_file_in_a_later_round(project):
 
 @case
 def a_created_source_of_two_types_and_one_of_a_package(project):
+    project.write("stubs/q/B.java", b"package q; public @interface B {}")
     two = b"package p; class D {} class E { void m(@q.A int a) {} }"
     files = {"SOURCE_OUTPUT/p/D.java": two, "SOURCE_OUTPUT/p/package-info.java": b"@q.B package p;"}
     frames = [create_source("p.D", two), create_source("p.package-info", files["SOURCE_OUTPUT/p/package-info.java"])]

@@ -16,6 +16,8 @@ CHILD = os.path.join(HERE, "scripted_child.py")
 SECONDS = 60
 
 SOURCE = b"package p; @q.A class C {}"
+# The stub that declares its annotation.
+STUB = b"package q; public @interface A {}"
 # The files of the configuration, beside apt.json.
 SERVICES = "res/META-INF/services/javax.annotation.processing.Processor"
 KINDS = "res/META-INF/gradle/incremental.annotation.processors"
@@ -91,12 +93,13 @@ class Run:
 
 
 class Project:
-    """A fresh folder with one source, and what the program is called with there."""
+    """A fresh folder with one source and the stub of its annotation, and what the program is called with there."""
 
     def __init__(self):
         self.folder = tempfile.mkdtemp(prefix="apt-host-")
         self.record = self.path("child-record")
         self.write("src/p/C.java", SOURCE)
+        self.write("stubs/q/A.java", STUB)
 
     def path(self, name):
         return os.path.join(self.folder, name)

@@ -1,0 +1,1 @@
+package q; public @interface A {}
