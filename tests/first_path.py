@@ -103,8 +103,27 @@ def a_source_without_an_annotation(project):
     expect("what the child was sent", project.sent(), INIT)
 
 
+@case
+def an_annotation_that_is_declared_nowhere(project):
+    os.remove(project.path("stubs/q/A.java"))
+    run = project.run(project.scripted(["read", say(HELLO), "rest"]))
+    expect("the output", run.output, REPORT_OF_NO_FILE)
+    expect("the status", run.status, DONE_STATUS)
+    expect("what the child was sent", project.sent(), INIT)
+
+
+@case
+def an_annotation_by_an_import(project):
+    project.write("src/p/C.java", b"package p; import q.*; @A class C {}")
+    run = project.run(project.scripted(CREATES))
+    expect("the output", run.output, REPORT_OF_ONE_FILE)
+    expect("the status", run.status, DONE_STATUS)
+    expect("what the child was sent", project.sent(), INIT + FIRST_ROUND + ACCEPTED + LAST_ROUND)
+
+
 # The project of a shop: a package with a doc comment and without an annotation, a class with one that is imported, an interface with one by its
-# whole name, and a class with two, a field initialiser, a nested enum with a body and a method with type parameters.
+# whole name, and a class with two that are imported on demand, a field initialiser, a nested enum with a body and a method with type parameters.
+# What is declared nowhere, as Override, is not present.
 SHOP = {
     "package-info.java": """/** The shop. */
 package shop;
@@ -158,10 +177,12 @@ def the_project_of_a_shop(project):
     shutil.rmtree(project.path("src"))
     for name, content in SHOP.items():
         project.write("src/shop/" + name, content.encode())
+    for name in ("Builder", "Checked", "Registered"):
+        project.write(f"stubs/apt/demo/{name}.java", f"package apt.demo; public @interface {name} {{}}".encode())
     run = project.run(project.scripted(["read", say(frames.hello("*")), "read", say(DONE), "read", say(DONE), "rest"]))
     expect("the output", run.output, REPORT_OF_NO_FILE)
     roots = ["shop.Base", "shop.Cart", "shop.Item", "shop.package-info"]
-    first = frames.round_frame(1, roots, offered=["Builder", "Checked", "Registered", "apt.demo.Registered"])
+    first = frames.round_frame(1, roots, offered=["apt.demo.Builder", "apt.demo.Checked", "apt.demo.Registered"])
     expect("what the child was sent", project.sent(), INIT + first + LAST_ROUND)
 
 

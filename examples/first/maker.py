@@ -2,9 +2,10 @@
 """A processor that lists what it is shown.
 
 It supports the annotation q.A, which stubs/q/A.java declares, and creates in round 1 the resource 'roots': the names
-of the root types, each ended by a line end. It talks with the host over its standard input and output, one frame at a time: the host sends Init, which
-it answers by Hello; for each Round it sends what it creates, waits for the reply to each creation, and ends by Done.
-frames.py, which spells and reads the frames, stands in examples and is copied beside it.
+of the root types, each ended by a line end. It talks with the host over its standard input and output, one frame at a
+time: the host sends Init, which it answers by Hello; for each Round it sends what it creates, waits for the reply to
+each creation, and ends by Done. frames.py, which spells and reads the frames, stands in examples and is copied beside
+it.
 """
 import frames
 

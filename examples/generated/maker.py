@@ -1,10 +1,10 @@
 #!/usr/bin/env python3
 """A processor that generates sources, prints messages and writes a resource.
 
-It supports the annotation q.A, which stubs/q/A.java declares. For each class C of the project it creates the source CInfo, which is annotated too, so
-that the host shows it in a further round; for a class whose name ends in Info it creates none. In the last round it
-writes the resource 'classes': the names of all classes that it was shown. It prints a note for each source that it
-creates, and a warning where there is a class that it makes none for.
+It supports the annotation q.A, which stubs/q/A.java declares. For each class C of the project it creates the source
+CInfo, which is annotated too, so that the host shows it in a further round; for a class whose name ends in Info it
+creates none. In the last round it writes the resource 'classes': the names of all classes that it was shown. It prints
+a note for each source that it creates, and a warning where there is a class that it makes none for.
 
 It talks with the host over its standard input and output, one frame at a time: the host sends Init, which it answers by
 Hello; for each Round it sends creations and messages, waits for the reply to each, and ends by Done. frames.py, which

@@ -3,7 +3,6 @@ pub mod Limits
 pub mod Creations
 pub mod Plans
 pub mod Refusals
-pub mod Annotations
 pub mod Units
 pub mod Faults
 pub mod Entering

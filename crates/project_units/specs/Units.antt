@@ -1,6 +1,5 @@
--- The units of a run in the type table: how units, and those of created sources, enter it, and which annotations are present on them.
+-- The units of a run in the type table: how units, and those of created sources, enter it.
 use Rattle.std.specs.Prelude.{ℕ, nat_lt, List, [], ◌∷◌, ◌++◌, length, map, Result, Ok, Err, if◌then◌else◌}
-use Rattle.std.specs.Option.{option_map_or}
 use Rattle.std.specs.FinMap as fin
 use Rattle.apt_base.specs.declared.kinds.What.TheVariants.{Types, FileBytes}
 use Rattle.decl_tree.specs.declared.compilation.UnitText.{UnitText}
@@ -9,26 +8,10 @@ use Rattle.file_readings.specs.FileReadings.{reading_of}
 use Rattle.element_table.specs.declared.part.Part.{Part}
 use Rattle.element_table.specs.declared.part.Part.TheVariants.{Source}
 use Rattle.element_table.specs.UnitNames.{unit_name}
-use Rattle.element_table.specs.TypeTable.{TypeTable, unit_of, Against, IsThere, IsFull, outcome_of}
-use Rattle.project_units.specs.Annotations.{in_unit}
+use Rattle.element_table.specs.TypeTable.{TypeTable, Against, IsThere, IsFull, outcome_of}
 use Rattle.project_units.specs.Limits.{limit_of}
 use Rattle.apt_base.specs.Names.{NameSet, with_names, names_in}
 use Rattle.project_units.specs.Refusals.{Refusal, BadGenerated, GeneratedDuplicate, past}
-
--- ---- annotations
-
--- the names of the annotations that are written in the unit of the table with this name
-abbrev pub names_at : TypeTable → List ℕ → List (List ℕ)
-names_at table root = option_map_or in_unit (unit_of table root) []
-
--- names to which the units of these names add those that are in them
-abbrev pub with_names_at : TypeTable → NameSet → List (List ℕ) → NameSet
-with_names_at table names [] = names
-with_names_at table names (root ∷ roots) = with_names_at table (with_names names (names_at table root)) roots
-
--- the annotations that are present on units of the table and on all that they enclose, by their names, each once and ascending
-abbrev pub present_names : TypeTable → List (List ℕ) → List (List ℕ)
-present_names table roots = names_in (with_names_at table fin.empty roots)
 
 -- ---- units
 

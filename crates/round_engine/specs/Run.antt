@@ -22,7 +22,8 @@ use Rattle.round_engine.specs.declared.messages.Placed.{Placed}
 use Rattle.round_engine.specs.declared.rounds.Round.{Round}
 use Rattle.project_units.specs.Refusals.{Refusal, UnbuiltTalk, TooManyQuestions, ClaimBroken, TooManyRounds}
 use Rattle.element_table.specs.TypeTable.{TypeTable}
-use Rattle.project_units.specs.Units.{present_names, Entered, enter_all, all_of, unit_names}
+use Rattle.project_units.specs.Units.{Entered, enter_all, all_of, unit_names}
+use Rattle.round_env.specs.Presence.{present_names}
 use Rattle.project_units.specs.Creations.{sources_among, creates_source, unread_among}
 use Rattle.project_units.specs.Plans.{Plan, init_frame}
 

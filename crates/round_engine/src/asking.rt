@@ -17,7 +17,8 @@ use apt_base::{Claim, List, Name, NoMemory, copy_names};
 use apt_outside::Children;
 use child_session::{Showing, show_round};
 use processor_claims::Turn;
-use project_units::{Refusal, bytes_of, present_names};
+use project_units::{Refusal, bytes_of};
+use round_env::present;
 use std::alloc::Global;
 use wire_frames::Frame;
 
@@ -179,7 +180,7 @@ pub(crate) fn ask_all<C: Children>(
     ensures attends { Over C.Children children.old children.new (AttendsAll run.now.group) }
     ensures asks { Asks C.Children run.now round.now so_far.old so_far.new children.old children.new result }
 {
-    let present = present_names(alloc, &round.table, round.roots.as_slice())?;
+    let present = present(alloc, &round.table, &round.roots)?;
     let mut turn = turn_of(alloc, run, round, so_far, &present)?;
     let mut claimed = false;
     while let Some(number) = turn.next(claimed) {

@@ -1,7 +1,6 @@
 use Rattle.std.proofs.Common.{◌≡◌, ◌<◌, ℕ, List, [], Contains, length, map, get_or, refl, sym, ap, ◌∙◌, subst, arith}
 use Rattle.std.specs.List.{AllByRecursion}
 use Rattle.std.proofs.lemmas.Result.{err_from_is_err_and}
-use Rattle.project_units.specs.Units.{present_names}
 use Rattle.round_engine.specs.Run.{present_in, offered_names}
 use Rattle.processor_claims.specs.Turns.{offered, IsWithin}
 use Rattle.round_engine.proofs.AskedInTurn.{within_number, within_names, within_later}
@@ -24,7 +23,7 @@ loop-number-init g c =
     let C = g.C.Children in
     let d = c.args.run.now in
     let k0 = C.state c.args.children.now in
-    let present_is : c.in_ok-present.present ≡ present_in c.args.round.now = c.in_ok-present.ensures.names ∙ ap (present_names c.args.round.now.table) c.as_slice.ensures in
+    let present_is : c.in_ok-present.present ≡ present_in c.args.round.now = c.in_ok-present.ensures.names in
     record {
       later = omega arith;
       starts = refl;
@@ -54,8 +53,8 @@ returns-clause-asks g c = λ told processors stands.
 pub offered_names-requires : goal.offered_names-requires
 offered_names-requires g c =
     let d = c.args.run.now in
-    subst (AllByRecursion (λ at. at < length c.as_slice-in-Some.result.now)) (sym (c.as_slice-in-Some-2.ensures ∙ c.offered.ensures))
-    (subst (λ (xs : List (List ℕ)). AllByRecursion (λ at. at < length xs) (offered c.next.new.self)) (sym (c.as_slice-in-Some.ensures ∙ c.in_ok-present.ensures.names ∙ ap (present_names c.args.round.now.table) c.as_slice.ensures))
+    subst (AllByRecursion (λ at. at < length c.as_slice.result.now)) (sym (c.as_slice-in-Some.ensures ∙ c.offered.ensures))
+    (subst (λ (xs : List (List ℕ)). AllByRecursion (λ at. at < length xs) (offered c.next.new.self)) (sym (c.as_slice.ensures ∙ c.in_ok-present.ensures.names))
     (within_names (length d.supported) (length (present_in c.args.round.now)) c.loop-number.turn c.loop-number.claimed c.in-Some.number c.next.new.self c.loop-number.invariant.within c.in-Some.ensures.asks))
 
 pub ask-requires-clause-number : goal.ask-requires-clause-number
@@ -73,8 +72,8 @@ returns-in_err-claimed-clause-asks g c = λ told processors stands.
     let is = (c.loop-number.invariant.asks told).on processors stands in
     let names_are : c.in_ok-offered.offered ≡ offered_names r (offered new) =
     c.in_ok-offered.ensures
-    ∙ ap (λ xs. map (λ at. get_or xs at []) c.as_slice-in-Some-2.result.now) (c.as_slice-in-Some.ensures ∙ c.in_ok-present.ensures.names ∙ ap (present_names r.table) c.as_slice.ensures)
-    ∙ ap (map (λ at. get_or (present_in r) at [])) (c.as_slice-in-Some-2.ensures ∙ c.offered.ensures) in
+    ∙ ap (λ xs. map (λ at. get_or xs at []) c.as_slice-in-Some.result.now) (c.as_slice.ensures ∙ c.in_ok-present.ensures.names)
+    ∙ ap (map (λ at. get_or (present_in r) at [])) (c.as_slice-in-Some.ensures ∙ c.offered.ensures) in
     let e = err_from_is_err_and c.from_residual-in_err-claimed.result c.from_residual-in_err-claimed.ensures.1 in
     rw (e.1, e.2) (asking_stops c.args.run.now r c.args.so_far.now (C.state c.args.children.now) processors c.loop-number.so_far (C.state c.loop-number.children) c.loop-number.turn c.loop-number.claimed is
     c.in-Some.number new c.in-Some.ensures.asks c.in-Some.ensures.fewer c.in_ok-offered.offered names_are _ _ c.in_err-claimed.field-0.0 (C.state c.ask.new.children) (c.in_err-claimed.ensures.asks told processors is.stands))
@@ -91,8 +90,8 @@ loop-number-preserved g c =
     let new = c.next.new.self in
     let names_are : c.in_ok-offered.offered ≡ offered_names r (offered new) =
     c.in_ok-offered.ensures
-    ∙ ap (λ xs. map (λ at. get_or xs at []) c.as_slice-in-Some-2.result.now) (c.as_slice-in-Some.ensures ∙ c.in_ok-present.ensures.names ∙ ap (present_names r.table) c.as_slice.ensures)
-    ∙ ap (map (λ at. get_or (present_in r) at [])) (c.as_slice-in-Some-2.ensures ∙ c.offered.ensures) in
+    ∙ ap (λ xs. map (λ at. get_or xs at []) c.as_slice-in-Some.result.now) (c.as_slice.ensures ∙ c.in_ok-present.ensures.names)
+    ∙ ap (map (λ at. get_or (present_in r) at [])) (c.as_slice-in-Some.ensures ∙ c.offered.ensures) in
     record {
       later = omega (arith, c.loop-number.invariant.later, c.ask.ensures.reason.later);
       starts = c.ask.ensures.starts ∙ c.loop-number.invariant.starts;
