@@ -4,7 +4,7 @@ use Rattle.std.proofs.lemmas.Bool.{false≢true}
 use Rattle.tree_store.specs.declared.fault.StoreFault.{StoreFault}
 use Rattle.tree_store.specs.declared.fault.StoreFault.TheVariants as store
 use Rattle.project_units.specs.Refusals.{BadWords, Object, Tree, Sink, Children}
-use Rattle.project_reading.specs.Verdicts.{Verdict, Done, Errors, Refused, Failed, Memory, verdict, is_free, is_finished, has_run, is_tree, is_sink, named_in, fails}
+use Rattle.project_reading.specs.Verdicts.{Verdict, Done, Errors, Refused, Failed, Memory, verdict, is_free, is_finished, has_run, is_tree, is_sink, is_children, named_in, fails}
 use Rattle.project_reading.specs.Endings.{of_store, EndsEarly}
 use Rattle.apt_host.specs.BuildEndings.{IsConcluded}
 use Rattle.project_reading.specs.Entering.{IsDueRead}
@@ -57,6 +57,14 @@ store_due store.Memory = tt
 pub store_unnamed : (fault : StoreFault) → named_in (verdict (of_store fault)) ≡ None
 store_unnamed store.Failed = refl
 store_unnamed store.Memory = refl
+
+-- no child failed where a build came to its end
+pub no_child_concluded : (v : Verdict) → IsConcluded v → fails is_children v ≡ false
+no_child_concluded Done concluded = refl
+no_child_concluded (Errors count) concluded = refl
+no_child_concluded (Refused refusal) concluded = absurd concluded
+no_child_concluded (Failed object) concluded = concluded
+no_child_concluded Memory concluded = refl
 
 -- what comes behind a run names no processor
 pub unnamed_concluded : (v : Verdict) → IsConcluded v → named_in v ≡ None

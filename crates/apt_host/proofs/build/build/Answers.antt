@@ -14,7 +14,7 @@ use Rattle.apt_host.specs.Making.{concluding_report}
 use Rattle.apt_host.specs.Listed.{numbered_of, GainsFirst}
 use Rattle.project_reading.specs.Entering.{IsDueRead}
 use Rattle.apt_host.specs.Promises.{Answers, RefusesRead, IsDue, Leaves, IsFront, Adds, ShowsOver, processors_in}
-use Rattle.apt_host.proofs.Early.{not_done_early, unfinished_early, not_run_early, no_sink_early, store_early, store_free, store_unnamed, unnamed_concluded}
+use Rattle.apt_host.proofs.Early.{not_done_early, unfinished_early, not_run_early, no_sink_early, store_early, store_free, store_unnamed, no_child_concluded, unnamed_concluded}
 use Rattle.apt_host.proofs.EarlyRefusals.{refuses_read, refuses_free, refuses_concluded, refuses_after, due_project, due_store, due_concluded}
 use Rattle.apt_host.proofs.Leaving.{leaves_keep}
 use Rattle.apt_host.proofs.Writing.{begins_with_nothing}
@@ -142,6 +142,11 @@ returns-clause-uses g c =
     uses_key T.tells C.tells c.args.options.now (T.files c.args.tree.now) key (C.state c.args.children.now) (C.state c.make.new.children)
     (λ told. sym (ap processors_in (c.in_ok-project.ensures.read told))) c.in_ok-project.ensures.few Done (closed c.conclude.result) c.in_ok-finished.ensures.uses
     (λ run. refl) (subst (λ name. IfSome name (Contains (names_in key))) (sym (unnamed_concluded (closed c.conclude.result) c.conclude.ensures.concluded)) tt)
+
+pub returns-clause-children : goal.returns-clause-children
+returns-clause-children g c =
+    let none = no_child_concluded (closed c.conclude.result) c.conclude.ensures.concluded in
+    record { later = c.in_ok-finished.ensures.cause.later; rose = λ failed. absurd (false≢true (sym none ∙ failed)) }
 
 -- ---- what is due
 
