@@ -12,6 +12,7 @@ What is expected is written by hand, or comes from the JDK: SameDeclarations.jav
 its class files, as javax.lang.model has both. No expected text was made by the command itself.
 """
 import concurrent.futures
+import functools
 import json
 import os
 import shutil
@@ -31,7 +32,21 @@ FAST = ["-XX:+UseSerialGC", "-XX:TieredStopAtLevel=1"]
 
 REPORT = b"mode: clean (Full), started 0\ndone: 2 rounds, 0 files, 0 errors, 0 warnings\n"
 
-case = Cases("stubs")
+
+
+class StubCases(Cases):
+    """Cases whose projects have no stubs at first, since the command writes them."""
+
+    def __call__(self, function):
+        @functools.wraps(function)
+        def without_stubs(project):
+            shutil.rmtree(project.path("stubs"))
+            function(project)
+
+        return super().__call__(without_stubs)
+
+
+case = StubCases("stubs")
 
 
 # ---- what the cases share
