@@ -108,6 +108,14 @@ module _ (table : TypeTable) (is : IsTable table) where
       by_name name u (subst (λ o. IfSome o (λ v. unit_name v ≡ name)) e (is.stubs_named name))
       (no_source (fin.get table.source name) (fin.get table.stub name) (is.apart name) u e)
 
+  by_part : (source stub : Option UnitText) (name : List ℕ) (u : UnitText) → fin.get table.source name ≡ source → fin.get table.stub name ≡ stub
+      → option_or source stub ≡ Some u → IsPlacedUnit table u
+  by_part (Some s) stub name u source_is stub_is e = in_sources name u (source_is ∙ e)
+  by_part None stub name u source_is stub_is e = in_stubs name u (stub_is ∙ e)
+
+  pub held-placed : (name : List ℕ) (u : UnitText) → unit_of table name ≡ Some u → IsPlacedUnit table u
+  held-placed name u e = by_part (fin.get table.source name) (fin.get table.stub name) name u refl refl e
+
   by_body : (part : Part) (u : UnitText) (body : Body) → IsPlacedUnit table u → agreement.AreGood tops tops Good (top_of part u body)
   by_body part u (Declared d) p = p
   by_body part u (Info annotations doc) p = tt

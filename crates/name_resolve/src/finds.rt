@@ -42,7 +42,7 @@ pub(crate) fn simple_name(body: &Body) -> &str
 }
 
 /// Whether both are the same element.
-pub(crate) fn is_same(one: &Found<'_>, other: &Found<'_>) -> bool
+pub fn is_same(one: &Found<'_>, other: &Found<'_>) -> bool
     ensures { result ≡ same_find (find_of one.now) (find_of other.now) }
 {
     let (first, second) = (one.unit.text(), other.unit.text());

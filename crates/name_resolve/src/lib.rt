@@ -41,7 +41,7 @@ mod wholes;
 
 pub use calls::name_meaning;
 pub use children::{declared_parameters, declared_types};
-pub use finds::{Finds, Found, both};
+pub use finds::{Finds, Found, both, is_same};
 pub use headers::{Supertype, interfaces_at, superclass_at, supertypes, type_at};
 pub use looks::Looks;
 pub use memory::{copied, copied_finds};

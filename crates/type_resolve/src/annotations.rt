@@ -18,7 +18,7 @@ use name_resolve::{Finds, Found, name_meaning, type_at};
 use std::alloc::Global;
 
 /// The reference of what was found.
-pub(crate) fn reference(alloc: Global, find: &Found<'_>) -> Result<ElementRef, NoMemory>
+pub fn reference(alloc: Global, find: &Found<'_>) -> Result<ElementRef, NoMemory>
     ensures { IfOk result (λ at. at ≡ ref_of (find_of find.now)) }
 {
     let unit = unit_name(alloc, find.unit)?;

@@ -17,7 +17,7 @@ mod resolver;
 mod scopes;
 mod spelling;
 
-pub use annotations::{found_annotation, resolve_annotation};
+pub use annotations::{found_annotation, reference, resolve_annotation};
 pub use calls::{header_types, interfaces, is_type, mirror_at, resolve_type, superclass};
 pub use resolver::Resolver;
 pub use scopes::found_in;
