@@ -22,7 +22,8 @@ use Rattle.type_elements.specs.MemberElements.{class_element}
 use Rattle.type_resolve.specs.Scopes.{find_bare, find_from, find_in, scope_in, package_at, IsType, is_type_in}
 use Rattle.annotation_presence.specs.Carried.{Carried, carried, texts_at, directly_present, is_passed_on, is_class, superclass_of, superclass_element, present_within}
 use Rattle.annotation_presence.specs.declared.meanings.Meaning.{Meaning}
-use Rattle.annotation_presence.specs.Remembered.{IsScope, StandsAt, IsMeaning}
+use Rattle.annotation_presence.specs.declared.superclasses.Superclass.{Superclass}
+use Rattle.annotation_presence.specs.Remembered.{IsScope, StandsAt, IsMeaning, IsSuperclass}
 use denote.Ref.{Bor}
 
 pub lent-none : (names : List (Bor (List ℕ))) → length names ≡ 0 → lent names ≡ []
@@ -150,6 +151,10 @@ module _ (table : TypeTable) where
         let path : f.path ≡ at.path = ap (λ (g : Find). g.path) (is.is ∙ find-held at f.unit is.held) in
         ap (λ o. is_type_in o at.path) is.held ∙ ap (λ p. is_some (type_at f.unit p)) (sym path) ∙ ap is_some e
 
+  -- as it was found
+  pub superclass-known : (s : Superclass) (at : ElementRef) → IsSuperclass table s → s.of ≡ at → s.superclass ≡ class_element (superclass table (find_in table at))
+  superclass-known s at right same = right ∙ ap (λ x. class_element (superclass table (find_in table x))) same
+
   -- ---- inherited
 
   pub within-zero : (n : ℕ) (f : Find) → n ≡ 0 → present_within table n f ≡ directly_present table f
@@ -186,6 +191,8 @@ module _ (table : TypeTable) where
 pub ruleset located = (stands, directly-free)
 
 pub ruleset superclasses_in = (stands, superclass-free)
+
+pub ruleset superclasses_known = (superclass-known)
 
 pub ruleset meanings_on = (meaning-known, meaning-names, meaning-new)
 

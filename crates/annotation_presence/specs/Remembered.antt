@@ -9,10 +9,14 @@ use Rattle.name_resolve.specs.Meaning.{Within, meaning}
 use Rattle.name_resolve.specs.Annotations.{annotation_meaning}
 use Rattle.name_resolve.specs.Parts.{declared_parameters}
 use Rattle.name_resolve.specs.Placed.{IsPlaced}
+use Rattle.name_resolve.specs.Mirrors.{superclass}
+use Rattle.type_elements.specs.MemberElements.{class_element}
 use Rattle.type_resolve.specs.Scopes.{find_in, scope_in}
 use Rattle.annotation_presence.specs.Carried.{inherited}
 use Rattle.annotation_presence.specs.declared.meanings.Meaning.{Meaning}
 use Rattle.annotation_presence.specs.declared.meanings.Meanings.{Meanings}
+use Rattle.annotation_presence.specs.declared.superclasses.Superclass.{Superclass}
+use Rattle.annotation_presence.specs.declared.superclasses.Superclasses.{Superclasses}
 
 -- ---- scopes
 
@@ -45,8 +49,19 @@ IsMeaning table m = m.annotation_type ≡ annotation_meaning table (scope_in tab
 abbrev pub AreMeanings : TypeTable → Meanings → Type 0
 AreMeanings table meanings = AllByRecursion (IsMeaning table) meanings.list.items
 
--- what is remembered over a table is right: its look-ups, the meanings, and where `Inherited` is declared
-pub record IsRemembered (table looks : TypeTable) (meanings : Meanings) (declared : ElementRef) : Type 0 where
+-- ---- superclasses
+
+abbrev pub IsSuperclass : TypeTable → Superclass → Type 0
+IsSuperclass table s = s.superclass ≡ class_element (superclass table (find_in table s.of))
+
+abbrev pub AreSuperclasses : TypeTable → Superclasses → Type 0
+AreSuperclasses table superclasses = AllByRecursion (IsSuperclass table) superclasses.list.items
+
+-- ---- all of it
+
+-- what is remembered over a table is right: its look-ups, the meanings, the superclasses, and where `Inherited` is declared
+pub record IsRemembered (table looks : TypeTable) (meanings : Meanings) (superclasses : Superclasses) (declared : ElementRef) : Type 0 where
   pub over : looks ≡ table
   pub right : AreMeanings table meanings
+  pub above : AreSuperclasses table superclasses
   pub is : declared ≡ inherited

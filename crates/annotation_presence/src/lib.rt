@@ -14,6 +14,7 @@
 mod carried;
 mod meanings;
 mod presence;
+mod superclasses;
 
 pub use carried::Carried;
 pub use presence::Presence;

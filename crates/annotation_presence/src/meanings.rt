@@ -100,16 +100,26 @@ pub(crate) struct Meanings {
     places: BTreeMap<String, usize>,
 }
 
+/// Adds a text that no other element has.
+pub(crate) fn add_element(
+    alloc: Global,
+    text: &mut String,
+    at: &ElementRef,
+) -> Result<(), NoMemory> {
+    text.push_str(at.unit.as_str())?;
+    for step in at.path.as_slice() {
+        let number = *step;
+        let written = format!(in alloc; " {number}")?;
+        text.push_str(written.as_str())?;
+    }
+    Ok(())
+}
+
 // A text that no other name has at another element.
 fn key_of(alloc: Global, at: &ElementRef, name: &Name) -> Result<String, NoMemory> {
     let mut key = String::from_str(alloc, name.as_str())?;
     key.push(' ')?;
-    key.push_str(at.unit.as_str())?;
-    for step in at.path.as_slice() {
-        let number = *step;
-        let text = format!(in alloc; " {number}")?;
-        key.push_str(text.as_str())?;
-    }
+    add_element(alloc, &mut key, at)?;
     Ok(key)
 }
 

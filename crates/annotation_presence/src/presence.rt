@@ -7,8 +7,9 @@ ghost use Rattle.name_resolve.specs.Meaning.{Within, meaning};
 ghost use Rattle.name_resolve.specs.Parts.{lent};
 ghost use Rattle.name_resolve.specs.Placed.{IsPlaced};
 ghost use Rattle.name_resolve.specs.Shown.{find_of};
+ghost use Rattle.name_resolve.specs.Mirrors.{superclass};
 ghost use Rattle.type_elements.specs.MemberElements.{class_element};
-ghost use Rattle.type_resolve.specs.Scopes.{find_in};
+ghost use Rattle.type_resolve.specs.Scopes.{find_in, IsType};
 ghost use Rattle.annotation_presence.specs.Carried.{texts_at, carried, directly_present, inherited, is_inherited, is_passed_on};
 ghost use Rattle.annotation_presence.specs.Carried.{is_class, superclass_element, present_within, present, types_of};
 ghost use Rattle.annotation_presence.specs.Remembered.{StandsAt};
@@ -16,6 +17,7 @@ ghost use Rattle.annotation_presence.specs.Shown.{carried_of, carried_in};
 
 use crate::carried::{Carried, has_type, types_of};
 use crate::meanings::{Meaning, Meanings, copied, scope_of};
+use crate::superclasses::{Superclass, Superclasses};
 use apt_base::{ElementRef, List, Name, NoMemory};
 use decl_elements::place_at;
 use decl_tree::{AnnotationText, TypeKind};
@@ -38,6 +40,7 @@ pub struct Presence<'a> {
     table: &'a Table,
     looks: Looks<'a>,
     meanings: Meanings,
+    superclasses: Superclasses,
     // Where `Inherited` would be declared.
     inherited: ElementRef,
 }
@@ -53,7 +56,7 @@ impl<'a> Model for Presence<'a> {
 
     ghost view = { λ a. a.table.now };
 
-    ghost invariant = { λ a. IsRemembered a.table.now a.looks a.meanings a.inherited };
+    ghost invariant = { λ a. IsRemembered a.table.now a.looks a.meanings a.superclasses a.inherited };
 }
 
 fn inherited(alloc: Global) -> Result<ElementRef, NoMemory>
@@ -136,45 +139,6 @@ fn element_of(alloc: Global, of: &Mirror) -> Result<Option<ElementRef>, NoMemory
     }
 }
 
-// The superclass of a class that stands there.
-fn superclass_at(
-    alloc: Global,
-    table: &Table,
-    at: &ElementRef,
-    found: &Found<'_>,
-) -> Result<Option<ElementRef>, NoMemory>
-    requires stands { StandsAt table.now at.now (find_of found.now) }
-    ensures { IfOk result (λ above. above ≡ superclass_element table.now (find_in table.now at.now)) }
-{
-    match type_at(found) {
-        None => Ok(None),
-        Some(declaration) => {
-            if !is_class(declaration.kind) {
-                return Ok(None);
-            }
-            let mirror = superclass(alloc, table, at)?;
-            element_of(alloc, &mirror)
-        }
-    }
-}
-
-#[tactic(auto, using(crate::proofs::PresenceLemmas::superclasses_in))]
-fn superclass_of(
-    alloc: Global,
-    table: &Table,
-    at: &ElementRef,
-) -> Result<Option<ElementRef>, NoMemory>
-    ensures { IfOk result (λ above. above ≡ superclass_element table.now (find_in table.now at.now)) }
-{
-    match table.find(&at.unit) {
-        None => Ok(None),
-        Some(unit) => {
-            let found = found_in(alloc, table, unit, at)?;
-            superclass_at(alloc, table, at, &found)
-        }
-    }
-}
-
 impl<'a> Presence<'a> {
     /// Nothing was asked yet.
     pub fn new(alloc: Global, table: &'a Table) -> Result<Self, NoMemory>
@@ -187,6 +151,7 @@ impl<'a> Presence<'a> {
             table,
             looks: Looks::new(alloc, table),
             meanings: Meanings::new(alloc),
+            superclasses: Superclasses::new(alloc),
             inherited,
         })
     }
@@ -314,6 +279,67 @@ impl<'a> Presence<'a> {
         }
     }
 
+    // ---- superclasses
+
+    // The superclass of a class, which is looked up once.
+    #[tactic(auto, using(crate::proofs::PresenceLemmas::superclasses_known))]
+    fn superclass_of_class(&mut self, at: &ElementRef) -> Result<Option<ElementRef>, NoMemory>
+        requires { IsType self.old at.now }
+        ensures value { IfOk result
+            (λ above. above ≡ class_element (superclass self.old (find_in self.old at.now))) }
+        ensures kept { self.new ≡ self.old }
+    {
+        if let Some(known) = self.superclasses.find(self.table, at)? {
+            return copied_reference(self.alloc, &known.superclass);
+        }
+        let mirror = superclass(self.alloc, self.table, at)?;
+        let above = element_of(self.alloc, &mirror)?;
+        let copy = copied_reference(self.alloc, &above)?;
+        let class = Superclass {
+            of: at.copy(self.alloc)?,
+            superclass: above,
+        };
+        self.superclasses.add(self.table, class)?;
+        Ok(copy)
+    }
+
+    // The superclass of a class that stands there.
+    fn superclass_at(
+        &mut self,
+        at: &ElementRef,
+        found: &Found<'a>,
+    ) -> Result<Option<ElementRef>, NoMemory>
+        requires stands { StandsAt self.old at.now (find_of found.now) }
+        ensures value { IfOk result
+            (λ above. above ≡ superclass_element self.old (find_in self.old at.now)) }
+        ensures kept { self.new ≡ self.old }
+    {
+        match type_at(found) {
+            None => Ok(None),
+            Some(declaration) => {
+                if !is_class(declaration.kind) {
+                    return Ok(None);
+                }
+                self.superclass_of_class(at)
+            }
+        }
+    }
+
+    #[tactic(auto, using(crate::proofs::PresenceLemmas::superclasses_in))]
+    fn superclass_of(&mut self, at: &ElementRef) -> Result<Option<ElementRef>, NoMemory>
+        ensures value { IfOk result
+            (λ above. above ≡ superclass_element self.old (find_in self.old at.now)) }
+        ensures kept { self.new ≡ self.old }
+    {
+        match self.table.find(&at.unit) {
+            None => Ok(None),
+            Some(unit) => {
+                let found = found_in(self.alloc, self.table, unit, at)?;
+                self.superclass_at(at, &found)
+            }
+        }
+    }
+
     // ---- inherited
 
     // Whether an annotation interface carries `Inherited`.
@@ -392,7 +418,7 @@ impl<'a> Presence<'a> {
         if levels == 0 {
             return Ok(own);
         }
-        let above = superclass_of(self.alloc, self.table, at)?;
+        let above = self.superclass_of(at)?;
         match above {
             None => Ok(own),
             Some(above) => {
