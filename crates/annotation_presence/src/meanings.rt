@@ -124,6 +124,7 @@ fn key_of(alloc: Global, at: &ElementRef, name: &Name) -> Result<String, NoMemor
 }
 
 impl Meanings {
+    /// Nothing was looked up yet.
     pub fn new(alloc: Global) -> Self
         ensures { result.list.items ≡ [] }
     {

@@ -31,6 +31,7 @@ fn key_of(alloc: Global, of: &ElementRef) -> Result<String, NoMemory> {
 }
 
 impl Superclasses {
+    /// Nothing was looked up yet.
     pub fn new(alloc: Global) -> Self
         ensures { result.list.items ≡ [] }
     {
