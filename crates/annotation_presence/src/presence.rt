@@ -139,6 +139,20 @@ fn element_of(alloc: Global, of: &Mirror) -> Result<Option<ElementRef>, NoMemory
     }
 }
 
+// The superclass of a class.
+fn find_superclass(
+    alloc: Global,
+    table: &Table,
+    at: &ElementRef,
+) -> Result<Option<ElementRef>, NoMemory>
+    requires { IsType table.now at.now }
+    ensures { IfOk result
+        (λ above. above ≡ class_element (superclass table.now (find_in table.now at.now))) }
+{
+    let mirror = superclass(alloc, table, at)?;
+    element_of(alloc, &mirror)
+}
+
 impl<'a> Presence<'a> {
     /// Nothing was asked yet.
     pub fn new(alloc: Global, table: &'a Table) -> Result<Self, NoMemory>
@@ -292,13 +306,10 @@ impl<'a> Presence<'a> {
         if let Some(known) = self.superclasses.find(self.table, at)? {
             return copied_reference(self.alloc, &known.superclass);
         }
-        let mirror = superclass(self.alloc, self.table, at)?;
-        let above = element_of(self.alloc, &mirror)?;
-        let copy = copied_reference(self.alloc, &above)?;
-        let class = Superclass {
-            of: at.copy(self.alloc)?,
-            superclass: above,
-        };
+        let superclass = find_superclass(self.alloc, self.table, at)?;
+        let copy = copied_reference(self.alloc, &superclass)?;
+        let of = at.copy(self.alloc)?;
+        let class = Superclass { of, superclass };
         self.superclasses.add(self.table, class)?;
         Ok(copy)
     }

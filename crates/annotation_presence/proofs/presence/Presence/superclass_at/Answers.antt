@@ -17,8 +17,8 @@ returns-then-not-is_class-clause-value c =
 pub superclass_of_class-requires : goal.superclass_of_class-requires
 superclass_of_class-requires c = is-type c.args.self.now c.args.at.now (find_of c.args.found.now) c.requires.stands c.in-Some.declaration.now (sym c.in-Some.ensures)
 
-pub returns-in-Some-clause-value : goal.returns-in-Some-clause-value
-returns-in-Some-clause-value c =
+pub returns-else-not-is_class-clause-value : goal.returns-else-not-is_class-clause-value
+returns-else-not-is_class-clause-value c =
     let d = c.in-Some.declaration.now in
     let class : is_class d.kind ≡ true = search rules in
     subst (λ (e : Option ElementRef). IfOk c.superclass_of_class.result (λ above. above ≡ e))
