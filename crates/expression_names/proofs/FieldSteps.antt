@@ -89,7 +89,7 @@ module _ (table : TypeTable) where
       ∷ together (map (λ at. fields_within table n (find_in table at) name) ats) ∷ [])) (supers-bare part «package» path)
       ∙ second_of _ _ (declared-bare part «package» path name)
 
-  find-free : (at : ElementRef) → unit_of table at.unit ≡ None → find_in table at ≡ find_bare table (package_at table at) at.path
+  pub find-free : (at : ElementRef) → unit_of table at.unit ≡ None → find_in table at ≡ find_bare table (package_at table at) at.path
   unfolding find_in
   find-free at e = ap (λ o. find_from table o at) e
 

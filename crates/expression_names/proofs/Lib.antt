@@ -1,3 +1,4 @@
-pub mod FieldSteps
 pub mod Enclosing
+pub mod FieldSteps
+pub mod FieldsPlaced
 pub mod NamesSplit

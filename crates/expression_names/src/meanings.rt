@@ -1,11 +1,11 @@
 // What names mean as values.
-ghost use Rattle.std.specs.Prelude.{◌≡◌, map};
+ghost use Rattle.std.specs.Prelude.{◌≡◌, map, IfOk};
 ghost use Rattle.decl_tree.specs.declared.compilation.ImportKind.TheVariants.{StaticSingle};
 ghost use Rattle.name_resolve.specs.Finds.{together};
 ghost use Rattle.name_resolve.specs.Meaning.{tops_of, imported};
 ghost use Rattle.name_resolve.specs.Parts.{lent};
-ghost use Rattle.name_resolve.specs.Placed.{IsPlaced};
-ghost use Rattle.name_resolve.specs.Shown.{find_of, Gives};
+ghost use Rattle.name_resolve.specs.Placed.{IsPlaced, ArePlaced};
+ghost use Rattle.name_resolve.specs.Shown.{find_of, finds_of, Gives};
 ghost use Rattle.expression_names.specs.Fields.{fields_of, enclosing_fields, field_by_single};
 ghost use Rattle.expression_names.specs.Fields.{field_by_single_import, field_by_import_on_demand};
 ghost use Rattle.expression_names.specs.Fields.{simple_field, field_meaning};
@@ -176,9 +176,8 @@ impl<'a> Fields<'a> {
         Ok(finds)
     }
 
-    /// What these names mean where they are written in an element (JLS 6.5.6): a field or an enum constant.
-    /// `Nothing` where they mean none, and `Several` where different ones are found at one place.
-    pub fn meaning(&mut self, at: &Found<'a>, names: &[&str]) -> Result<Finds<'a>, NoMemory>
+    // What these names mean where they are written in an element.
+    fn field_meaning(&mut self, at: &Found<'a>, names: &[&str]) -> Result<Finds<'a>, NoMemory>
         requires placed { IsPlaced self.old (find_of at.now) }
         ensures value { Gives result (field_meaning self.old (find_of at.now) (lent names.now)) }
         ensures kept { self.new ≡ self.old }
@@ -192,6 +191,19 @@ impl<'a> Fields<'a> {
         }
         let of = self.looks.qualifier_meaning(false, at, front)?;
         let finds = self.fields_of(of, *last)?;
+        Ok(finds)
+    }
+
+    /// What these names mean where they are written in an element (JLS 6.5.6): a field or an enum constant.
+    /// `Nothing` where they mean none, and `Several` where different ones are found at one place.
+    #[tactic(auto, using(crate::proofs::FieldsPlaced::meant_placed))]
+    pub fn meaning(&mut self, at: &Found<'a>, names: &[&str]) -> Result<Finds<'a>, NoMemory>
+        requires placed { IsPlaced self.old (find_of at.now) }
+        ensures value { Gives result (field_meaning self.old (find_of at.now) (lent names.now)) }
+        ensures placed { IfOk result (λ f. ArePlaced self.old (finds_of f)) }
+        ensures kept { self.new ≡ self.old }
+    {
+        let finds = self.field_meaning(at, names)?;
         Ok(finds)
     }
 }

@@ -7,7 +7,7 @@ use Rattle.name_resolve.specs.Shown.{find_of, finds_of}
 use Rattle.name_resolve.proofs.PlacedLemmas.{qualifier-placed}
 use Rattle.expression_names.specs.Fields.{fields_of, field_meaning}
 use Rattle.expression_names.proofs.NamesSplit.{meaning_none, meaning_alone, meaning_qualified}
-use Rattle.expression_names.proofs.fields.Fields.meaning.Goals as goal
+use Rattle.expression_names.proofs.fields.Fields.field_meaning.Goals as goal
 
 pub returns-in_default-clause-value : goal.returns-in_default-clause-value
 returns-in_default-clause-value c = meaning_none c.args.self.now (find_of c.args.at.now) c.args.names.now c.in_default.ensures.cases
