@@ -1,0 +1,3 @@
+pub mod ElementValues
+pub mod Remembered
+pub mod Values
