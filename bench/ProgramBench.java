@@ -1,5 +1,4 @@
 import com.sun.source.util.JavacTask;
-import com.sun.source.util.TreePath;
 import com.sun.source.util.Trees;
 import java.io.BufferedReader;
 import java.io.IOException;
@@ -8,7 +7,6 @@ import java.nio.charset.StandardCharsets;
 import java.nio.file.Files;
 import java.nio.file.Path;
 import java.util.ArrayList;
-import java.util.Comparator;
 import java.util.LinkedHashSet;
 import java.util.List;
 import java.util.Locale;
@@ -22,13 +20,10 @@ import javax.lang.model.element.Element;
 import javax.lang.model.element.ElementKind;
 import javax.lang.model.element.ExecutableElement;
 import javax.lang.model.element.Modifier;
-import javax.lang.model.element.Parameterizable;
 import javax.lang.model.element.TypeElement;
-import javax.lang.model.element.TypeParameterElement;
 import javax.lang.model.element.VariableElement;
 import javax.lang.model.type.ArrayType;
 import javax.lang.model.type.DeclaredType;
-import javax.lang.model.type.ExecutableType;
 import javax.lang.model.type.TypeKind;
 import javax.lang.model.type.TypeMirror;
 import javax.lang.model.type.TypeVariable;
@@ -70,78 +65,14 @@ final class ProgramBench {
     private static final int OTHERS = 3;
     private static final int APART = 2;
 
-    private static int step(Element of) {
-        Element around = of.getEnclosingElement();
-        if (of.getKind() == ElementKind.TYPE_PARAMETER) {
-            return ((Parameterizable) ((TypeParameterElement) of).getGenericElement()).getTypeParameters().indexOf(of);
-        }
-        int parameters = ((Parameterizable) around).getTypeParameters().size();
-        if (of.getKind() == ElementKind.PARAMETER) {
-            return parameters + ((ExecutableElement) around).getParameters().indexOf(of);
-        }
-        return parameters + members((TypeElement) around).indexOf(of);
-    }
+    private static ElementWords words;
 
-    private static Elements elements;
-    private static Trees trees;
-
-    private static boolean isMade(Element of) {
-        return elements.getOrigin(of) == Elements.Origin.MANDATED;
-    }
-
-    private static long place(Element of) {
-        if (isMade(of)) {
-            return Long.MAX_VALUE;
-        }
-        TreePath path = trees.getPath(of);
-        return trees.getSourcePositions().getStartPosition(path.getCompilationUnit(), path.getLeaf());
-    }
-
-    // In the order in which they are written, the default constructor last. javac has it first, and types before other members.
-    private static List<Element> members(TypeElement of) {
-        List<Element> members = new ArrayList<>(of.getEnclosedElements());
-        members.sort(Comparator.comparing(ProgramBench::place));
-        return members;
-    }
-
-    /** An element: its unit and the steps of its path. */
     private static String element(Element of) {
-        if (of instanceof TypeElement && of.getEnclosingElement().getKind() == ElementKind.PACKAGE) {
-            return ((TypeElement) of).getQualifiedName().toString();
-        }
-        Element around = of.getKind() == ElementKind.TYPE_PARAMETER ? ((TypeParameterElement) of).getGenericElement() : of.getEnclosingElement();
-        return element(around) + ":" + step(of);
+        return words.element(of);
     }
-
-    // ---- types in results
 
     private static String several(List<? extends TypeMirror> types) {
-        return types.stream().map(ProgramBench::result).collect(Collectors.joining(","));
-    }
-
-    private static String result(TypeMirror type) {
-        switch (type.getKind()) {
-            case ARRAY:
-                return result(((ArrayType) type).getComponentType()) + "[]";
-            case DECLARED:
-                List<? extends TypeMirror> arguments = ((DeclaredType) type).getTypeArguments();
-                return element(((DeclaredType) type).asElement()) + (arguments.isEmpty() ? "" : "<" + several(arguments) + ">");
-            case TYPEVAR:
-                return "variable(" + element(((TypeVariable) type).asElement()) + ")";
-            case WILDCARD:
-                TypeMirror below = ((WildcardType) type).getSuperBound();
-                TypeMirror above = ((WildcardType) type).getExtendsBound();
-                return below != null ? "?super/" + result(below) : above != null ? "?extends/" + result(above) : "?";
-            case EXECUTABLE:
-                ExecutableType method = (ExecutableType) type;
-                String variables = method.getTypeVariables().stream().map(each -> element(each.asElement())).collect(Collectors.joining(","));
-                return "executable(" + variables + ";" + several(method.getParameterTypes()) + ";" + result(method.getReturnType()) + ";"
-                        + several(method.getThrownTypes()) + ")";
-            case NONE:
-                return "nothing";
-            default:
-                return type.getKind().name().toLowerCase(Locale.ROOT);
-        }
+        return types.stream().map(words::type).collect(Collectors.joining(","));
     }
 
     // ---- types in calls
@@ -152,14 +83,14 @@ final class ProgramBench {
                 return "[]/" + call(((ArrayType) type).getComponentType());
             case DECLARED:
                 List<? extends TypeMirror> arguments = ((DeclaredType) type).getTypeArguments();
-                StringBuilder words = new StringBuilder(element(((DeclaredType) type).asElement()));
+                StringBuilder text = new StringBuilder(element(((DeclaredType) type).asElement()));
                 if (!arguments.isEmpty()) {
-                    words.append('<').append(arguments.size());
+                    text.append('<').append(arguments.size());
                 }
                 for (TypeMirror each : arguments) {
-                    words.append('/').append(call(each));
+                    text.append('/').append(call(each));
                 }
-                return words.toString();
+                return text.toString();
             case TYPEVAR:
                 return "variable=" + element(((TypeVariable) type).asElement());
             case WILDCARD:
@@ -175,6 +106,7 @@ final class ProgramBench {
     @SupportedAnnotationTypes("*")
     private static final class Asker extends AbstractProcessor {
         private Types types;
+        private Elements elements;
 
         @Override
         public SourceVersion getSupportedSourceVersion() {
@@ -188,7 +120,7 @@ final class ProgramBench {
             }
             types = processingEnv.getTypeUtils();
             elements = processingEnv.getElementUtils();
-            trees = Trees.instance(processingEnv);
+            words = new ElementWords(elements, Trees.instance(processingEnv));
             List<TypeElement> all = new ArrayList<>();
             for (TypeElement root : ElementFilter.typesIn(round.getRootElements())) {
                 gather(root, all);
@@ -224,8 +156,8 @@ final class ProgramBench {
 
         private void askMembers(TypeElement of) {
             for (Element each : of.getEnclosedElements()) {
-                if (!(each instanceof TypeElement) && !isMade(each)) {
-                    row("type " + element(each), result(each.asType()));
+                if (!(each instanceof TypeElement) && !words.isMade(each)) {
+                    row("type " + element(each), words.type(each.asType()));
                 }
             }
             if (of.getKind().isClass() || of.getInterfaces().isEmpty()) {
@@ -233,8 +165,8 @@ final class ProgramBench {
             }
             List<Element> members = allMembers(of);
             if (!isDifferent(of, members)) {
-                String words = members.stream().map(ProgramBench::element).collect(Collectors.joining(","));
-                row("members " + element(of), words.isEmpty() ? "[]" : words);
+                String list = members.stream().map(words::element).collect(Collectors.joining(","));
+                row("members " + element(of), list.isEmpty() ? "[]" : list);
             }
         }
 
@@ -256,7 +188,7 @@ final class ProgramBench {
             if (of.getQualifiedName().contentEquals("java.lang.Object")) {
                 return;
             }
-            order.addAll(ProgramBench.members(of));
+            order.addAll(words.members(of));
             for (TypeElement above : headers(of)) {
                 add(above, order);
             }
@@ -387,14 +319,14 @@ final class ProgramBench {
         }
     }
 
-    public static void main(String[] words) throws IOException {
+    public static void main(String[] arguments) throws IOException {
         BufferedReader input = new BufferedReader(new InputStreamReader(System.in, StandardCharsets.UTF_8));
         for (String list = input.readLine(); list != null; list = input.readLine()) {
             List<Path> files = new ArrayList<>();
             for (String path : Files.readAllLines(Path.of(list))) {
                 files.add(Path.of(path));
             }
-            answer(words[0], files);
+            answer(arguments[0], files);
         }
     }
 }

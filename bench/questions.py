@@ -267,7 +267,7 @@ class Legal:
 
     def __init__(self, folder):
         self.folder, self.seed, self.refused = folder, 0, 0
-        jdk.compile_some(folder, ("Javac", "ProgramBench"))
+        jdk.compile_some(folder, ("Javac", "ElementWords", "ProgramBench"))
         self.javac = jdk.start(folder, ["-XX:+UseSerialGC", "ProgramBench", "legal"])
 
     def files_of(self, seed):
