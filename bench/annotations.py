@@ -41,6 +41,7 @@ PLAIN = "!\"#$&'()*+,/:;<>?@[]^{|}~\\"
 SENTENCES = {
     "converted": "Nothing is converted to the type that is wanted.",
     "braces": "One value in the place of an array is no array.",
+    "items": "An array one of whose values is no constant form is itself none, and kept as its tokens.",
     "floating": "A floating-point literal keeps its text.",
     "kept": "What is no literal, name, class literal, annotation, joined text or array keeps its text: nothing is computed.",
     "joined": "Otherwise what is written is kept with ` + ` between the items, and no item is replaced by its value.",
@@ -354,7 +355,36 @@ def is_number(one, other, is_single):
 
 
 NAME = re.compile(r"\w+(\.\w+)*")
-ITEM = re.compile(r'"(?:[^"\\]|\\.)*"|\'(?:[^\'\\]|\\.)+\'|[\w.]+')
+
+# What is joined of a text that is kept as it is written, and of one that is kept as its tokens; a constant form without braces; an
+# annotation; and the tokens, as far as they part values.
+QUOTED = r'"(?:[^"\\]|\\.)*"|\'(?:[^\'\\]|\\.)+\''
+NUMERAL = r"\.?\d(?:[\w.]|(?<=[eEpP])[+-])*"
+NAMED = r"\w+(?: \. \w+)*"
+ITEM = re.compile(rf"{QUOTED}|[\w.]+")
+JOINED = rf"(?:{QUOTED}|{NUMERAL}|{NAMED})"
+FORM = re.compile(rf"{JOINED}(?: \+ {JOINED})*|- {NUMERAL}|{NAMED}(?: \[ \])* \. class")
+NESTED = re.compile(rf"@ ?{NAMED}( \(.*\))?", re.DOTALL)
+TOKEN = re.compile(rf"{QUOTED}|[^ ]+")
+
+
+def items_of(text):
+    """The values in the braces that a text which is kept stands in."""
+    items, depth = [[]], 0
+    for token in TOKEN.findall(text)[1:-1]:
+        depth += (token in "({[") - (token in ")}]")
+        if token == "," and depth == 0:
+            items.append([])
+        else:
+            items[-1].append(token)
+    return [" ".join(tokens) for tokens in items if tokens]
+
+
+def is_form(text):
+    """Whether the tokens are a constant form."""
+    if text.startswith("{") and text.endswith("}"):
+        return all(map(is_form, items_of(text)))
+    return FORM.fullmatch(text) is not None or NESTED.fullmatch(text) is not None
 
 
 def as_many(annotations, counts):
@@ -403,7 +433,9 @@ class Comparison:
     def value(self, ours, theirs):
         if ours == theirs:
             return
-        if theirs[0] == "array" and ours[0] != "array":
+        if theirs[0] == "array" and ours[0] == "other" and ours[1].startswith("{"):
+            self.note(None if is_form(ours[1]) else "items")
+        elif theirs[0] == "array" and ours[0] != "array":
             self.note("braces" if len(theirs[1]) == 1 else None)
             if len(theirs[1]) == 1:
                 self.value(ours, theirs[1][0])
