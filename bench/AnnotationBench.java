@@ -1,9 +1,11 @@
 import com.sun.source.tree.AnnotationTree;
 import com.sun.source.tree.BinaryTree;
+import com.sun.source.tree.ClassTree;
 import com.sun.source.tree.ExpressionTree;
 import com.sun.source.tree.IdentifierTree;
 import com.sun.source.tree.LiteralTree;
 import com.sun.source.tree.MemberSelectTree;
+import com.sun.source.tree.MethodTree;
 import com.sun.source.tree.NewArrayTree;
 import com.sun.source.tree.Tree;
 import com.sun.source.tree.UnaryTree;
@@ -285,10 +287,24 @@ final class AnnotationBench {
             for (AnnotationMirror each : of.getAnnotationMirrors()) {
                 TreePath path = trees.getPath(of, each);
                 if (path != null) {
-                    found.add(path.getLeaf());
+                    found.addAll(annotationsAt(path.getLeaf()));
                 }
             }
             return found;
+        }
+
+        // The annotation that stands there, or those of what is declared there, where javac made one of them.
+        private static List<? extends Tree> annotationsAt(Tree tree) {
+            if (tree instanceof ClassTree) {
+                return ((ClassTree) tree).getModifiers().getAnnotations();
+            }
+            if (tree instanceof MethodTree) {
+                return ((MethodTree) tree).getModifiers().getAnnotations();
+            }
+            if (tree instanceof VariableTree) {
+                return ((VariableTree) tree).getModifiers().getAnnotations();
+            }
+            return List.of(tree);
         }
 
         private List<Tree> treeOf(Element of) {
