@@ -8,8 +8,8 @@ use Rattle.apt_base.specs.Fields.{bytes_form}
 use Rattle.frame_forms.specs.declared.bad_kind.BadKind.{BadKind}
 use Rattle.frame_forms.specs.declared.bad_kind.BadKind.TheVariants as kinds
 use Rattle.frame_forms.specs.Scans.{Scan, whole, begun, bad, and_then, mapped, named, byte_scan, judged}
-use Rattle.frame_forms.specs.Forms.{One, El, scan_with}
-use Rattle.frame_forms.specs.FrameTable.{Row, Fields, frame_form, tag_in, form_of, code_of}
+use Rattle.frame_forms.specs.Forms.{FrameKind, One, El, scan_with}
+use Rattle.frame_forms.specs.FrameTable.{Fields, frame_form, form_of, code_of}
 use Rattle.frame_forms.specs.Frames.{part_scan, most_nested, scanned, closed, frame_scan, place_in}
 use Rattle.frame_forms.specs.BadBytes.{IsLength, LengthRule, FieldsRule, TagRule, ByteRule, DeepRule, TextRule, RestRule, EndRule, OtherwiseRule}
 use Rattle.frame_forms.proofs.Steady.{run_scan-is}
@@ -42,7 +42,7 @@ byte_rule s kind numbers b rest e = ap (λ (o : Option (One s)). named kind o b 
 pub tag_rule : TagRule
 unfolding byte_scan
 tag_rule tag rest e =
-    ap (λ (of : Option Row). and_then {B = (x : ℕ) × El (code_of x)} (named kinds.Tag (tag_in tag of) tag rest) (λ x behind. mapped (λ v. (x, v)) (scan_with (part_scan most_nested) (form_of x) behind))) e
+    ap (λ (of : Option FrameKind). and_then {B = (x : FrameKind) × El (code_of x)} (named kinds.Tag of tag rest) (λ x behind. mapped (λ v. (x, v)) (scan_with (part_scan most_nested) (form_of x) behind))) e
 
 pub deep_rule : DeepRule
 unfolding part_scan

@@ -26,24 +26,24 @@ use Rattle.frame_forms.specs.Depths.{part_depth, opt_depth, items_depth, depth_i
 -- ---- lists
 
 -- lists whose items' forms do not depend on those before
-items_depth-map : {A : Type 0} (depth : A → ℕ) (before items : List A) → items_depth (λ earlier. depth) before items ≡ deepest (map depth items)
+pub items_depth-map : {A : Type 0} (depth : A → ℕ) (before items : List A) → items_depth (λ earlier. depth) before items ≡ deepest (map depth items)
 items_depth-map depth before [] = refl
 items_depth-map depth before (first ∷ others) = ap (max (depth first)) (items_depth-map depth (first ∷ before) others)
 
-items_depth-none : {A : Type 0} (before items : List A) → items_depth (λ earlier item. 0) before items ≡ 0
+pub items_depth-none : {A : Type 0} (before items : List A) → items_depth (λ earlier item. 0) before items ≡ 0
 items_depth-none before [] = refl
 items_depth-none before (first ∷ others) = omega (arith, items_depth-none (first ∷ before) others)
 
-items_depth-same : {A : Type 0} (depth other : A → ℕ) → ((a : A) → depth a ≡ other a) → (before items : List A) → items_depth (λ earlier. depth) before items ≡ items_depth (λ earlier. other) before items
+pub items_depth-same : {A : Type 0} (depth other : A → ℕ) → ((a : A) → depth a ≡ other a) → (before items : List A) → items_depth (λ earlier. depth) before items ≡ items_depth (λ earlier. other) before items
 items_depth-same depth other same before [] = refl
 items_depth-same depth other same before (first ∷ others) = omega (arith, same first, items_depth-same depth other same (first ∷ before) others)
 
 -- ---- mirrors
 
-element_depth : (e : ElementRef) → depth_in element e ≡ 0
+pub element_depth : (e : ElementRef) → depth_in element e ≡ 0
 element_depth e = omega (arith, items_depth-none [] e.path)
 
-elements_depth : (es : List ElementRef) → items_depth {A = ElementRef} (λ earlier. depth_in element) [] es ≡ 0
+pub elements_depth : (es : List ElementRef) → items_depth {A = ElementRef} (λ earlier. depth_in element) [] es ≡ 0
 elements_depth es = items_depth-same {A = ElementRef} (depth_in element) (λ e. 0) element_depth [] es ∙ items_depth-none [] es
 
 abbrev shown_depth : MirrorShown → ℕ
@@ -96,7 +96,7 @@ variant_depth v = depth_in (value_form v.0) v.1
 named_depth : (n : NamedValue) → depth_in named_value n ≡ named_nesting n
 named_depth n = omega (arith, named_nesting-is n)
 
-annotation_depth : (a : Annotation) → depth_in annotation a ≡ annotation_nesting a
+pub annotation_depth : (a : Annotation) → depth_in annotation a ≡ annotation_nesting a
 annotation_depth a =
     let o = out-Annotation a in
     omega (arith, annotation_nesting-is a, items_depth-same {A = NamedValue} (depth_in named_value) named_nesting named_depth [] o.values, items_depth-map named_nesting [] o.values)

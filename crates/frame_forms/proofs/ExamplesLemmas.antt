@@ -13,6 +13,8 @@ use Rattle.type_mirror.specs.declared.mirror.PrimitiveKind.TheVariants.{Int}
 use Rattle.type_mirror.specs.declared.mirror.BaseMirror.TheVariants as base
 use Rattle.type_mirror.specs.Parts.{plain, wrapped}
 use Rattle.frame_forms.specs.Scans.{whole, number_scan, byte_scan, run_scan, items_scan}
+use Rattle.frame_forms.specs.QuestionTable.{question_at}
+use Rattle.frame_forms.specs.Forms.{plain_frame}
 use Rattle.frame_forms.specs.Frames.{framed, part_scan, frame_scan, frame_spelling}
 use Rattle.frame_forms.specs.Examples.{IsExample, ExamplesHold, hex, chain_annotation}
 use Rattle.frame_forms.specs.FrameTable.{Fields}
@@ -37,16 +39,16 @@ are_bytes (b ∷ bytes) e (suc i) = are_bytes bytes (both_true (ltb b 256) (all_
 example : (bytes : List ℕ) (fields : Fields) → all_bytes bytes ≡ true → frame_scan bytes ≡ whole fields [] → IsExample bytes fields
 example bytes fields e read = record { spelled = sym (append-nil (frame_spelling fields)) ∙ sym (frames_meet.spelled bytes fields [] (are_bytes bytes e) read).1; read = read }
 
-mirror_read : frame_scan (hex "0000000b1500000001050101040003") ≡ whole (21, wrapped (Extends ∷ []) (wrapped (Array ∷ []) (plain (base.Primitive Int))) ∷ []) []
-unfolding framed number_scan byte_scan run_scan items_scan part_scan is_utf8 chars encode in_ranges xid_start_ranges xid_continue_ranges is_pattern is_identifier is_reserved is_xid_start is_xid_continue
+mirror_read : frame_scan (hex "0000000b1500000001050101040003") ≡ whole (plain_frame 21, wrapped (Extends ∷ []) (wrapped (Array ∷ []) (plain (base.Primitive Int))) ∷ []) []
+unfolding framed question_at number_scan byte_scan run_scan items_scan part_scan is_utf8 chars encode in_ranges xid_start_ranges xid_continue_ranges is_pattern is_identifier is_reserved is_xid_start is_xid_continue
 mirror_read = refl
 
 annotation_read : frame_scan (hex "000000381300000001010000000e6170742e64656d6f2e436861696e000000000000000000000000010000000576616c756501030000000000000002") ≡ whole chain_annotation []
-unfolding framed number_scan byte_scan run_scan items_scan part_scan is_utf8 chars encode in_ranges xid_start_ranges xid_continue_ranges is_pattern is_identifier is_reserved is_xid_start is_xid_continue
+unfolding framed question_at number_scan byte_scan run_scan items_scan part_scan is_utf8 chars encode in_ranges xid_start_ranges xid_continue_ranges is_pattern is_identifier is_reserved is_xid_start is_xid_continue
 annotation_read = refl
 
 pub examples : ExamplesHold
-unfolding framed all_bytes number_scan byte_scan run_scan items_scan part_scan is_utf8 chars encode in_ranges xid_start_ranges xid_continue_ranges is_pattern is_identifier is_reserved is_xid_start is_xid_continue
+unfolding framed question_at all_bytes number_scan byte_scan run_scan items_scan part_scan is_utf8 chars encode in_ranges xid_start_ranges xid_continue_ranges is_pattern is_identifier is_reserved is_xid_start is_xid_continue
 examples = record {
   init = record { spelled = refl; read = refl };
   first_round = record { spelled = refl; read = refl };
@@ -80,7 +82,7 @@ examples = record {
   nothing_yet = refl;
   deepest_array = refl;
   array_too_deep = refl;
-  one_mirror = example (hex "0000000b1500000001050101040003") (21, wrapped (Extends ∷ []) (wrapped (Array ∷ []) (plain (base.Primitive Int))) ∷ []) refl mirror_read;
+  one_mirror = example (hex "0000000b1500000001050101040003") (plain_frame 21, wrapped (Extends ∷ []) (wrapped (Array ∷ []) (plain (base.Primitive Int))) ∷ []) refl mirror_read;
   one_annotation = example (hex "000000381300000001010000000e6170742e64656d6f2e436861696e000000000000000000000000010000000576616c756501030000000000000002") chain_annotation refl annotation_read;
   one_message = record { spelled = refl; read = refl };
 }

@@ -1,6 +1,8 @@
 -- The numbers and the meanings of all forms of the table are sound.
 use Rattle.std.proofs.Common.{◌≡◌, ℕ, zero, suc, ◌+◌, Bool, true, false, cond, eqb, ltb, List, [], ◌∷◌, Option, Some, None, refl, sym, ap, ◌∙◌, arith}
+use Rattle.std.specs.Prelude.{find, option_map}
 use Rattle.std.specs.List.{slice_get}
+use Rattle.std.specs.Option.{option_or}
 use Rattle.std.proofs.lemmas.Bool.{eqb-true}
 use Rattle.apt_base.specs.declared.kinds.Claim.TheVariants.{Always, Never, Varies}
 use Rattle.type_mirror.specs.declared.mirror.PrimitiveKind.TheVariants.{Boolean, Byte, Short, Int, Long, Char, Float, Double}
@@ -20,11 +22,14 @@ use Rattle.type_mirror.specs.declared.value.Value.TheOpen.{Value-F}
 use Rattle.type_mirror.specs.declared.value.Annotation.{Annotation, roll-out-Annotation, out-roll-Annotation}
 use Rattle.type_mirror.specs.declared.value.NamedValue.{NamedValue, roll-out-NamedValue, out-roll-NamedValue}
 use Rattle.type_mirror.specs.Parts.{plain, wrapped}
-use Rattle.frame_forms.specs.Forms.{Code, El, Part, mirror_part, value_part}
+use Rattle.frame_forms.specs.Forms.{Code, El, Part, FrameKind, plain_frame, question_frame, mirror_part, value_part}
 use Rattle.frame_forms.specs.Forms.{MirrorVariant, primitive, declared, error, variable, array, wildcard, executable, nothing_there, void, null, package_mirror, BoundKind, unbounded, upper, lower, ValueVariant, truth_value, whole_value, character, text_value, class_value, constant, array_value, nested, other, floating}
 use Rattle.frame_forms.specs.MirrorForms as shapes
 use Rattle.frame_forms.specs.MirrorForms.{in_order, below, certainly, bool, u8_below, exactly, element, mirror_fields, mirror_form, mirror_made, mirror_shown, MirrorShown, base_shown, around_shown, bound_fields, bound_form, bounded, value_fields, value_form, value_made, value_shown, ValueShown, variant_shown, annotation, named_value, named_of, named_shown, annotation_of, annotation_shown, whole_at, whole_number, grammar}
-use Rattle.frame_forms.specs.FrameTable.{Row, table, row_with, row_of, form_in, tag_in, frame_form, claim_number, claim}
+use Rattle.frame_forms.specs.declared.question_row.QuestionRow.{QuestionRow}
+use Rattle.frame_forms.specs.declared.question_row.QuestionRow.TheVariants as rows
+use Rattle.frame_forms.specs.QuestionTable.{question_tag, question_at, all_rows}
+use Rattle.frame_forms.specs.FrameTable.{Row, table, row_with, row_of, form_in, kind_in, tag_of, question_form, form_of, frame_form, claim_number, claim}
 use Rattle.frame_forms.proofs.FormsMeet.{IsNumbered, IsSound}
 
 -- ---- numbers
@@ -228,10 +233,6 @@ row_sound tag (first ∷ others) sound =
     let both : P (eqb first.tag tag) = elim (eqb first.tag tag) as P [ true ↦ sound.0 | false ↦ row_sound tag others sound.1 ] in
     both
 
-tags_sound : (n tag : ℕ) (of : Option Row) → tag_in n of ≡ Some tag → tag ≡ n
-tags_sound n tag None e = absurd cc
-tags_sound n tag (Some of) e = cc
-
 infixr 30 ◌and◌
 ◌and◌ : {A B : Type 0} → A → B → A × B
 a and b = (a, b)
@@ -260,43 +261,42 @@ table_sound =
     (tt and tt and each element_sound) and
     (below_sound 3 refl and tt and tt and tt and each element_sound) and
     (tt and tt and each element_sound) and
-    (below_sound 5 refl and element_sound and tt) and
-    tt and
-    tt and
-    element_sound and
-    element_sound and
-    element_sound and
-    element_sound and
-    element_sound and
-    element_sound and
-    element_sound and
-    element_sound and
-    element_sound and
-    (element_sound and tt) and
-    element_sound and
-    element_sound and
-    element_sound and
-    (element_sound and element_sound and element_sound) and
-    element_sound and
-    element_sound and
-    element_sound and
-    element_sound and
-    (tt and tt) and
-    (tt and tt) and
-    (tt and tt) and
-    (tt and tt) and
-    (tt and tt) and
-    tt and
-    tt and
-    tt and
-    tt and
-    (tt and element_sound) and
-    tt and
-    tt and
-    (element_sound and each tt) and
-    tt and
-    tt and
-    tt and tt
+    (below_sound 5 refl and element_sound and tt) and tt
+
+-- the forms of the questions, by their arguments
+question_sound : (row : QuestionRow) → IsSound (question_form row)
+question_sound (rows.Name of) = tt
+question_sound (rows.Element of) = element_sound
+question_sound (rows.Mirror of) = tt
+question_sound (rows.Mirrors of) = tt and tt
+question_sound rows.ValuesWithDefaults = element_sound and tt
+question_sound rows.Overrides = element_sound and element_sound and element_sound
+question_sound rows.MemberType = tt and element_sound
+question_sound rows.DeclaredType = element_sound and each tt
+question_sound rows.Roots = tt
+
+-- what is found passes
+found_passes : {A : Type 0} (test : A → Bool) (xs : List A) (x : A) → find test xs ≡ Some x → test x ≡ true
+found_passes test [] x e = absurd cc
+found_passes {A} test (first ∷ others) x e = cases (test first) refl e (found_passes test others x)
+  where
+    cases : (b : Bool) → test first ≡ b → cond b (Some first) (find test others) ≡ Some x → (find test others ≡ Some x → test x ≡ true) → test x ≡ true
+    cases true passes found later = let same : first ≡ x = cc in ap test (sym same) ∙ passes
+    cases false fails found later = later found
+
+-- the question that is found for a tag has it
+pub question_back : (n : ℕ) (row : QuestionRow) → question_at n ≡ Some row → question_tag row ≡ n
+unfolding question_at
+question_back n row e = eqb-true (question_tag row) n (found_passes (λ each. eqb (question_tag each) n) all_rows row e)
+
+kind_sound : (n : ℕ) (of : Option Row) (asked : Option QuestionRow) → question_at n ≡ asked → (kind : FrameKind) → option_or (kind_in n of) (option_map (λ row. question_frame row) asked) ≡ Some kind → tag_of kind ≡ n
+kind_sound n (Some of) asked e kind h = let same : plain_frame n ≡ kind = cc in ap tag_of (sym same)
+kind_sound n None None e kind h = absurd cc
+kind_sound n None (Some row) e kind h = let same : question_frame row ≡ kind = cc in ap tag_of (sym same) ∙ question_back n row e
+
+form_sound : (kind : FrameKind) → IsSound (form_of kind)
+form_sound (plain_frame tag) = row_sound tag table table_sound
+form_sound (question_frame row) = question_sound row
 
 pub frame_sound : IsSound frame_form
-frame_sound = (record { back = λ n tag e. tags_sound n tag (row_of n) e; some = 24; there = refl }, λ tag. row_sound tag table table_sound)
+frame_sound = (record { back = λ n kind e. kind_sound n (row_of n) (question_at n) refl kind e; some = plain_frame 24; there = refl }, form_sound)

@@ -6,7 +6,7 @@ use Rattle.frame_forms.specs.declared.bad_kind.BadKind.{BadKind}
 use Rattle.frame_forms.specs.declared.bad_kind.BadKind.TheVariants as kinds
 use Rattle.frame_forms.specs.Scans.{whole, begun, bad}
 use Rattle.frame_forms.specs.Forms.{Sort, One, Code, Part, Numbering, byte, run}
-use Rattle.frame_forms.specs.FrameTable.{Fields, frame_form, row_of}
+use Rattle.frame_forms.specs.FrameTable.{Fields, frame_form, kind_at}
 use Rattle.frame_forms.specs.Frames.{part_scan, scanned, is_out_of_range, frame_scan, first_bad}
 
 -- four bytes spell the length of a frame
@@ -26,7 +26,7 @@ FieldsRule = (head body rest : List ℕ) (count : ℕ) (kind : BadKind) → IsLe
 
 -- a tag that is not in the table
 abbrev pub TagRule : Type 0
-TagRule = (tag : ℕ) (rest : List ℕ) → row_of tag ≡ None → scanned frame_form (tag ∷ rest) ≡ bad (tag ∷ rest) kinds.Tag
+TagRule = (tag : ℕ) (rest : List ℕ) → kind_at tag ≡ None → scanned frame_form (tag ∷ rest) ≡ bad (tag ∷ rest) kinds.Tag
 
 -- a byte that is the number of nothing
 abbrev pub ByteRule : Type 0

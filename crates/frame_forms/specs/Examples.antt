@@ -12,7 +12,10 @@ use Rattle.type_mirror.specs.declared.value.NamedValue.{roll-NamedValue}
 use Rattle.type_mirror.specs.declared.value.Annotation.{roll-Annotation}
 use Rattle.type_mirror.specs.Parts.{plain, wrapped}
 use Rattle.frame_forms.specs.declared.bad_kind.BadKind.TheVariants as kinds
+use Rattle.frame_forms.specs.declared.question_row.NameQuestion.TheVariants.{TypeElement}
+use Rattle.frame_forms.specs.declared.question_row.QuestionRow.TheVariants as rows
 use Rattle.frame_forms.specs.Scans.{Scan, whole, begun, bad}
+use Rattle.frame_forms.specs.Forms.{plain_frame, question_frame}
 use Rattle.frame_forms.specs.FrameTable.{Fields}
 use Rattle.frame_forms.specs.Frames.{frame_spelling, frame_scan, first_bad}
 
@@ -53,7 +56,7 @@ array_too_deep = 0x00 ∷ 0x00 ∷ 0x01 ∷ 0x03 ∷ array_of_int 256
 -- the fields of Annotations with `@apt.demo.Chain(2)`
 abbrev pub chain_annotation : Fields
 chain_annotation = (
-  19,
+  plain_frame 19,
   roll-Annotation (record {
     annotation_type = plain (base.Declared (roll-DeclaredMirror (record { element = record { unit = codes "apt.demo.Chain"; path = [] }; enclosing = None; arguments = [] })));
     values = roll-NamedValue (record { name = codes "value"; value = values.Whole wholes.Int (pos 2) }) ∷ [];
@@ -62,19 +65,19 @@ chain_annotation = (
 
 pub record ExamplesHold : Type 0 where
   -- Init for `builder`, level 11, no options
-  pub init : IsExample (hex "0000001201000000076275696c646572000b00000000") (1, (codes "builder", (11, [])))
+  pub init : IsExample (hex "0000001201000000076275696c646572000b00000000") (plain_frame 1, (codes "builder", (11, [])))
   -- a first round
-  pub first_round : IsExample (hex "000000370200000001000000000001000000106170742e64656d6f2e4275696c6465720000000200000006612e5465616d00000006612e55736572") (2, (1, (false, (false, (codes "apt.demo.Builder" ∷ [], codes "a.Team" ∷ codes "a.User" ∷ [])))))
+  pub first_round : IsExample (hex "000000370200000001000000000001000000106170742e64656d6f2e4275696c6465720000000200000006612e5465616d00000006612e55736572") (plain_frame 2, (1, (false, (false, (codes "apt.demo.Builder" ∷ [], codes "a.Team" ∷ codes "a.User" ∷ [])))))
   -- Done, claimed
-  pub claimed : IsExample (hex "000000024101") (65, true)
+  pub claimed : IsExample (hex "000000024101") (plain_frame 65, true)
   -- Hello with a pattern and an option
-  pub builder_hello : IsExample (hex "0000004c4000000001000000106170742e64656d6f2e4275696c646572000000010000002a6f72672e677261646c652e616e6e6f746174696f6e2e70726f63657373696e672e69736f6c6174696e6700") (64, (codes "apt.demo.Builder" ∷ [], (codes "org.gradle.annotation.processing.isolating" ∷ [], Always)))
+  pub builder_hello : IsExample (hex "0000004c4000000001000000106170742e64656d6f2e4275696c646572000000010000002a6f72672e677261646c652e616e6e6f746174696f6e2e70726f63657373696e672e69736f6c6174696e6700") (plain_frame 64, (codes "apt.demo.Builder" ∷ [], (codes "org.gradle.annotation.processing.isolating" ∷ [], Always)))
   -- Hello with `*`
-  pub star_hello : IsExample (hex "0000000f4000000001000000012a0000000001") (64, (codes "*" ∷ [], ([], Never)))
+  pub star_hello : IsExample (hex "0000000f4000000001000000012a0000000001") (plain_frame 64, (codes "*" ∷ [], ([], Never)))
   -- a last round without anything
-  pub last_round : IsExample (hex "0000000f020000000201000000000000000000") (2, (2, (true, (false, ([], [])))))
+  pub last_round : IsExample (hex "0000000f020000000201000000000000000000") (plain_frame 2, (2, (true, (false, ([], [])))))
   -- TypeElement of `x.Y`
-  pub type_question : IsExample (hex "000000085000000003782e59") (80, codes "x.Y")
+  pub type_question : IsExample (hex "000000085000000003782e59") (question_frame (rows.Name TypeElement), codes "x.Y")
   -- Hello with `a.*.b`
   pub no_pattern : first_bad (hex "00000013400000000100000005612e2a2e620000000000") ≡ Some (17, kinds.Pattern)
   -- Done with one byte more
@@ -126,8 +129,8 @@ pub record ExamplesHold : Type 0 where
   -- and one more
   pub array_too_deep : first_bad array_too_deep ≡ Some (261, kinds.Field)
   -- Mirrors: `? extends int[]`
-  pub one_mirror : IsExample (hex "0000000b1500000001050101040003") (21, wrapped (Extends ∷ []) (wrapped (Array ∷ []) (plain (base.Primitive Int))) ∷ [])
+  pub one_mirror : IsExample (hex "0000000b1500000001050101040003") (plain_frame 21, wrapped (Extends ∷ []) (wrapped (Array ∷ []) (plain (base.Primitive Int))) ∷ [])
   -- Annotations: `@apt.demo.Chain(2)`
   pub one_annotation : IsExample (hex "000000381300000001010000000e6170742e64656d6f2e436861696e000000000000000000000000010000000576616c756501030000000000000002") chain_annotation
   -- a warning on the first child of `a.User`
-  pub one_message : IsExample (hex "0000001845010100000006612e557365720000000100000000000178") (69, (1, (Some (record { unit = codes "a.User"; path = 0 ∷ [] }), codes "x")))
+  pub one_message : IsExample (hex "0000001845010100000006612e557365720000000100000000000178") (plain_frame 69, (1, (Some (record { unit = codes "a.User"; path = 0 ∷ [] }), codes "x")))

@@ -12,6 +12,7 @@ use Rattle.type_mirror.specs.declared.value.Annotation.{Annotation}
 use Rattle.type_mirror.specs.declared.value.NamedValue.{NamedValue}
 use Rattle.frame_forms.specs.declared.bad_kind.BadKind.{BadKind}
 use Rattle.frame_forms.specs.declared.bad_kind.BadKind.TheVariants as kinds
+use Rattle.frame_forms.specs.declared.question_row.QuestionRow.{QuestionRow}
 use Rattle.frame_forms.specs.Scans.{Scan, whole, and_then, mapped, number_scan, byte_scan, run_scan, opt_scan, items_scan}
 
 -- ---- values
@@ -28,9 +29,14 @@ pub data BoundKind : Type 0 where
 pub data ValueVariant : Type 0 where
   truth_value whole_value character text_value class_value constant array_value nested other floating : ValueVariant
 
+-- what a frame may be: a question, or another frame by its tag
+pub data FrameKind : Type 0 where
+  plain_frame : (tag : ℕ) → FrameKind
+  question_frame : (row : QuestionRow) → FrameKind
+
 -- what one byte may be the number of
 pub data Sort : Type 0 where
-  plain truth certain claim primitive_kind whole_kind mirror_variant bound_kind value_variant : Sort
+  plain truth certain claim primitive_kind whole_kind mirror_variant bound_kind value_variant frame_kind : Sort
 
 abbrev pub One : Sort → Type 0
 One plain = ℕ
@@ -42,6 +48,7 @@ One whole_kind = WholeKind
 One mirror_variant = MirrorVariant
 One bound_kind = BoundKind
 One value_variant = ValueVariant
+One frame_kind = FrameKind
 
 -- the kinds of values
 pub data Code : Type 0 where

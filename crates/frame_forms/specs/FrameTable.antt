@@ -1,10 +1,14 @@
--- The table of frames: each tag with the form of its fields. A new frame is one line.
-use Rattle.std.specs.Prelude.{ℕ, List, [], ◌∷◌, ◌==◌, Option, Some, None, if◌then◌else◌}
+-- The table of frames: each tag with the form of its fields. A new frame is one line; the questions are those of `QuestionTable`.
+use Rattle.std.specs.Prelude.{ℕ, List, [], ◌∷◌, ◌==◌, Option, Some, None, option_map, if◌then◌else◌}
+use Rattle.std.specs.Option.{option_or}
 use Rattle.apt_base.specs.declared.kinds.Claim.{Claim}
 use Rattle.apt_base.specs.declared.kinds.Claim.TheVariants.{Always, Never, Varies}
 use Rattle.frame_forms.specs.declared.bad_kind.BadKind.TheVariants as kinds
 use Rattle.frame_forms.specs.Forms as forms
-use Rattle.frame_forms.specs.Forms.{Code, El, Form, Numbering, pair, chosen, one, plain, empty, byte, u16, u32, both, choice, opt}
+use Rattle.frame_forms.specs.declared.question_row.QuestionRow.{QuestionRow}
+use Rattle.frame_forms.specs.declared.question_row.QuestionRow.TheVariants as questions
+use Rattle.frame_forms.specs.QuestionTable.{question_tag, question_at}
+use Rattle.frame_forms.specs.Forms.{Code, El, Form, Numbering, FrameKind, plain_frame, question_frame, pair, many, chosen, one, frame_kind, octets, number, nothing, empty, byte, u16, u32, both, choice, opt}
 use Rattle.frame_forms.specs.TextForms.{any_bytes, text, list_of, distinct_texts, distinct_patterns, ascending_texts, ascending_by_key}
 use Rattle.frame_forms.specs.MirrorForms.{in_order, bool, u8_below, element, mirror, value, annotation}
 
@@ -68,60 +72,37 @@ table =
     -- CreateClass: name, content, originating elements
     row 68 (text then any_bytes then list_of element) ∷
     -- Message: kind, element, text
-    row 69 (u8_below 5 then opt element then text) ∷
-    -- the child's questions
-    -- TypeElement and PackageElement, by canonical name
-    row 80 text ∷
-    row 81 text ∷
-    -- Info, Enclosing, Enclosed, TypeParameters, Parameters, PackageOf, DocComment, Annotations, AllAnnotations
-    row 82 element ∷
-    row 83 element ∷
-    row 84 element ∷
-    row 85 element ∷
-    row 86 element ∷
-    row 87 element ∷
-    row 88 element ∷
-    row 89 element ∷
-    row 90 element ∷
-    -- ValuesWithDefaults, of the annotation with that number
-    row 91 (element then u16) ∷
-    -- DefaultValue, ConstantValue, AllMembers
-    row 92 element ∷
-    row 93 element ∷
-    row 94 element ∷
-    -- Overrides: a method, another one, and the type in which
-    row 95 (element then element then element) ∷
-    -- TypeOf, Superclass, Interfaces, Bounds
-    row 96 element ∷
-    row 97 element ∷
-    row 98 element ∷
-    row 99 element ∷
-    -- SameType, Subtype, Assignable, Contains, Subsignature
-    row 100 (mirror then mirror) ∷
-    row 101 (mirror then mirror) ∷
-    row 102 (mirror then mirror) ∷
-    row 103 (mirror then mirror) ∷
-    row 104 (mirror then mirror) ∷
-    -- DirectSupertypes, Erasure, Boxed, Unboxed
-    row 105 mirror ∷
-    row 106 mirror ∷
-    row 107 mirror ∷
-    row 108 mirror ∷
-    -- MemberType, of a member as it is in a type
-    row 109 (mirror then element) ∷
-    -- AsElement, PrintType
-    row 110 mirror ∷
-    row 111 mirror ∷
-    -- DeclaredType, with arguments
-    row 112 (element then list_of mirror) ∷
-    -- ArrayType
-    row 113 mirror ∷
-    -- AnnotatedWith, by the name of the annotation
-    row 114 text ∷
-    -- Roots
-    row 115 empty ∷ []
+    row 69 (u8_below 5 then opt element then text) ∷ []
 
--- the row of a tag, where there is one
+-- ---- the questions, by the forms of their arguments
+
+abbrev pub question_code : QuestionRow → Code
+question_code (questions.Name of) = octets
+question_code (questions.Element of) = forms.element
+question_code (questions.Mirror of) = forms.mirror
+question_code (questions.Mirrors of) = pair forms.mirror forms.mirror
+-- an element, and the number of one of its annotations
+question_code questions.ValuesWithDefaults = pair forms.element number
+-- a method, another one, and the type in which
+question_code questions.Overrides = pair forms.element (pair forms.element forms.element)
+-- a type, and a member
+question_code questions.MemberType = pair forms.mirror forms.element
+-- a type, and arguments
+question_code questions.DeclaredType = pair forms.element (many forms.mirror)
+question_code questions.Roots = nothing
+
+abbrev pub question_form : (row : QuestionRow) → Form (question_code row)
+question_form (questions.Name of) = text
+question_form (questions.Element of) = element
+question_form (questions.Mirror of) = mirror
+question_form (questions.Mirrors of) = mirror then mirror
+question_form questions.ValuesWithDefaults = element then u16
+question_form questions.Overrides = element then element then element
+question_form questions.MemberType = mirror then element
+question_form questions.DeclaredType = element then list_of mirror
+question_form questions.Roots = empty
+
+-- ---- the row of a tag, where there is one
 abbrev pub row_with : ℕ → List Row → Option Row
 row_with tag [] = None
 row_with tag (first ∷ others) = if first.tag == tag then Some first else row_with tag others
@@ -135,28 +116,40 @@ abbrev pub form_in : (of : Option Row) → Form (code_in of)
 form_in None = empty
 form_in (Some of) = of.form
 
-abbrev pub tag_in : ℕ → Option Row → Option ℕ
-tag_in tag None = None
-tag_in tag (Some of) = Some tag
-
 abbrev pub row_of : ℕ → Option Row
 row_of tag = row_with tag table
 
-abbrev pub code_of : ℕ → Code
-code_of tag = code_in (row_of tag)
+-- ---- frames
 
-abbrev pub form_of : (tag : ℕ) → Form (code_of tag)
-form_of tag = form_in (row_of tag)
+abbrev pub kind_in : ℕ → Option Row → Option FrameKind
+kind_in tag None = None
+kind_in tag (Some of) = Some (plain_frame tag)
 
-abbrev pub tags : Numbering ℕ
-tags = record { number_of = λ tag. tag; at = λ tag. tag_in tag (row_of tag) }
+-- the frame with this tag
+abbrev pub kind_at : ℕ → Option FrameKind
+kind_at tag = option_or (kind_in tag (row_of tag)) (option_map (λ row. question_frame row) (question_at tag))
+
+abbrev pub tag_of : FrameKind → ℕ
+tag_of (plain_frame tag) = tag
+tag_of (question_frame row) = question_tag row
+
+abbrev pub tags : Numbering FrameKind
+tags = record { number_of = tag_of; at = kind_at }
+
+abbrev pub code_of : FrameKind → Code
+code_of (plain_frame tag) = code_in (row_of tag)
+code_of (question_frame row) = question_code row
+
+abbrev pub form_of : (kind : FrameKind) → Form (code_of kind)
+form_of (plain_frame tag) = form_in (row_of tag)
+form_of (question_frame row) = question_form row
 
 -- a tag and its fields
 abbrev pub frame_code : Code
-frame_code = chosen plain code_of
+frame_code = chosen frame_kind code_of
 
 abbrev pub frame_form : Form frame_code
-frame_form = choice plain kinds.Tag tags code_of form_of
+frame_form = choice frame_kind kinds.Tag tags code_of form_of
 
 abbrev pub Fields : Type 0
 Fields = El frame_code

@@ -1,4 +1,5 @@
 pub mod Scans
+pub mod QuestionTable
 pub mod Forms
 pub mod TextForms
 pub mod MirrorForms
