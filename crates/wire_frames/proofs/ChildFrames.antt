@@ -4,7 +4,7 @@ use Rattle.apt_base.specs.Fields.{bool_next, bytes_next, text_next}
 use Rattle.apt_base.specs.Forms.{Reader, ◌>>◌, opt_next, list_next}
 use Rattle.apt_base.specs.Forms as readers
 use Rattle.frame_forms.specs.Scans as scans
-use Rattle.frame_forms.specs.Forms.{El, opt}
+use Rattle.frame_forms.specs.Forms.{El, plain_frame, opt}
 use Rattle.frame_forms.specs.TextForms.{any_bytes, text, distinct_texts, distinct_patterns, list_of}
 use Rattle.frame_forms.specs.MirrorForms.{bool, u8_below, element}
 use Rattle.frame_forms.specs.FrameTable.{◌then◌, claim, code_of, form_of}
@@ -16,8 +16,8 @@ use Rattle.wire_frames.proofs.Scanned.{Same, pair-same, made-same, list-same, op
 -- ---- the rows
 
 -- what is read behind a tag is what the table has there
-abbrev pub Row : (tag : ℕ) → (El (code_of tag) → Frame) → Reader Frame → Type 0
-Row tag make next = Same next (λ bytes. scans.mapped make (scanned (form_of tag) bytes))
+abbrev pub Row : (tag : ℕ) → (El (code_of (plain_frame tag)) → Frame) → Reader Frame → Type 0
+Row tag make next = Same next (λ bytes. scans.mapped make (scanned (form_of (plain_frame tag)) bytes))
 
 pub hello_row : Row 64 hello_of hello_next
 unfolding hello_next

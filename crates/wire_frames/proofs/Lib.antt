@@ -5,3 +5,4 @@ pub mod Texts
 pub mod Scanned
 pub mod ChildFrames
 pub mod Again
+pub mod LimitsLemmas

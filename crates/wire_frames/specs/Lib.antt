@@ -1,4 +1,5 @@
 pub mod Frames
 pub mod Outputs
 pub mod Spellings
+pub mod Limits
 pub mod Readings

@@ -15,11 +15,13 @@ use Rattle.type_mirror.specs.declared.value.Annotation.{Annotation}
 use Rattle.type_mirror.specs.declared.value.NamedValue.{NamedValue}
 use Rattle.type_mirror.specs.Parts.{plain}
 use Rattle.frame_forms.specs.Forms as forms
-use Rattle.frame_forms.specs.Forms.{mirror_part, value_part, spelled_with, opt_spelling}
+use Rattle.frame_forms.specs.Forms.{mirror_part, value_part, spelled_with, opt_spelling, plain_frame}
 use Rattle.frame_forms.specs.MirrorForms.{element, named_value, annotation, bool_number}
 use Rattle.frame_forms.specs.FrameTable.{frame_form, Fields}
 use Rattle.frame_forms.specs.Frames.{part_spelling, spelled, most_nested}
 use Rattle.wire_frames.specs.declared.output.Output.{Output}
+use Rattle.wire_frames.specs.declared.question.Question.{Question}
+use Rattle.wire_frames.specs.declared.question.Question.TheVariants as questions
 use Rattle.wire_frames.specs.Outputs.{Adds}
 
 -- the tag and the fields of a frame
@@ -87,7 +89,7 @@ texts_spelled texts = list_spelled bytes_form texts
 
 -- a frame that begins a round
 abbrev pub round_spelled : ℕ → Bool → Bool → List (List ℕ) → List (List ℕ) → List ℕ
-round_spelled number over error offered roots = fields_spelled (2, (number, (over, (error, (offered, roots)))))
+round_spelled number over error offered roots = fields_spelled (plain_frame 2, (number, (over, (error, (offered, roots)))))
 
 -- values with their names, as the values of an annotation with its defaults
 abbrev pub values_with_names_spelled : List (List ℕ × Value) → List ℕ
@@ -99,7 +101,7 @@ file_spelled name content origins = bytes_form name ++ (bytes_form content ++ li
 
 -- a resource that is created
 abbrev pub resource_spelled : ℕ → List ℕ → List ℕ → List ℕ → List ElementRef → List ℕ
-resource_spelled location folder path content origins = fields_spelled (67, (location, (folder, (path, (content, origins)))))
+resource_spelled location folder path content origins = fields_spelled (plain_frame 67, (location, (folder, (path, (content, origins)))))
 
 -- where a call went well, such a resource was added
 abbrev pub AddsResource : {T E : Type 0} → Result T E → Output → Output → ℕ → List ℕ → List ℕ → List ℕ → List ElementRef → Type 0
@@ -108,21 +110,20 @@ AddsResource result old new location folder path content origins =
 
 -- ---- what questions hold
 
--- an element, and the number of one of its annotations
-abbrev pub numbered_spelled : ElementRef → ℕ → List ℕ
-numbered_spelled at number = element_spelled at ++ to_be_bytes w16 number
-
--- the question about a method, the one that it may override, and the type in which it does, behind its tag
-abbrev pub override_spelled : ElementRef → ElementRef → ElementRef → List ℕ
-override_spelled overrider overridden in_type = 95 ∷ (element_spelled overrider ++ (element_spelled overridden ++ element_spelled in_type))
+abbrev pub three_elements_spelled : ElementRef → ElementRef → ElementRef → List ℕ
+three_elements_spelled one other third = element_spelled one ++ (element_spelled other ++ element_spelled third)
 
 abbrev pub two_mirrors_spelled : Mirror → Mirror → List ℕ
 two_mirrors_spelled one other = mirror_spelled most_nested one ++ mirror_spelled most_nested other
 
--- a type, and the element that is looked at as its member
-abbrev pub member_spelled : Mirror → ElementRef → List ℕ
-member_spelled container at = mirror_spelled most_nested container ++ element_spelled at
-
--- a class or interface, and the arguments of a type of it
-abbrev pub type_spelled : ElementRef → List Mirror → List ℕ
-type_spelled at arguments = element_spelled at ++ list_spelled (mirror_spelled most_nested) arguments
+-- the arguments of a question, behind its tag
+unfoldable pub arguments_spelled : Question → List ℕ
+arguments_spelled (questions.Name of name) = bytes_form name
+arguments_spelled (questions.Element of at) = element_spelled at
+arguments_spelled (questions.Mirror of m) = mirror_spelled most_nested m
+arguments_spelled (questions.Mirrors of one other) = two_mirrors_spelled one other
+arguments_spelled (questions.ValuesWithDefaults at number) = element_spelled at ++ to_be_bytes w16 number
+arguments_spelled (questions.Overrides overrider overridden in_type) = three_elements_spelled overrider overridden in_type
+arguments_spelled (questions.MemberType container at) = mirror_spelled most_nested container ++ element_spelled at
+arguments_spelled (questions.DeclaredType at arguments) = element_spelled at ++ list_spelled (mirror_spelled most_nested) arguments
+arguments_spelled questions.Roots = []

@@ -13,6 +13,7 @@
 mod copying;
 mod form_writing;
 mod frame;
+mod limits;
 mod output;
 mod question;
 mod question_writing;
@@ -25,4 +26,4 @@ pub use frame::{Creation, Frame, Hello, Init, Message, copy_options};
 pub use question::Question;
 pub use reading::{read_below, read_child_fields, read_element, read_elements, read_step};
 pub use reply::{Created, Info, Refused, Reply};
-pub use writing::{FrameFault, MAX_FRAME, encode};
+pub use writing::{FrameFault, MAX_FRAME, encode, is_too_large};

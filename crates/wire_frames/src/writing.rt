@@ -1,11 +1,12 @@
 // Spells the frames.
-ghost use Rattle.std.specs.Prelude.{◌≡◌, ◌<◌, ◌≤◌, [], ◌∷◌, ◌++◌, length, IfOk, OnOk, IsErrOf};
+ghost use Rattle.std.specs.Prelude.{◌≡◌, ◌≤◌, true, [], ◌∷◌, ◌++◌, length, IfOk, OnOk, IsErrOf, Err};
 ghost use Rattle.std.specs.Int.{w32, to_be_bytes};
 ghost use Rattle.apt_base.specs.Fields.{bytes_form};
-ghost use Rattle.frame_forms.specs.Forms.{opt_spelling};
+ghost use Rattle.frame_forms.specs.Forms.{opt_spelling, plain_frame};
 ghost use Rattle.frame_forms.specs.MirrorForms.{bool_number};
 ghost use Rattle.frame_forms.specs.FrameTable.{claim_number};
 ghost use Rattle.wire_frames.specs.Frames.{shown, init_shown, reply_shown, info_shown, hello_shown, creation_shown, message_shown, created_number, refused_number, spelling, IsInTable, AreBytesOf};
+ghost use Rattle.wire_frames.specs.Limits.{is_too_long, is_too_large};
 ghost use Rattle.wire_frames.specs.Outputs.{Adds, added, counted};
 ghost use Rattle.wire_frames.specs.Spellings.{list_spelled, fields_spelled, element_spelled, option_spelled, value_with_name_spelled, heading_spelled, texts_spelled, round_spelled, values_with_names_spelled, file_spelled, AddsResource};
 ghost use Rattle.wire_frames.specs.declared.writing.FrameFault.TheVariants as faults;
@@ -14,6 +15,7 @@ use crate::form_writing::{
     put_annotations, put_element, put_elements, put_mirrors, put_texts, put_value,
 };
 use crate::frame::{Creation, Frame, Hello, Init, Message};
+use crate::limits::nesting;
 use crate::output::Output;
 use crate::question_writing::put_question;
 use crate::reply::{Created, Info, Refused, Reply};
@@ -29,7 +31,7 @@ pub const MAX_FRAME: usize = 134_217_728;
 /// Why a frame has no spelling.
 #[derive(Clone, Copy, Debug, PartialEq, Eq)]
 pub enum FrameFault {
-    /// The frame would be longer than `MAX_FRAME`.
+    /// The frame would be longer than `MAX_FRAME`, or it holds mirrors or values that are nested more than 256 deep.
     TooLarge,
     /// Out of memory.
     Memory,
@@ -229,7 +231,7 @@ fn put_hello(output: &mut Output, hello: &Hello) -> Result<(), NoMemory>
 
 #[tactic(auto, using(crate::proofs::Added::adds, crate::proofs::Rows::frame_rows))]
 fn put_done(output: &mut Output, claimed: bool) -> Result<(), NoMemory>
-    ensures { Adds result output.old output.new (fields_spelled (65, claimed)) }
+    ensures { Adds result output.old output.new (fields_spelled (plain_frame 65, claimed)) }
 {
     output.u8(tags::DONE)?;
     output.bool(claimed)
@@ -364,12 +366,21 @@ fn written(alloc: Global, size: u32, frame: &Frame) -> Result<List<u8>, NoMemory
     Ok(output.into_bytes(alloc))
 }
 
+/// Whether a frame is too large to be sent: nested too deep, or too long. It takes no memory.
+#[tactic(auto, unfolding(crate::specs::Limits::is_too_large, crate::specs::Spellings::fields_spelled))]
+pub fn is_too_large(frame: &Frame) -> bool
+    ensures { result ≡ is_too_large frame.now }
+{
+    nesting(frame) > MOST_NESTED as u32 || size_of(frame) > MAX_FRAME - 4
+}
+
+// The bytes of a frame, unless they are too many.
 #[tactic(auto, unfolding(crate::specs::Frames::spelling, crate::specs::Spellings::fields_spelled))]
 fn encoded(alloc: Global, frame: &Frame) -> Result<List<u8>, FrameFault>
     ensures spelled { IfOk result (λ bytes. bytes ≡ spelling frame.now) }
     ensures fits { OnOk result (length (spelling frame.now) ≤ MAX_FRAME) }
-    ensures large { IsErrOf result faults.TooLarge → MAX_FRAME < length (spelling frame.now) }
-    ensures past { MAX_FRAME < length (spelling frame.now) → result ≡ Err faults.TooLarge }
+    ensures large { IsErrOf result faults.TooLarge → is_too_long frame.now ≡ true }
+    ensures past { is_too_long frame.now ≡ true → result ≡ Err faults.TooLarge }
 {
     let size = size_of(frame);
     if size > MAX_FRAME - 4 {
@@ -381,17 +392,19 @@ fn encoded(alloc: Global, frame: &Frame) -> Result<List<u8>, FrameFault>
 /// The bytes of a frame: the length of its tag and fields in four bytes, the tag, and the fields in
 /// order.
 ///
-/// `TooLarge` comes exactly where these would be more than `MAX_FRAME`, and before any memory is taken, so
-/// that no such frame is answered `Memory`, the other error. Every value of `Frame` has these bytes, also one that no frame is read as: a
-/// number that is out of its range, a text that repeats where none may, or one that does not ascend, is
-/// spelled as it is, and of mirrors and values that are nested more than 256 deep the inner ones are left out.
+/// `TooLarge` comes exactly where these would be more than `MAX_FRAME`, or where the frame holds mirrors or values that
+/// are nested more than 256 deep, and before any memory is taken, so that no such frame is answered `Memory`, the other
+/// error. Nothing is ever left out. Every other value of `Frame` has its bytes, also one that no frame is read as: a
+/// number that is out of its range, a text that repeats where none may, or one that does not ascend, is spelled as it is.
 pub fn encode(alloc: Global, frame: &Frame) -> Result<List<u8>, FrameFault>
     ensures spelled { IfOk result (λ bytes. bytes ≡ spelling frame.now) }
-    ensures fits { OnOk result (length (spelling frame.now) ≤ MAX_FRAME) }
-    ensures large { IsErrOf result faults.TooLarge → MAX_FRAME < length (spelling frame.now) }
-    ensures past { MAX_FRAME < length (spelling frame.now) → result ≡ Err faults.TooLarge }
+    ensures large { IsErrOf result faults.TooLarge → is_too_large frame.now ≡ true }
+    ensures past { is_too_large frame.now ≡ true → result ≡ Err faults.TooLarge }
     // A frame that the table has is read back from these bytes, and no other one.
     ensures again { IsInTable frame.now → IfOk result (λ bytes. AreBytesOf bytes frame.now) }
 {
+    if nesting(frame) > MOST_NESTED as u32 {
+        return Err(FrameFault::TooLarge);
+    }
     encoded(alloc, frame)
 }
