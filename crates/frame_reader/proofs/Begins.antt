@@ -10,7 +10,7 @@ use Rattle.frame_forms.specs.Forms.{One, Code, El, Form, Numbering, Sort, bool_a
 use Rattle.frame_forms.specs.TextForms.{list_of, text}
 use Rattle.frame_forms.specs.MirrorForms as mirrors
 use Rattle.frame_forms.specs.FrameTable as frames
-use Rattle.frame_forms.specs.FrameTable.{Row, row_of, tag_in, form_in, tags, code_of, form_of}
+use Rattle.frame_forms.specs.FrameTable.{kind_at, tags, code_of, form_of}
 use Rattle.frame_forms.specs.Frames.{part_scan}
 use Rattle.apt_base.specs.declared.kinds.Claim.TheVariants as claims
 use Rattle.type_mirror.specs.declared.mirror.PrimitiveKind.TheVariants as primitives
@@ -27,13 +27,13 @@ use Rattle.frame_reader.specs.declared.task.Then.{Then}
 use Rattle.frame_reader.specs.declared.task.Then.TheVariants as thens
 use Rattle.frame_reader.specs.declared.task.TextList.{TextList}
 use Rattle.frame_reader.specs.declared.task.Task.{Task}
-use Rattle.frame_reader.specs.Nodes.{item_form, chosen_by}
+use Rattle.frame_reader.specs.Nodes.{item_form}
 use Rattle.frame_reader.specs.Rests.{Reading, forgotten, then_read, form_rest, node_rest, fields_rest, items_rest, texts_rest, tasks_rest, gathered, number_of, plain_fault, text_done, text_behind, gather_done}
-use Rattle.frame_reader.specs.Steps.{Left, gathers, chooses, passes_if, part_left, item_left, maybe_left, node_left, first_kind, behind_rest, tag_choices, mirror_choices, value_choices, bound_choices}
+use Rattle.frame_reader.specs.Steps.{Left, gathers, chooses, passes_if, part_left, item_left, maybe_left, node_left, first_kind, behind_rest, tagged_choice, mirror_choices, value_choices, bound_choices}
 use Rattle.frame_reader.proofs.Forgetting.{forgotten-and_then, forgotten-mapped, forgotten-items, then_read-whole}
 use Rattle.frame_reader.proofs.Gathering.{gathered-same, number_gathered, run_done, run_behind, run_gathered}
 use Rattle.frame_reader.proofs.Forming.{form_rest-nodes, byte_passes, byte_fails, choice_passes, choice_fails, form_rest-means, form_rest-both}
-use Rattle.frame_reader.proofs.Tables.{IsRow, tag_row, IsChoice, mirror_choice, value_choice, bound_choice}
+use Rattle.frame_reader.proofs.Tables.{IsChoice, tagged_is, mirror_choice, value_choice, bound_choice}
 use Rattle.frame_reader.proofs.Lists.{texts_are, entries_are}
 
 -- ---- what is left, as a reading
@@ -204,18 +204,7 @@ module _ (before : List (List ℕ)) (room byte : ℕ) (later : List ℕ) where
 
   tagged_begins : node_rest room nodes.Tagged (byte ∷ later) ≡ outcome before room kinds.Tag byte (node_left room nodes.Tagged byte) later
   unfolding node_left
-  tagged_begins = without_behind _ ∙ go (row_of byte) (chosen_by tag_choices byte) refl (tag_row byte)
-    where
-      go : (of : Option Row) (fields : Option (List Node)) → row_of byte ≡ of → IsRow of fields → then_read (node_rest room nodes.Tagged (byte ∷ later)) (behind_rest room None) ≡ outcome before room kinds.Tag byte (chooses room None fields) later
-      go None None at is =
-          ap (λ (s : Scan (Unit {0})). then_read s (behind_rest room None)) (choice_fails room forms.plain kinds.Tag tags byte later code_of form_of (ap (tag_in byte) at))
-      go None (Some fields) at is = absurd is
-      go (Some of) None at is = absurd is
-      go (Some of) (Some fields) at is =
-          ap (λ (s : Scan (Unit {0})). then_read s (behind_rest room None))
-          (choice_passes room forms.plain kinds.Tag tags byte later code_of form_of byte (ap (tag_in byte) at)
-          ∙ ap (λ (r : Option Row). form_rest room (form_in r) later) at
-          ∙ form_rest-nodes room of.form fields later is)
+  tagged_begins = without_behind _ ∙ choice_begins room kinds.Tag forms.frame_kind tags code_of form_of None (kind_at byte) (tagged_choice byte) refl (tagged_is byte)
 
 -- ---- mirrors and values
 

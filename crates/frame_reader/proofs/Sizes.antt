@@ -18,7 +18,7 @@ use Rattle.frame_reader.specs.declared.node.Node.TheVariants as nodes
 use Rattle.frame_reader.specs.declared.task.Then.{Then}
 use Rattle.frame_reader.specs.Nodes.{chosen_by}
 use Rattle.frame_reader.specs.Rests.{forgotten, then_read, form_rest, node_rest}
-use Rattle.frame_reader.specs.Steps.{Left, passes_if, chooses, part_left, maybe_left, item_left, node_left, tag_choices, mirror_choices, value_choices, bound_choices}
+use Rattle.frame_reader.specs.Steps.{Left, passes_if, chooses, part_left, maybe_left, item_left, node_left, tagged_choice, mirror_choices, value_choices, bound_choices}
 use Rattle.frame_reader.specs.Stands.{IsSized}
 use Rattle.frame_reader.proofs.Forgetting.{forgotten-mapped}
 use Rattle.frame_reader.proofs.Forming.{form_rest-means, form_rest-both}
@@ -76,7 +76,7 @@ node_left-fits room (nodes.Maybe item) byte = maybe_left-fits item (bool_at byte
 node_left-fits room (nodes.Many item) byte = (refl, tt)
 node_left-fits room (nodes.Texts rule) byte = (refl, tt)
 node_left-fits room nodes.Bound byte = chooses-fits room None (slice_get bound_choices byte)
-node_left-fits room nodes.Tagged byte = chooses-fits room None (chosen_by tag_choices byte)
+node_left-fits room nodes.Tagged byte = chooses-fits room None (tagged_choice byte)
 
 -- ---- no bytes
 

@@ -1,12 +1,18 @@
 -- The tables of nodes are those of the forms.
-use Rattle.std.proofs.Common.{◌≡◌, ℕ, zero, suc, Bool, true, false, eqb, cond, List, [], ◌∷◌, map, slice_get, Option, Some, None, refl, ap}
+use Rattle.std.proofs.Common.{◌≡◌, ℕ, zero, suc, Bool, true, false, eqb, cond, List, [], ◌∷◌, map, slice_get, Option, Some, None, refl, sym, ap, subst}
+use Rattle.std.specs.Prelude.{option_map}
+use Rattle.std.specs.Option.{option_or}
 use Rattle.frame_forms.specs.Forms.{Code, Form}
 use Rattle.frame_forms.specs.Forms.{primitive, declared, error, variable, array, wildcard, executable, nothing_there, void, null, package_mirror, unbounded, upper, lower, truth_value, whole_value, character, text_value, class_value, constant, array_value, nested, other, floating}
-use Rattle.frame_forms.specs.FrameTable.{Row, table, row_with, row_of}
+use Rattle.frame_forms.specs.Forms.{question_frame}
+use Rattle.frame_forms.specs.declared.question_row.QuestionRow.{QuestionRow}
+use Rattle.frame_forms.specs.declared.question_row.QuestionRow.TheVariants as rows
+use Rattle.frame_forms.specs.QuestionTable.{question_at}
+use Rattle.frame_forms.specs.FrameTable.{Row, table, row_with, row_of, form_in, kind_in, kind_at, question_form, code_of, form_of}
 use Rattle.frame_forms.specs.MirrorForms as mirrors
 use Rattle.frame_reader.specs.declared.node.Node.{Node}
 use Rattle.frame_reader.specs.Nodes.{fields_in, any_form, AreFields, Choices, chosen_by}
-use Rattle.frame_reader.specs.Steps.{tag_choices, mirror_choices, value_choices, bound_choices}
+use Rattle.frame_reader.specs.Steps.{tag_choices, argument_nodes, tagged_choice, mirror_choices, value_choices, bound_choices}
 
 -- row by row
 abbrev SameTable : List Row → Choices → Type 0
@@ -16,7 +22,7 @@ SameTable (row ∷ rows) [] = ⊥
 SameTable (row ∷ rows) (choice ∷ choices) = (row.tag ≡ choice.0) × (fields_in row.form ≡ map any_form choice.1) × SameTable rows choices
 
 same_table : SameTable table tag_choices
-same_table = (refl, refl, (refl, refl, (refl, refl, (refl, refl, (refl, refl, (refl, refl, (refl, refl, (refl, refl, (refl, refl, (refl, refl, (refl, refl, (refl, refl, (refl, refl, (refl, refl, (refl, refl, (refl, refl, (refl, refl, (refl, refl, (refl, refl, (refl, refl, (refl, refl, (refl, refl, (refl, refl, (refl, refl, (refl, refl, (refl, refl, (refl, refl, (refl, refl, (refl, refl, (refl, refl, (refl, refl, (refl, refl, (refl, refl, (refl, refl, (refl, refl, (refl, refl, (refl, refl, (refl, refl, (refl, refl, (refl, refl, (refl, refl, (refl, refl, (refl, refl, (refl, refl, (refl, refl, (refl, refl, (refl, refl, (refl, refl, (refl, refl, (refl, refl, (refl, refl, (refl, refl, (refl, refl, (refl, refl, tt))))))))))))))))))))))))))))))))))))))))))))))))))))))
+same_table = (refl, refl, (refl, refl, (refl, refl, (refl, refl, (refl, refl, (refl, refl, (refl, refl, (refl, refl, (refl, refl, (refl, refl, (refl, refl, (refl, refl, (refl, refl, (refl, refl, (refl, refl, (refl, refl, (refl, refl, (refl, refl, tt))))))))))))))))))
 
 -- a row and its nodes, or neither
 abbrev pub IsRow : Option Row → Option (List Node) → Type 0
@@ -63,6 +69,31 @@ module _ {A : Type 0} (of : A → Code) (form : (x : A) → Form (of x)) where
   choice_is (x ∷ xs) [] same n = absurd same
   choice_is (x ∷ xs) (fields ∷ choices) same zero = same.0
   choice_is (x ∷ xs) (fields ∷ choices) same (suc n) = choice_is xs choices same.1 n
+
+-- ---- tags
+
+-- the arguments of a question are those of its row's form
+question_is : (row : QuestionRow) → AreFields (question_form row) (argument_nodes row)
+question_is (rows.Name of) = refl
+question_is (rows.Element of) = refl
+question_is (rows.Mirror of) = refl
+question_is (rows.Mirrors of) = refl
+question_is rows.ValuesWithDefaults = refl
+question_is rows.Overrides = refl
+question_is rows.MemberType = refl
+question_is rows.DeclaredType = refl
+question_is rows.Roots = refl
+
+tagged_cases : (tag : ℕ) (of : Option Row) (fields : Option (List Node)) (asked : Option QuestionRow) → row_of tag ≡ of → IsRow of fields
+    → IsChoice code_of form_of (option_or (kind_in tag of) (option_map (λ row. question_frame row) asked)) (option_or fields (option_map argument_nodes asked))
+tagged_cases tag None None None e is = tt
+tagged_cases tag None None (Some row) e is = question_is row
+tagged_cases tag None (Some fields) asked e is = absurd is
+tagged_cases tag (Some of) None asked e is = absurd is
+tagged_cases tag (Some of) (Some fields) asked e is = subst (λ (r : Option Row). AreFields (form_in r) fields) (sym e) is
+
+pub tagged_is : (tag : ℕ) → IsChoice code_of form_of (kind_at tag) (tagged_choice tag)
+tagged_is tag = tagged_cases tag (row_of tag) (chosen_by tag_choices tag) (question_at tag) refl (tag_row tag)
 
 pub mirror_choice : (byte : ℕ) → IsChoice mirrors.mirror_fields mirrors.mirror_form (mirrors.mirror_variants.at byte) (slice_get mirror_choices byte)
 mirror_choice byte = choice_is mirrors.mirror_fields mirrors.mirror_form (primitive ∷ declared ∷ error ∷ variable ∷ array ∷ wildcard ∷ executable ∷ nothing_there ∷ void ∷ null ∷ package_mirror ∷ []) mirror_choices (refl, (refl, (refl, (refl, (refl, (refl, (refl, (refl, (refl, (refl, (refl, tt))))))))))) byte

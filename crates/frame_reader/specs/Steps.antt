@@ -1,8 +1,12 @@
 -- What the first byte of a node leaves to come: the node goes on byte by byte, chooses what comes next, or the byte is bad.
-use Rattle.std.specs.Prelude.{◌≡◌, ℕ, zero, suc, ◌-◌, Bool, true, false, ◌||◌, ◌==◌, nat_lt, List, [], ◌∷◌, ◌++◌, length, take, map, reverse, slice_get, Option, Some, None, option_to_list, if◌then◌else◌}
+use Rattle.std.specs.Prelude.{◌≡◌, ℕ, zero, suc, ◌-◌, Bool, true, false, ◌||◌, ◌==◌, nat_lt, List, [], ◌∷◌, ◌++◌, length, take, map, reverse, slice_get, Option, Some, None, option_map, option_to_list, if◌then◌else◌}
+use Rattle.std.specs.Option.{option_or}
 use Rattle.frame_forms.specs.declared.bad_kind.BadKind.{BadKind}
 use Rattle.frame_forms.specs.declared.bad_kind.BadKind.TheVariants as kinds
 use Rattle.frame_forms.specs.Forms.{bool_at}
+use Rattle.frame_forms.specs.declared.question_row.QuestionRow.{QuestionRow}
+use Rattle.frame_forms.specs.declared.question_row.QuestionRow.TheVariants as rows
+use Rattle.frame_forms.specs.QuestionTable.{question_at}
 use Rattle.frame_reader.specs.declared.node.Item.{Item}
 use Rattle.frame_reader.specs.declared.node.Item.TheVariants as items
 use Rattle.frame_reader.specs.declared.node.Node.{Node}
@@ -23,6 +27,22 @@ use Rattle.frame_reader.specs.Rests.{Reading, node_rest, nothing_more}
 
 abbrev pub tag_choices : Choices
 tag_choices = map (λ row. (row.0, row.1.now)) TAGS
+
+-- the arguments of a question, by its row
+abbrev pub argument_nodes : QuestionRow → List Node
+argument_nodes (rows.Name of) = nodes.One items.Text ∷ []
+argument_nodes (rows.Element of) = nodes.One items.Element ∷ []
+argument_nodes (rows.Mirror of) = nodes.One items.Mirror ∷ []
+argument_nodes (rows.Mirrors of) = nodes.One items.Mirror ∷ nodes.One items.Mirror ∷ []
+argument_nodes rows.ValuesWithDefaults = nodes.One items.Element ∷ nodes.One items.Number ∷ []
+argument_nodes rows.Overrides = nodes.One items.Element ∷ nodes.One items.Element ∷ nodes.One items.Element ∷ []
+argument_nodes rows.MemberType = nodes.One items.Mirror ∷ nodes.One items.Element ∷ []
+argument_nodes rows.DeclaredType = nodes.One items.Element ∷ nodes.Many items.Mirror ∷ []
+argument_nodes rows.Roots = []
+
+-- the fields of a tag: those of its row, or the arguments of its question
+abbrev pub tagged_choice : ℕ → Option (List Node)
+tagged_choice tag = option_or (chosen_by tag_choices tag) (option_map argument_nodes (question_at tag))
 
 abbrev pub mirror_choices : List (List Node)
 mirror_choices = map (λ fields. fields.now) MIRRORS
@@ -93,7 +113,7 @@ node_left room (nodes.Maybe item) byte = maybe_left item (bool_at byte)
 node_left room (nodes.Many item) byte = gathers 2 (thens.Count item room) None
 node_left room (nodes.Texts rule) byte = gathers 2 (thens.ListCount rule) None
 node_left room nodes.Bound byte = chooses room None (slice_get bound_choices byte)
-node_left room nodes.Tagged byte = chooses room None (chosen_by tag_choices byte)
+node_left room nodes.Tagged byte = chooses room None (tagged_choice byte)
 
 -- what is wrong with a bad first byte
 abbrev pub first_kind : Node → BadKind

@@ -1,6 +1,7 @@
 // What has to follow the first byte of a node.
-ghost use Rattle.std.specs.Prelude.{◌≡◌, Option, None, Some, slice_get, map, List};
-ghost use Rattle.frame_reader.specs.Steps.{tag_choices, mirror_choices, value_choices, bound_choices, item_left, node_left, passes_if, part_left, maybe_left, gathers, chooses, IsLeft, IsChosen, AreChosen};
+ghost use Rattle.std.specs.Prelude.{◌≡◌, Option, None, Some, option_map, slice_get, map, List};
+ghost use Rattle.frame_forms.specs.QuestionTable.{question_at};
+ghost use Rattle.frame_reader.specs.Steps.{argument_nodes, tagged_choice, mirror_choices, value_choices, bound_choices, item_left, node_left, passes_if, part_left, maybe_left, gathers, chooses, IsLeft, IsChosen, AreChosen};
 ghost use Rattle.frame_forms.specs.Forms.{bool_at};
 ghost use Rattle.frame_reader.specs.Nodes.{chosen_by};
 ghost use Rattle.frame_reader.specs.declared.task.Then.TheVariants as thens;
@@ -8,6 +9,7 @@ ghost use Rattle.frame_reader.specs.declared.node.Node.{Node};
 
 use crate::node::{BOUNDS, Item, MIRRORS, Node, TAGS, VALUES};
 use crate::task::{Begun, TextRule, Then};
+use frame_forms::QuestionRow;
 
 /// How many bytes of a length, a count or another number of four bytes come behind the second one.
 pub(crate) const BEHIND_SECOND_OF_FOUR: u32 = 2;
@@ -76,6 +78,47 @@ fn fields_at(rows: &[&'static [Node]], byte: u8) -> Option<&'static [Node]>
     rows.get(byte as usize).copied()
 }
 
+// The arguments of a question, by its row.
+fn arguments_of(row: QuestionRow) -> &'static [Node]
+    ensures { result.now ≡ argument_nodes row }
+{
+    match row {
+        QuestionRow::Name(_) => &[Node::One(Item::Text)],
+        QuestionRow::Element(_) => &[Node::One(Item::Element)],
+        QuestionRow::Mirror(_) => &[Node::One(Item::Mirror)],
+        QuestionRow::Mirrors(_) => &[Node::One(Item::Mirror), Node::One(Item::Mirror)],
+        QuestionRow::ValuesWithDefaults => &[Node::One(Item::Element), Node::One(Item::Number)],
+        QuestionRow::Overrides => &[
+            Node::One(Item::Element),
+            Node::One(Item::Element),
+            Node::One(Item::Element),
+        ],
+        QuestionRow::MemberType => &[Node::One(Item::Mirror), Node::One(Item::Element)],
+        QuestionRow::DeclaredType => &[Node::One(Item::Element), Node::Many(Item::Mirror)],
+        QuestionRow::Roots => &[],
+    }
+}
+
+// The arguments of the question with this tag.
+fn question_fields(tag: u8) -> Option<&'static [Node]>
+    ensures { AreChosen result (option_map argument_nodes (question_at tag)) }
+{
+    match QuestionRow::at(tag) {
+        None => None,
+        Some(row) => Some(arguments_of(row)),
+    }
+}
+
+// The fields of a tag.
+fn tagged_fields(tag: u8) -> Option<&'static [Node]>
+    ensures { AreChosen result (tagged_choice tag) }
+{
+    match fields_with(&TAGS, tag) {
+        Some(fields) => Some(fields),
+        None => question_fields(tag),
+    }
+}
+
 // The byte is the first one of a length.
 fn begins_length(rule: TextRule, behind: Option<Node>) -> Option<Begun>
     ensures { IsLeft result (gathers 2 (thens.Length rule) behind) }
@@ -142,6 +185,6 @@ pub(crate) fn node_begun(node: Node, room: u16, byte: u8) -> Option<Begun>
         Node::Many(item) => gathers(BEHIND_SECOND_OF_FOUR, Then::Count(item, room), None),
         Node::Texts(rule) => gathers(BEHIND_SECOND_OF_FOUR, Then::ListCount(rule), None),
         Node::Bound => chooses(room, None, fields_at(&BOUNDS, byte)),
-        Node::Tagged => chooses(room, None, fields_with(&TAGS, byte)),
+        Node::Tagged => chooses(room, None, tagged_fields(byte)),
     }
 }

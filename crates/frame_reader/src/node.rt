@@ -69,8 +69,8 @@ pub enum Node {
     Tagged,
 }
 
-/// The tags of frames, each with its fields in order.
-pub const TAGS: [(u8, &[Node]); 54] = [
+/// The tags of frames that are no questions, each with its fields in order.
+pub const TAGS: [(u8, &[Node]); 18] = [
     (
         1,
         &[
@@ -151,49 +151,6 @@ pub const TAGS: [(u8, &[Node]); 54] = [
             Node::One(Item::Text),
         ],
     ),
-    (80, &[Node::One(Item::Text)]),
-    (81, &[Node::One(Item::Text)]),
-    (82, &[Node::One(Item::Element)]),
-    (83, &[Node::One(Item::Element)]),
-    (84, &[Node::One(Item::Element)]),
-    (85, &[Node::One(Item::Element)]),
-    (86, &[Node::One(Item::Element)]),
-    (87, &[Node::One(Item::Element)]),
-    (88, &[Node::One(Item::Element)]),
-    (89, &[Node::One(Item::Element)]),
-    (90, &[Node::One(Item::Element)]),
-    (91, &[Node::One(Item::Element), Node::One(Item::Number)]),
-    (92, &[Node::One(Item::Element)]),
-    (93, &[Node::One(Item::Element)]),
-    (94, &[Node::One(Item::Element)]),
-    (
-        95,
-        &[
-            Node::One(Item::Element),
-            Node::One(Item::Element),
-            Node::One(Item::Element),
-        ],
-    ),
-    (96, &[Node::One(Item::Element)]),
-    (97, &[Node::One(Item::Element)]),
-    (98, &[Node::One(Item::Element)]),
-    (99, &[Node::One(Item::Element)]),
-    (100, &[Node::One(Item::Mirror), Node::One(Item::Mirror)]),
-    (101, &[Node::One(Item::Mirror), Node::One(Item::Mirror)]),
-    (102, &[Node::One(Item::Mirror), Node::One(Item::Mirror)]),
-    (103, &[Node::One(Item::Mirror), Node::One(Item::Mirror)]),
-    (104, &[Node::One(Item::Mirror), Node::One(Item::Mirror)]),
-    (105, &[Node::One(Item::Mirror)]),
-    (106, &[Node::One(Item::Mirror)]),
-    (107, &[Node::One(Item::Mirror)]),
-    (108, &[Node::One(Item::Mirror)]),
-    (109, &[Node::One(Item::Mirror), Node::One(Item::Element)]),
-    (110, &[Node::One(Item::Mirror)]),
-    (111, &[Node::One(Item::Mirror)]),
-    (112, &[Node::One(Item::Element), Node::Many(Item::Mirror)]),
-    (113, &[Node::One(Item::Mirror)]),
-    (114, &[Node::One(Item::Text)]),
-    (115, &[]),
 ];
 
 /// The fields of each mirror, by its number.
