@@ -40,7 +40,7 @@ fn tagged(alloc: Global, tag: u8, reader: &mut FieldReader<'_>) -> Result<Frame,
     if tag < tags::HELLO {
         return reply(alloc, tag, reader);
     }
-    if tag < tags::ASK_TYPE_ELEMENT {
+    if tag < tags::FIRST_QUESTION {
         return read_child_fields(alloc, tag, reader);
     }
     question(alloc, tag, reader)

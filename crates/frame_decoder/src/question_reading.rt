@@ -1,130 +1,65 @@
-// Reads a child's questions.
-ghost use Rattle.apt_base.specs.Fields.{text_next};
-ghost use Rattle.apt_base.specs.Readings.{Gives, GivesAll};
-ghost use Rattle.wire_frames.specs.Readings.{element_next};
-ghost use Rattle.frame_decoder.specs.PartReadings.{mirror_next};
-ghost use Rattle.frame_decoder.specs.QuestionReadings.{about, about_names, about_elements, about_mirrors, about_two_mirrors, about_next, two_mirrors_next, plain_question_next, values_next, overrides_next, member_next, declared_next, question_next};
+// Reads a child's questions: the row of the tag, and its arguments.
+ghost use Rattle.apt_base.specs.Readings.{Gives};
+ghost use Rattle.frame_forms.specs.declared.question_row.QuestionRow.TheVariants as rows;
+ghost use Rattle.frame_decoder.specs.QuestionReadings.{arguments_next, question_next};
 
 use crate::mirror_reading::{read_mirror, read_mirrors};
-use apt_base::{ElementRef, FieldReader, FormFault, Name, read_text};
-use frame_forms::MOST_NESTED;
+use apt_base::{FieldReader, FormFault, read_text};
+use frame_forms::{
+    ElementQuestion, MOST_NESTED, MirrorQuestion, MirrorsQuestion, NameQuestion, QuestionRow,
+};
 use std::alloc::Global;
 use type_mirror::Mirror;
-use wire_frames::{Question, read_element, read_step, tags};
+use wire_frames::{Question, read_element, read_step};
 
-// ---- the question with a tag about something
+// ---- the groups
 
-fn about_name(tag: u8, name: Name) -> Result<Question, FormFault>
-    ensures { GivesAll result (about about_names tag name) }
-{
-    match tag {
-        tags::ASK_TYPE_ELEMENT => Ok(Question::TypeElement(name)),
-        tags::ASK_PACKAGE_ELEMENT => Ok(Question::PackageElement(name)),
-        tags::ASK_ANNOTATED_WITH => Ok(Question::AnnotatedWith(name)),
-        _ => Err(FormFault::Bad),
-    }
-}
-
-fn about_element(tag: u8, element: ElementRef) -> Result<Question, FormFault>
-    ensures { GivesAll result (about about_elements tag element) }
-{
-    match tag {
-        tags::ASK_INFO => Ok(Question::Info(element)),
-        tags::ASK_ENCLOSING => Ok(Question::Enclosing(element)),
-        tags::ASK_ENCLOSED => Ok(Question::Enclosed(element)),
-        tags::ASK_TYPE_PARAMETERS => Ok(Question::TypeParameters(element)),
-        tags::ASK_PARAMETERS => Ok(Question::Parameters(element)),
-        tags::ASK_PACKAGE_OF => Ok(Question::PackageOf(element)),
-        tags::ASK_DOC_COMMENT => Ok(Question::DocComment(element)),
-        tags::ASK_ANNOTATIONS => Ok(Question::Annotations(element)),
-        tags::ASK_ALL_ANNOTATIONS => Ok(Question::AllAnnotations(element)),
-        tags::ASK_DEFAULT_VALUE => Ok(Question::DefaultValue(element)),
-        tags::ASK_CONSTANT_VALUE => Ok(Question::ConstantValue(element)),
-        tags::ASK_ALL_MEMBERS => Ok(Question::AllMembers(element)),
-        tags::ASK_TYPE_OF => Ok(Question::TypeOf(element)),
-        tags::ASK_SUPERCLASS => Ok(Question::Superclass(element)),
-        tags::ASK_INTERFACES => Ok(Question::Interfaces(element)),
-        tags::ASK_BOUNDS => Ok(Question::Bounds(element)),
-        _ => Err(FormFault::Bad),
-    }
-}
-
-fn about_mirror(tag: u8, mirror: Mirror) -> Result<Question, FormFault>
-    ensures { GivesAll result (about about_mirrors tag mirror) }
-{
-    match tag {
-        tags::ASK_DIRECT_SUPERTYPES => Ok(Question::DirectSupertypes(mirror)),
-        tags::ASK_ERASURE => Ok(Question::Erasure(mirror)),
-        tags::ASK_BOXED => Ok(Question::Boxed(mirror)),
-        tags::ASK_UNBOXED => Ok(Question::Unboxed(mirror)),
-        tags::ASK_AS_ELEMENT => Ok(Question::AsElement(mirror)),
-        tags::ASK_PRINT_TYPE => Ok(Question::PrintType(mirror)),
-        tags::ASK_ARRAY_TYPE => Ok(Question::ArrayType(mirror)),
-        _ => Err(FormFault::Bad),
-    }
-}
-
-fn about_two_mirrors(tag: u8, two: (Mirror, Mirror)) -> Result<Question, FormFault>
-    ensures { GivesAll result (about about_two_mirrors tag two) }
-{
-    let (one, other) = two;
-    match tag {
-        tags::ASK_SAME_TYPE => Ok(Question::SameType(one, other)),
-        tags::ASK_SUBTYPE => Ok(Question::Subtype(one, other)),
-        tags::ASK_ASSIGNABLE => Ok(Question::Assignable(one, other)),
-        tags::ASK_CONTAINS => Ok(Question::Contains(one, other)),
-        tags::ASK_SUBSIGNATURE => Ok(Question::Subsignature(one, other)),
-        _ => Err(FormFault::Bad),
-    }
-}
-
-// ---- questions about one thing, and about two mirrors
-
-#[tactic(auto, unfolding(crate::specs::QuestionReadings::about_next))]
-fn name_question(
+fn about_name(
     alloc: Global,
-    tag: u8,
+    question: NameQuestion,
     reader: &mut FieldReader<'_>,
 ) -> Result<Question, FormFault>
-    ensures { Gives result (about_next about_names text_next tag reader.old) reader.new }
+    ensures { Gives result (arguments_next (rows.Name question) reader.old) reader.new }
 {
     let name = read_text(alloc, reader)?;
-    about_name(tag, name)
+    Ok(Question::Name(question, name))
 }
 
-#[tactic(auto, unfolding(crate::specs::QuestionReadings::about_next))]
-fn element_question(
+fn about_element(
     alloc: Global,
-    tag: u8,
+    question: ElementQuestion,
     reader: &mut FieldReader<'_>,
 ) -> Result<Question, FormFault>
-    ensures { Gives result (about_next about_elements element_next tag reader.old) reader.new }
+    ensures { Gives result (arguments_next (rows.Element question) reader.old) reader.new }
 {
     let element = read_element(alloc, reader)?;
-    about_element(tag, element)
+    Ok(Question::Element(question, element))
 }
 
-#[tactic(auto, unfolding(crate::specs::QuestionReadings::about_next))]
-fn mirror_question(
+fn about_mirror(
     alloc: Global,
-    tag: u8,
+    question: MirrorQuestion,
     reader: &mut FieldReader<'_>,
 ) -> Result<Question, FormFault>
-    ensures { Gives result (about_next about_mirrors (mirror_next MOST_NESTED) tag reader.old) reader.new }
+    ensures { Gives result (arguments_next (rows.Mirror question) reader.old) reader.new }
 {
     let mirror = read_mirror(alloc, MOST_NESTED, reader)?;
-    about_mirror(tag, mirror)
+    Ok(Question::Mirror(question, mirror))
 }
 
 // Letting go of a mirror.
 fn discard(_mirror: Mirror) {}
 
-fn two_mirrors(alloc: Global, reader: &mut FieldReader<'_>) -> Result<(Mirror, Mirror), FormFault>
-    ensures { Gives result (two_mirrors_next reader.old) reader.new }
+fn about_mirrors(
+    alloc: Global,
+    question: MirrorsQuestion,
+    reader: &mut FieldReader<'_>,
+) -> Result<Question, FormFault>
+    ensures { Gives result (arguments_next (rows.Mirrors question) reader.old) reader.new }
 {
     let one = read_mirror(alloc, MOST_NESTED, reader)?;
     match read_mirror(alloc, MOST_NESTED, reader) {
-        Ok(other) => Ok((one, other)),
+        Ok(other) => Ok(Question::Mirrors(question, one, other)),
         Err(fault) => {
             discard(one);
             Err(fault)
@@ -132,38 +67,10 @@ fn two_mirrors(alloc: Global, reader: &mut FieldReader<'_>) -> Result<(Mirror, M
     }
 }
 
-#[tactic(auto, unfolding(crate::specs::QuestionReadings::about_next))]
-fn two_mirrors_question(
-    alloc: Global,
-    tag: u8,
-    reader: &mut FieldReader<'_>,
-) -> Result<Question, FormFault>
-    ensures { Gives result (about_next about_two_mirrors two_mirrors_next tag reader.old) reader.new }
-{
-    let two = two_mirrors(alloc, reader)?;
-    about_two_mirrors(tag, two)
-}
-
-fn plain_question(
-    alloc: Global,
-    tag: u8,
-    reader: &mut FieldReader<'_>,
-) -> Result<Question, FormFault>
-    ensures { Gives result (plain_question_next tag reader.old) reader.new }
-{
-    if tag < 100 {
-        return element_question(alloc, tag, reader);
-    }
-    if tag < 105 {
-        return two_mirrors_question(alloc, tag, reader);
-    }
-    mirror_question(alloc, tag, reader)
-}
-
-// ---- the other questions
+// ---- the rows with a form of their own
 
 fn values_with_defaults(alloc: Global, reader: &mut FieldReader<'_>) -> Result<Question, FormFault>
-    ensures { Gives result (values_next reader.old) reader.new }
+    ensures { Gives result (arguments_next rows.ValuesWithDefaults reader.old) reader.new }
 {
     let element = read_element(alloc, reader)?;
     let annotation = read_step(reader)?;
@@ -174,7 +81,7 @@ fn values_with_defaults(alloc: Global, reader: &mut FieldReader<'_>) -> Result<Q
 }
 
 fn overrides(alloc: Global, reader: &mut FieldReader<'_>) -> Result<Question, FormFault>
-    ensures { Gives result (overrides_next reader.old) reader.new }
+    ensures { Gives result (arguments_next rows.Overrides reader.old) reader.new }
 {
     let overrider = read_element(alloc, reader)?;
     let overridden = read_element(alloc, reader)?;
@@ -187,7 +94,7 @@ fn overrides(alloc: Global, reader: &mut FieldReader<'_>) -> Result<Question, Fo
 }
 
 fn member_type(alloc: Global, reader: &mut FieldReader<'_>) -> Result<Question, FormFault>
-    ensures { Gives result (member_next reader.old) reader.new }
+    ensures { Gives result (arguments_next rows.MemberType reader.old) reader.new }
 {
     let container = read_mirror(alloc, MOST_NESTED, reader)?;
     match read_element(alloc, reader) {
@@ -200,14 +107,37 @@ fn member_type(alloc: Global, reader: &mut FieldReader<'_>) -> Result<Question, 
 }
 
 fn declared_type(alloc: Global, reader: &mut FieldReader<'_>) -> Result<Question, FormFault>
-    ensures { Gives result (declared_next reader.old) reader.new }
+    ensures { Gives result (arguments_next rows.DeclaredType reader.old) reader.new }
 {
     let element = read_element(alloc, reader)?;
     let arguments = read_mirrors(alloc, MOST_NESTED, reader)?;
     Ok(Question::DeclaredType { element, arguments })
 }
 
-/// The question with this tag whose fields stand next. It is Bad where they are not the tag's fields, and for a tag that no question has, and Memory when memory runs out.
+// ---- all rows
+
+fn arguments(
+    alloc: Global,
+    row: QuestionRow,
+    reader: &mut FieldReader<'_>,
+) -> Result<Question, FormFault>
+    ensures { Gives result (arguments_next row reader.old) reader.new }
+{
+    match row {
+        QuestionRow::Name(question) => about_name(alloc, question, reader),
+        QuestionRow::Element(question) => about_element(alloc, question, reader),
+        QuestionRow::Mirror(question) => about_mirror(alloc, question, reader),
+        QuestionRow::Mirrors(question) => about_mirrors(alloc, question, reader),
+        QuestionRow::ValuesWithDefaults => values_with_defaults(alloc, reader),
+        QuestionRow::Overrides => overrides(alloc, reader),
+        QuestionRow::MemberType => member_type(alloc, reader),
+        QuestionRow::DeclaredType => declared_type(alloc, reader),
+        QuestionRow::Roots => Ok(Question::Roots),
+    }
+}
+
+/// The question with this tag whose arguments stand next. It is Bad where they are not the arguments of the tag's row, and for a tag that no question has, and Memory when memory runs out.
+#[tactic(auto, unfolding(crate::specs::QuestionReadings::question_next))]
 pub(crate) fn read_question(
     alloc: Global,
     tag: u8,
@@ -215,15 +145,8 @@ pub(crate) fn read_question(
 ) -> Result<Question, FormFault>
     ensures { Gives result (question_next tag reader.old) reader.new }
 {
-    match tag {
-        tags::ASK_TYPE_ELEMENT => name_question(alloc, tag, reader),
-        tags::ASK_PACKAGE_ELEMENT => name_question(alloc, tag, reader),
-        tags::ASK_ANNOTATED_WITH => name_question(alloc, tag, reader),
-        tags::ASK_VALUES_WITH_DEFAULTS => values_with_defaults(alloc, reader),
-        tags::ASK_OVERRIDES => overrides(alloc, reader),
-        tags::ASK_MEMBER_TYPE => member_type(alloc, reader),
-        tags::ASK_DECLARED_TYPE => declared_type(alloc, reader),
-        tags::ASK_ROOTS => Ok(Question::Roots),
-        _ => plain_question(alloc, tag, reader),
+    match QuestionRow::at(tag) {
+        None => Err(FormFault::Bad),
+        Some(row) => arguments(alloc, row, reader),
     }
 }
