@@ -1,15 +1,15 @@
 -- What bytes are that a new reader is fed, one at a time.
 use Rattle.std.proofs.Common.{◌≡◌, ℕ, ◌+◌, ◌-◌, ◌<◌, ◌≤◌, Bool, true, false, MatchBool, List, [], ◌∷◌, ◌++◌, length, take, drop, get_or, Option, Some, None, Ok, Err, refl, sym, ap, subst, ◌∙◌, append_assoc, append-nil, arith}
 use Rattle.std.proofs.lemmas.List.{take_more, take_all, take-append-drop, length-append, length-drop}
-use Rattle.std.specs.Int.{w32}
 use Rattle.frame_forms.specs.declared.bad_kind.BadKind.{BadKind}
 use Rattle.frame_forms.specs.Scans.{Scan, whole, begun, bad}
 use Rattle.frame_forms.specs.ScanLaws.{IsBytes}
-use Rattle.frame_forms.specs.FrameTable.{Fields, frame_form}
-use Rattle.frame_forms.specs.Frames.{spelled, frame_spelling, frame_scan, place_in, first_bad}
+use Rattle.frame_forms.specs.FrameTable.{Fields}
+use Rattle.frame_forms.specs.Frames.{frame_spelling, frame_scan, place_in, first_bad}
 use Rattle.frame_forms.proofs.FrameLawProofs.{frames_steady, frames_meet}
 use Rattle.wire_frames.specs.declared.frame.Frame.{Frame}
 use Rattle.wire_frames.specs.Frames.{shown, spelling, AreBytesOf}
+use Rattle.wire_frames.proofs.LimitsLemmas.{frame_is_sent}
 use Rattle.frame_reader.specs.declared.found.Found.{Found}
 use Rattle.frame_reader.specs.declared.found.Found.TheVariants as founds
 use Rattle.frame_reader.specs.Stages.{found_by, found_in, is_begun, fed}
@@ -131,8 +131,7 @@ pub written_again : (bytes : List ℕ) (frame : Frame) → IsBytes bytes → Are
 unfolding AreBytesOf spelling
 written_again bytes frame each are =
     let s = frames_meet.spelled bytes (shown frame) [] each are in
-    let same : bytes ≡ frame_spelling (shown frame) = s.1 ∙ append-nil (frame_spelling (shown frame)) in
-    (sym same, omega (arith, s.0.1, ap length same, length-append (Rattle.std.specs.Int.to_be_bytes w32 (length (spelled frame_form (shown frame)))) (spelled frame_form (shown frame))))
+    (sym (s.1 ∙ append-nil (frame_spelling (shown frame))), frame_is_sent frame s.0)
 
 pub whole_frame : (bytes : List ℕ) (frame : Frame) → AreBytesOf bytes frame → IsWritten frame bytes → Are bytes verdicts.Whole
 whole_frame bytes frame are written = (frame, are, written.0)

@@ -1,9 +1,10 @@
 -- When a case of frames passes: its bytes are what is expected, by the table of all frames.
-use Rattle.std.specs.Prelude.{◌≡◌, ℕ, ◌≤◌, List, length, Option, Some, None}
+use Rattle.std.specs.Prelude.{◌≡◌, ℕ, false, List, Option, Some, None}
 use Rattle.frame_forms.specs.Scans.{begun}
 use Rattle.frame_forms.specs.Frames.{frame_scan, first_bad}
 use Rattle.wire_frames.specs.declared.frame.Frame.{Frame}
 use Rattle.wire_frames.specs.Frames.{AreBytesOf, spelling}
+use Rattle.wire_frames.specs.Limits.{is_too_large}
 use Rattle.vector_tables.specs.declared.verdict.Verdict.{Verdict}
 use Rattle.vector_tables.specs.declared.verdict.Verdict.TheVariants as verdicts
 use Rattle.vector_tables.specs.declared.frame_case.FrameCase.{FrameCase}
@@ -28,9 +29,9 @@ abbrev pub AreJust : List ℕ → Option Verdict → Type 0
 AreJust bytes (Some verdict) = Are bytes verdict
 AreJust bytes None = (verdict : Verdict) → ¬ Are bytes verdict
 
--- the frame is spelled as these bytes, which are no more than a frame may have
+-- the frame is spelled as these bytes, and it is not too large to be sent
 abbrev pub IsWritten : Frame → List ℕ → Type 0
-IsWritten frame bytes = (spelling frame ≡ bytes) × (length bytes ≤ 134217728)
+IsWritten frame bytes = (spelling frame ≡ bytes) × (is_too_large frame ≡ false)
 
 -- a row holds: its bytes are what is expected
 abbrev pub IsMet : FrameRow → Type 0
