@@ -1,11 +1,17 @@
--- Whether the first frame to a processor is within the limit, by its length.
-use Rattle.std.proofs.Common.{◌≡◌, ◌≤◌, ◌<◌, List, ℕ, length, true, false, subst}
-use Rattle.std.proofs.lemmas.Bool.{le-leb, lt-leb}
-use Rattle.project_units.specs.Plans.{Plan, init_frame, init_fits}
+-- Whether the first frame to a processor is within the limit, by whether it can be sent.
+use Rattle.std.proofs.Common.{◌≡◌, List, ℕ, true, false, nat_lt, nat_le, length, sym, ap, ◌∙◌, arith}
+use Rattle.std.proofs.lemmas.Bool.Decides.{nat_tests}
+use Rattle.wire_frames.specs.declared.frame.Frame.{Frame}
+use Rattle.wire_frames.specs.Limits.{is_too_large}
+use Rattle.wire_frames.proofs.LimitsLemmas.{init_is_sent}
+use Rattle.project_units.specs.Plans.{Plan, init_of, init_frame, init_fits}
 
-module _ (plan : Plan) (name bytes : List ℕ) (is : bytes ≡ init_frame plan name) where
-  pub frame_fits : length bytes ≤ 134217728 → init_fits plan name ≡ true
-  frame_fits short = le-leb (length (init_frame plan name)) 134217728 (subst (λ b. length b ≤ 134217728) is short)
+module _ (plan : Plan) (name : List ℕ) (frame : Frame) (is : frame ≡ init_of plan name) where
+  longer : is_too_large frame ≡ nat_lt 134217728 (length (init_frame plan name))
+  longer = ap is_too_large is ∙ init_is_sent (record { name = name; level = plan.level; options = plan.options })
 
-  pub frame_large : 134217728 < length bytes → init_fits plan name ≡ false
-  frame_large large = lt-leb (length (init_frame plan name)) 134217728 (subst (λ b. 134217728 < length b) is large)
+  pub frame_fits : is_too_large frame ≡ false → init_fits plan name ≡ true
+  frame_fits sent = let short : nat_lt 134217728 (length (init_frame plan name)) ≡ false = sym longer ∙ sent in grind (arith, nat_tests)
+
+  pub frame_large : is_too_large frame ≡ true → init_fits plan name ≡ false
+  frame_large large = let long : nat_lt 134217728 (length (init_frame plan name)) ≡ true = sym longer ∙ large in grind (arith, nat_tests)

@@ -3,6 +3,7 @@ use Rattle.std.specs.Prelude.{ℕ, nat_le, Bool, List, length, map}
 use Rattle.std.specs.List.{list_all}
 use Rattle.apt_base.specs.declared.kinds.What.TheVariants as what
 use Rattle.apt_outside.specs.Child.{Try}
+use Rattle.wire_frames.specs.declared.frame.Frame.{Frame}
 use Rattle.wire_frames.specs.declared.frame.Frame.TheVariants as frame
 use Rattle.wire_frames.specs.Frames.{spelling}
 use Rattle.project_units.specs.declared.project.Key.{Key}
@@ -15,9 +16,13 @@ pub record Plan : Type 0 where
   pub options : List (List ℕ × List ℕ)
   pub processors : List Try
 
--- the first frame of the host
+-- the first frame of the host to the processor with this name
+abbrev pub init_of : Plan → List ℕ → Frame
+init_of plan name = frame.Init (record { name = name; level = plan.level; options = plan.options })
+
+-- its bytes
 abbrev pub init_frame : Plan → List ℕ → List ℕ
-init_frame plan name = spelling (frame.Init (record { name = name; level = plan.level; options = plan.options }))
+init_frame plan name = spelling (init_of plan name)
 
 -- ---- the plan of a key
 

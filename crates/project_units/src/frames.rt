@@ -1,7 +1,7 @@
 // The frames that a child is shown.
 ghost use Rattle.std.specs.Prelude.{◌≡◌, IfOk};
 ghost use Rattle.wire_frames.specs.Frames.{spelling};
-ghost use Rattle.project_units.specs.Plans.{init_frame, plan_of, init_fits, inits_fit};
+ghost use Rattle.project_units.specs.Plans.{init_of, init_frame, plan_of, init_fits, inits_fit};
 
 use crate::project::Key;
 use apt_base::{List, Name, NoMemory};
@@ -20,7 +20,7 @@ pub fn bytes_of(alloc: Global, frame: &Frame) -> Result<List<u8>, NoMemory>
 
 // The host's first frame to the processor with this name.
 fn init_of(alloc: Global, key: &Key, name: &Name) -> Result<Frame, NoMemory>
-    ensures { IfOk result (λ frame. spelling frame ≡ init_frame (plan_of key.now) name.now) }
+    ensures { IfOk result (λ frame. frame ≡ init_of (plan_of key.now) name.now) }
 {
     let init = Init {
         name: name.copy()?,
