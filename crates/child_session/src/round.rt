@@ -1,7 +1,8 @@
 // Shows a round to a child.
-ghost use Rattle.std.specs.Prelude.{◌≡◌, Contains, IfOk, OnOk, OnErr};
+ghost use Rattle.std.specs.Prelude.{◌≡◌, false, Contains, IfOk, OnOk, OnErr};
 ghost use Rattle.apt_outside.specs.Count.{Told};
 ghost use Rattle.wire_frames.specs.Frames.{spelling};
+ghost use Rattle.wire_frames.specs.Limits.{is_too_large};
 ghost use Rattle.wire_frames.specs.declared.frame.Frame.TheVariants as frames;
 ghost use Rattle.child_session.specs.Faults.{HasReason, IsFree};
 ghost use Rattle.apt_outside.specs.Child.{Attends};
@@ -15,7 +16,7 @@ use apt_base::{Claim, List, NoMemory};
 use apt_filer::Filer;
 use apt_outside::Children;
 use std::alloc::Global;
-use wire_frames::{Creation, Frame, Message, Reply, encode};
+use wire_frames::{Creation, Frame, FrameFault, Message, Reply, encode};
 
 /// What a child is shown of a round.
 #[derive(Drop)]
@@ -132,23 +133,27 @@ fn turn_of(declared: Claim, answer: Option<Frame>) -> Turn
     }
 }
 
-// A reply's frame is six bytes long at most, so that out of memory alone refuses it.
+// The bytes of a reply that is not too large to be sent.
 fn reply_bytes(alloc: Global, reply: Reply) -> Result<List<u8>, NoMemory>
+    requires fits { is_too_large (frames.Reply reply) ≡ false }
     ensures { IfOk result (λ bytes. bytes ≡ spelling (frames.Reply reply)) }
 {
     match encode(alloc, &Frame::Reply(reply)) {
         Ok(frame) => Ok(frame),
-        Err(_) => Err(NoMemory),
+        Err(FrameFault::TooLarge) => unreachable!(),
+        Err(FrameFault::Memory) => Err(NoMemory),
     }
 }
 
 /// Does what a child asks for, and gives the reply. Out of memory leaves the filer as it was.
+#[tactic(auto, using(wire_frames::proofs::LimitsLemmas::short_replies))]
 fn serve(
     filer: &mut Filer,
     printed: &mut List<Message>,
     request: Request,
 ) -> Result<Reply, NoMemory>
     ensures reply { IfOk result (λ reply. reply ≡ reply_to filer.old request) }
+    ensures fits { IfOk result (λ reply. is_too_large (frames.Reply reply) ≡ false) }
     ensures filed { OnOk result (filer.new ≡ filed_after filer.old request) }
     ensures unfiled { OnErr result (filer.new ≡ filer.old) }
     ensures printed { OnOk result (printed.new ≡ printed_after printed.old request) }
