@@ -1,6 +1,7 @@
 // The frames that a child is shown.
-ghost use Rattle.std.specs.Prelude.{◌≡◌, IfOk};
+ghost use Rattle.std.specs.Prelude.{◌≡◌, not, IfOk};
 ghost use Rattle.wire_frames.specs.Frames.{spelling};
+ghost use Rattle.wire_frames.specs.Limits.{is_too_large};
 ghost use Rattle.project_units.specs.Plans.{init_of, init_frame, plan_of, init_fits, inits_fit};
 
 use crate::project::Key;
@@ -38,16 +39,23 @@ pub fn init_bytes(alloc: Global, key: &Key, name: &Name) -> Result<List<u8>, NoM
     bytes_of(alloc, &frame)
 }
 
-// Whether that frame is within the limit. It is spelled to be measured.
-fn init_fits(alloc: Global, key: &Key, name: &Name) -> Result<bool, NoMemory>
-    ensures { IfOk result (λ fits. fits ≡ init_fits (plan_of key.now) name.now) }
+// Whether a frame is within the limits of one. It is spelled to be measured.
+fn is_sent(alloc: Global, frame: &Frame) -> Result<bool, NoMemory>
+    ensures { IfOk result (λ sent. sent ≡ not (is_too_large frame.now)) }
 {
-    let frame = init_of(alloc, key, name)?;
-    match encode(alloc, &frame) {
+    match encode(alloc, frame) {
         Ok(_) => Ok(true),
         Err(FrameFault::TooLarge) => Ok(false),
         Err(FrameFault::Memory) => Err(NoMemory),
     }
+}
+
+// Whether the host's first frame to the processor with this name is within the limit.
+fn init_fits(alloc: Global, key: &Key, name: &Name) -> Result<bool, NoMemory>
+    ensures { IfOk result (λ fits. fits ≡ init_fits (plan_of key.now) name.now) }
+{
+    let frame = init_of(alloc, key, name)?;
+    is_sent(alloc, &frame)
 }
 
 /// Whether the first frame to each processor of the key has at most 134,217,728 bytes, its length included.
