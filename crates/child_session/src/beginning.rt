@@ -19,7 +19,10 @@ fn hello_in(answer: Option<Frame>) -> Option<Hello>
 {
     match answer {
         Some(Frame::Hello(hello)) => Some(hello),
-        _ => None,
+        other => {
+            drop(other);
+            None
+        }
     }
 }
 

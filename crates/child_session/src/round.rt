@@ -126,10 +126,16 @@ fn turn_of(declared: Claim, answer: Option<Frame>) -> Turn
     ensures { result ≡ turn_at declared answer }
 {
     match answer {
-        Some(Frame::Done { claimed }) => done_with(declared, claimed),
+        Some(Frame::Done { claimed }) => {
+            drop(answer);
+            done_with(declared, claimed)
+        }
         Some(Frame::Create(creation)) => creation_turn(creation),
         Some(Frame::Message(message)) => message_turn(message),
-        _ => Turn::Leaves,
+        other => {
+            drop(other);
+            Turn::Leaves
+        }
     }
 }
 
@@ -138,8 +144,11 @@ fn reply_bytes(alloc: Global, reply: Reply) -> Result<List<u8>, NoMemory>
     requires fits { is_too_large (frames.Reply reply) ≡ false }
     ensures { IfOk result (λ bytes. bytes ≡ spelling (frames.Reply reply)) }
 {
-    match encode(alloc, &Frame::Reply(reply)) {
-        Ok(frame) => Ok(frame),
+    let frame = Frame::Reply(reply);
+    let encoded = encode(alloc, &frame);
+    drop(frame);
+    match encoded {
+        Ok(bytes) => Ok(bytes),
         Err(FrameFault::TooLarge) => unreachable!(),
         Err(FrameFault::Memory) => Err(NoMemory),
     }
