@@ -18,6 +18,7 @@ use Rattle.closed_cuts.specs.PresenceLaws.{AllPresenceAgrees}
 use Rattle.closed_cuts.specs.QuestionLaws.{AllQuestionsAgree}
 use Rattle.closed_cuts.specs.RootedLaws.{SharedReachesAreOne}
 use Rattle.closed_cuts.specs.TypeLaws.{AllTypesAgree}
+use Rattle.closed_cuts.specs.ValueLaws.{AllValuesAgree}
 
 -- ---- what holds of each name of a list
 
@@ -47,9 +48,9 @@ module _ (one other : TypeTable) (root : List ℕ) (names : List (List ℕ)) (r 
   source_by None (Some stub) e = absurd (cc)
   source_by None None e = absurd (cc)
 
-  pub share-all : SharedReachesAreOne → AllNamesAgree → AllFieldsAgree → AllTypesAgree → AllQuestionsAgree → AllPresenceAgrees → IsTable one → IsTable other → one.stub ≡ other.stub
+  pub share-all : SharedReachesAreOne → AllNamesAgree → AllFieldsAgree → AllTypesAgree → AllQuestionsAgree → AllPresenceAgrees → AllValuesAgree → IsTable one → IsTable other → one.stub ≡ other.stub
       → part_of one root ≡ Some Source → ShareReaches one other names → ShareAllOfReach one other root
-  share-all are_one names_agree fields_agree types_agree questions_agree presence_agrees t t' stubs is_source share set reach =
+  share-all are_one names_agree fields_agree types_agree questions_agree presence_agrees values_agree t t' stubs is_source share set reach =
       let source = source_by (fin.get one.source root) (fin.get one.stub root) is_source in
       let shared = share root set reach (reach.least (among names) r.reach.itself r.reach.closed) in
       let same = are_one one other root source.0 set t t' stubs source.1 reach shared in
@@ -61,5 +62,6 @@ module _ (one other : TypeTable) (root : List ℕ) (names : List (List ℕ)) (r 
           types = types_agree one other set same;
           questions = questions_agree one other set same;
           presence = presence_agrees one other set same;
+          values = values_agree one other set same;
         };
       }

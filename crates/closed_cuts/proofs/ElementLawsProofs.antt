@@ -12,6 +12,7 @@ use Rattle.closed_cuts.specs.FieldLaws.{AllFieldsStay}
 use Rattle.closed_cuts.specs.NameLaws.{AllNamesStay}
 use Rattle.closed_cuts.specs.PresenceLaws.{AllPresenceStays}
 use Rattle.closed_cuts.specs.TypeLaws.{AllTypesStay}
+use Rattle.closed_cuts.specs.ValueLaws.{AllValuesStay}
 
 some_copied : (found : Option (Bor UnitText)) → is_some found ≡ is_some (option_copied found)
 some_copied None = refl
@@ -31,10 +32,11 @@ module _ (table : TypeTable) (names : NameSet) (at : ElementRef) where
   pub there : (found : Option (Bor UnitText)) → option_copied found ≡ unit_of (cut table names) at.unit → LiesIn table names at → is_some found ≡ true
   there found is has = has_found found is ∙ has
 
-  pub staying : AllNamesStay → AllFieldsStay → AllTypesStay → AllPresenceStays → LiesIn table names at → StaysInCut table names at
-  staying names_stay fields_stay types_stay presence_stays has rooted = record {
+  pub staying : AllNamesStay → AllFieldsStay → AllTypesStay → AllPresenceStays → AllValuesStay → LiesIn table names at → StaysInCut table names at
+  staying names_stay fields_stay types_stay presence_stays values_stay has rooted = record {
     names = names_stay table names rooted at has;
     fields = fields_stay table names rooted at has;
     element = (types_stay table names rooted).elements at has;
     presence = (presence_stays table names rooted).elements at has;
+    values = values_stay table names rooted at has;
   }

@@ -24,5 +24,9 @@ pub mod SameFields
 pub mod FieldLawsProofs
 pub mod SamePresence
 pub mod PresenceLawsProofs
+pub mod ValueElements
+pub mod SameValues
+pub mod SameElementValues
+pub mod ValueLawsProofs
 pub mod AgreementLawsProofs
 pub mod ElementLawsProofs

@@ -1,6 +1,6 @@
 -- All that is written at an element is written in its unit, since the element stands at one of the places of the unit.
-use Rattle.std.proofs.Common.{◌≡◌, ℕ, zero, suc, List, [], ◌∷◌, ◌++◌, map, None, Some, slice_get, refl, sym, ap, subst, arith}
-use Rattle.std.specs.List.{AllByRecursion, Contains, flat_map}
+use Rattle.std.proofs.Common.{◌≡◌, ℕ, zero, suc, ◌+◌, List, [], ◌∷◌, ◌++◌, map, None, Some, slice_get, refl, sym, ap, subst, arith}
+use Rattle.std.specs.List.{AllByRecursion, Contains, enumerate_from, flat_map}
 use Rattle.std.specs.Option.{option_and_then}
 use Rattle.std.proofs.lemmas.Option.{same_Some, none-some}
 use Rattle.decl_tree.specs.declared.compilation.UnitText.{UnitText}
@@ -33,6 +33,10 @@ contains_all (x ∷ xs) = ((zero, omega arith, refl), shifted x xs xs (contains_
 by_index : {A : Type 0} (P : A → Type 0) (xs : List A) → ((k : ℕ) (x : A) → slice_get xs k ≡ Some x → P x) → AllByRecursion P xs
 by_index P [] f = tt
 by_index P (x ∷ xs) f = (f 0 x refl, by_index P xs (λ k y e. f (suc k) y e))
+
+numbered : {A : Type 0} (P : A → Type 0) (first : ℕ) (xs : List A) → AllByRecursion P xs → AllByRecursion (λ (x : ℕ × A). P x.1) (enumerate_from first xs)
+numbered P first [] all = tt
+numbered P first (x ∷ xs) all = (all.0, numbered P (first + 1) xs all.1)
 
 down_child : (path : List ℕ) (k : ℕ) (from node child : Node) → down path from ≡ Some node → slice_get (children node) k ≡ Some child → down (path ++ k ∷ []) from ≡ Some child
 down_child [] k from node child e g =
@@ -131,10 +135,24 @@ module _ (u : UnitText) where
         values = of_values node here;
       }
 
+  children_in : (path : List ℕ) (node : Node) → down path (root u) ≡ Some node → AllByRecursion (λ (child : ℕ × Node). IsWrittenIn u child.1) (enumerate_from 0 (children node))
+  children_in path node e =
+      numbered (IsWrittenIn u) 0 (children node)
+      (by_index (IsWrittenIn u) (children node) (λ k child g. written_in (path ++ k ∷ []) child (down_child path k (root u) node child e g)))
+
 pub all-written : AllIsWritten
 unfolding node_at
 all-written u path =
     elim (down path (root u)) as (λ o. down path (root u) ≡ o → IfAny (IsWrittenIn u) o) [
       | None ↦ λ e. tt
       | Some node ↦ λ e. written_in u path node e
+    ] refl
+
+-- the same of what it encloses
+pub children-written : (u : UnitText) (path : List ℕ) → IfAny (λ node. AllByRecursion (λ (child : ℕ × Node). IsWrittenIn u child.1) (enumerate_from 0 (children node))) (node_at u path)
+unfolding node_at
+children-written u path =
+    elim (down path (root u)) as (λ o. down path (root u) ≡ o → IfAny (λ node. AllByRecursion (λ (child : ℕ × Node). IsWrittenIn u child.1) (enumerate_from 0 (children node))) o) [
+      | None ↦ λ e. tt
+      | Some node ↦ λ e. children_in u path node e
     ] refl

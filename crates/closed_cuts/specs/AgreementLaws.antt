@@ -11,6 +11,7 @@ use Rattle.closed_cuts.specs.FieldLaws.{FieldsStay}
 use Rattle.closed_cuts.specs.NameLaws.{NamesStay}
 use Rattle.closed_cuts.specs.TypeLaws.{TypesStay}
 use Rattle.closed_cuts.specs.QuestionLaws.{QuestionsStay}
+use Rattle.closed_cuts.specs.ValueLaws.{ValuesStay}
 use Rattle.closed_cuts.specs.PresenceLaws.{PresenceStays}
 
 -- the reach of a unit over the first table, as a list of names on which both tables agree
@@ -26,6 +27,7 @@ pub record AllStays (one other : TypeTable) (Has : List ℕ → Type 0) : Type 0
   pub types : TypesStay one other Has
   pub questions : QuestionsStay one other Has
   pub presence : PresenceStays one other Has
+  pub values : (at : ElementRef) → Has at.unit → ValuesStay one other Has at
 
 -- these names are the reach of the unit over the other table too, with the same sources in it, and over the cut to them and the stubs all is the same
 pub record ShareAll (one other : TypeTable) (root : List ℕ) (names : NameSet) : Type 0 where

@@ -8,13 +8,15 @@ use Rattle.closed_cuts.specs.FieldLaws.{FieldsStay}
 use Rattle.closed_cuts.specs.NameLaws.{NamesStay}
 use Rattle.closed_cuts.specs.PresenceLaws.{ElementPresenceStays}
 use Rattle.closed_cuts.specs.TypeLaws.{ElementStays}
+use Rattle.closed_cuts.specs.ValueLaws.{ValuesStay}
 
--- the names that are written at it, what stands there, and the annotations on it
+-- the names that are written at it, what stands there, the annotations on it, and values
 pub record Stays (one other : TypeTable) (Has : List ℕ → Type 0) (at : ElementRef) : Type 0 where
   pub names : NamesStay one other Has at
   pub fields : FieldsStay one other Has at
   pub element : ElementStays one other Has at
   pub presence : ElementPresenceStays one other Has at
+  pub values : ValuesStay one other Has at
 
 -- over the cut to a closed set with a source of the table
 abbrev pub StaysInCut : TypeTable → NameSet → ElementRef → Type 0

@@ -4,8 +4,10 @@ pub mod ElementLaws
 pub mod FieldLaws
 pub mod Kept
 pub mod NameLaws
+pub mod NamedElements
 pub mod NodeTexts
 pub mod PresenceLaws
 pub mod QuestionLaws
 pub mod RootedLaws
 pub mod TypeLaws
+pub mod ValueLaws

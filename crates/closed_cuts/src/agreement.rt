@@ -6,7 +6,7 @@ ghost use Rattle.closed_cuts.specs.AgreementLaws.{AgreeOnReach, ShareAllOfReach}
 
 use crate::laws::{
     fields_agree, names_agree, presence_agrees, questions_agree, shared_reaches_are_one,
-    types_agree,
+    types_agree, values_agree,
 };
 use apt_base::{Name, NoMemory};
 use element_table::Table;
@@ -16,8 +16,8 @@ use std::alloc::Global;
 /// Whether two tables with the same stubs agree on the reach of a source unit of the first: under each of
 /// its names both have a source unit with the same shape, or neither has a source unit.
 ///
-/// Where they do, that is the reach of the unit over both, and all that can be asked of names, types and
-/// present annotations at the elements of its sources and of the stubs has the same answer over both
+/// Where they do, that is the reach of the unit over both, and all that can be asked of names, types, present
+/// annotations and values at the elements of its sources and of the stubs has the same answer over both
 /// (`specs/AgreementLaws`).
 pub fn agrees_on_reach(
     alloc: Global,
@@ -39,6 +39,7 @@ pub fn agrees_on_reach(
     types_agree();
     questions_agree();
     presence_agrees();
+    values_agree();
     let names = reach(alloc, one, root)?;
     Ok(agrees(one, other, &names))
 }

@@ -1,4 +1,4 @@
-// Laws of names, types and present annotations over closed cuts.
+// Laws of names, types, present annotations and values over closed cuts.
 ghost use Rattle.closed_cuts.specs.FieldLaws.{AllFieldsStay, AllFieldsAgree};
 ghost use Rattle.closed_cuts.specs.NameLaws.{AllNamesStay, AllNamesAgree};
 ghost use Rattle.closed_cuts.specs.NodeTexts.{AllIsWritten};
@@ -6,6 +6,7 @@ ghost use Rattle.closed_cuts.specs.PresenceLaws.{AllPresenceStays, AllPresenceAg
 ghost use Rattle.closed_cuts.specs.QuestionLaws.{AllQuestionsStay, AllQuestionsAgree};
 ghost use Rattle.closed_cuts.specs.RootedLaws.{ReachesAreRooted, UnionsAreRooted, SharedReachesAreOne, AbsentStays};
 ghost use Rattle.closed_cuts.specs.TypeLaws.{AllTypesStay, AllTypesAgree};
+ghost use Rattle.closed_cuts.specs.ValueLaws.{AllValuesStay, AllValuesAgree};
 
 /// Each name chain of the type texts, the annotations and the values that are written at an element of a
 /// unit is one of the unit.
@@ -71,6 +72,18 @@ pub fn presence_stays()
 /// The same of two tables that have one cut.
 pub fn presence_agrees()
     ensures { AllPresenceAgrees }
+{}
+
+/// The annotations of an element of the cut or of the stubs as mirrors, written and inherited ones, their
+/// values with the defaults of their interfaces, and the default and the constant of the element are the same
+/// over the cut, and name elements of the cut and of the stubs alone.
+pub fn values_stay()
+    ensures { AllValuesStay }
+{}
+
+/// The same of two tables that have one cut.
+pub fn values_agree()
+    ensures { AllValuesAgree }
 {}
 
 /// The reach of a source unit is a set that the laws are of.
