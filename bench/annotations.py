@@ -547,7 +547,9 @@ def compare(title, program, said, entering):
         if None in found:
             nameless.append((call, ours, said.rows[call]))
     kinds = collections.Counter(call.split(" ")[0] for call in calls)
-    print(f"{title}: {len(entering):,} files, javac has {said.errors} errors")
+    elements = {call.split(" ")[1] for call in calls}
+    annotations = sum(len(parse_annotations(said.rows[call])) for call in calls if call.startswith("mirrors "))
+    print(f"{title}: {len(entering):,} files, {len(elements):,} elements, {annotations:,} annotations; javac has {said.errors} errors")
     for kind, count in kinds.items():
         print(f"  {kind}: {count:,} rows, {same[kind]:,} the same")
     print(f"  differences by the sentence that decides them: {counts.total():,}")
