@@ -55,7 +55,7 @@ fn frame_verdict(
     ensures { IfOk result (λ verdict. AreJust bytes.now verdict) }
 {
     let written = is_written(alloc, &frame, bytes);
-    discard(frame);
+    drop(frame);
     if taken < bytes.len() {
         return Ok(None);
     }
@@ -65,9 +65,6 @@ fn frame_verdict(
         Err(fault) => Err(fault),
     }
 }
-
-// Letting go of a frame.
-fn discard(_frame: Frame) {}
 
 // The frame is written as these bytes.
 fn is_written(alloc: Global, frame: &Frame, bytes: &[u8]) -> Result<bool, AllocError>
