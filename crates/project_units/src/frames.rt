@@ -36,7 +36,9 @@ pub fn init_bytes(alloc: Global, key: &Key, name: &Name) -> Result<List<u8>, NoM
     ensures { IfOk result (λ bytes. bytes ≡ init_frame (plan_of key.now) name.now) }
 {
     let frame = init_of(alloc, key, name)?;
-    bytes_of(alloc, &frame)
+    let bytes = bytes_of(alloc, &frame);
+    drop(frame);
+    bytes
 }
 
 // Whether a frame is within the limits of one. It is spelled to be measured.
@@ -55,7 +57,9 @@ fn init_fits(alloc: Global, key: &Key, name: &Name) -> Result<bool, NoMemory>
     ensures { IfOk result (λ fits. fits ≡ init_fits (plan_of key.now) name.now) }
 {
     let frame = init_of(alloc, key, name)?;
-    is_sent(alloc, &frame)
+    let sent = is_sent(alloc, &frame);
+    drop(frame);
+    sent
 }
 
 /// Whether the first frame to each processor of the key has at most 134,217,728 bytes, its length included.

@@ -67,7 +67,9 @@ fn round_bytes(alloc: Global, round: &Round, offered: &List<Name>) -> Result<Lis
         offered: copy_names(alloc, offered.as_slice())?,
         roots: copy_names(alloc, round.roots.as_slice())?,
     };
-    bytes_of(alloc, &frame)
+    let bytes = bytes_of(alloc, &frame);
+    drop(frame);
+    bytes
 }
 
 // What a child is shown of a round in which these names are offered to its processor.
