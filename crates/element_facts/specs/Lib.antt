@@ -1,0 +1,3 @@
+pub mod NamedTypes
+pub mod ElementInfo
+pub mod ElementFacts
