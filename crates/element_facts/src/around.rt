@@ -42,7 +42,7 @@ fn enclosed_by(
     at: &ElementRef,
     element: Element<'_>,
 ) -> Result<List<ElementRef>, NoMemory>
-    ensures { IfOk result (λ list. list ≡ facts.enclosed_by table.now at.now (shown_element element)) }
+    ensures { IfOk result (λ list. list ≡ facts.enclosed_by table.now at.now (shown_element element.entry)) }
 {
     match element {
         Element::Package(_) => types_of_package(alloc, table, at),
