@@ -2,17 +2,17 @@
 ghost use Rattle.std.specs.Prelude.{◌≡◌, IfOk};
 ghost use Rattle.std.specs.Option.{option_and_then};
 ghost use Rattle.element_table.specs.TableElements.{node_at};
-ghost use Rattle.name_resolve.specs.Mirrors.{ref_of};
 ghost use Rattle.name_resolve.specs.Parts.{lent};
-ghost use Rattle.name_resolve.specs.Shown.{find_of, finds_of, Gives};
+ghost use Rattle.name_resolve.specs.Shown.{finds_of, Gives};
 ghost use Rattle.element_facts.specs.NamedTypes as named;
 
 use apt_base::{ElementRef, List, Name, NoMemory};
 use decl_elements::Place;
-use element_table::{Part, Table, in_package, unit_name};
-use name_resolve::{Finds, Found, Looks, split};
+use element_table::{Part, Table, in_package};
+use name_resolve::{Finds, Looks, split};
 use std::alloc::Global;
 use type_relations::place_of;
+use type_resolve::reference;
 
 // ---- types
 
@@ -27,14 +27,6 @@ fn met_type<'a>(looks: &mut Looks<'a>, names: &[&str]) -> Result<Finds<'a>, NoMe
         Finds::One(find) => Ok(Finds::One(find)),
         Finds::Several => Ok(Finds::Several),
     }
-}
-
-fn reference(alloc: Global, find: &Found<'_>) -> Result<ElementRef, NoMemory>
-    ensures { IfOk result (λ at. at ≡ ref_of (find_of find.now)) }
-{
-    let unit = unit_name(alloc, find.unit)?;
-    let path = List::from_vec(Vec::from_slice(alloc, find.path.as_slice())?);
-    Ok(ElementRef { unit, path })
 }
 
 fn found_element(alloc: Global, finds: &Finds<'_>) -> Result<Option<ElementRef>, NoMemory>
