@@ -54,9 +54,6 @@ fn frame(alloc: Global, reader: &mut FieldReader<'_>) -> Result<Frame, FormFault
     tagged(alloc, tag, reader)
 }
 
-// Letting go of a frame.
-fn discard(_frame: Frame) {}
-
 #[tactic(auto, unfolding(crate::specs::Decodings::decoded))]
 fn frame_of(alloc: Global, bytes: &[u8]) -> Result<Frame, FormFault>
     ensures { GivesAll result (decoded bytes.now) }
@@ -66,7 +63,7 @@ fn frame_of(alloc: Global, bytes: &[u8]) -> Result<Frame, FormFault>
     if reader.left() == 0 {
         return Ok(frame);
     }
-    discard(frame);
+    drop(frame);
     Err(FormFault::Bad)
 }
 

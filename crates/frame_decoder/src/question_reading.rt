@@ -9,7 +9,6 @@ use frame_forms::{
     ElementQuestion, MOST_NESTED, MirrorQuestion, MirrorsQuestion, NameQuestion, QuestionRow,
 };
 use std::alloc::Global;
-use type_mirror::Mirror;
 use wire_frames::{Question, read_element, read_step};
 
 // ---- the groups
@@ -47,9 +46,6 @@ fn about_mirror(
     Ok(Question::Mirror(question, mirror))
 }
 
-// Letting go of a mirror.
-fn discard(_mirror: Mirror) {}
-
 fn about_mirrors(
     alloc: Global,
     question: MirrorsQuestion,
@@ -61,7 +57,7 @@ fn about_mirrors(
     match read_mirror(alloc, MOST_NESTED, reader) {
         Ok(other) => Ok(Question::Mirrors(question, one, other)),
         Err(fault) => {
-            discard(one);
+            drop(one);
             Err(fault)
         }
     }
@@ -100,7 +96,7 @@ fn member_type(alloc: Global, reader: &mut FieldReader<'_>) -> Result<Question, 
     match read_element(alloc, reader) {
         Ok(element) => Ok(Question::MemberType { container, element }),
         Err(fault) => {
-            discard(container);
+            drop(container);
             Err(fault)
         }
     }

@@ -86,9 +86,11 @@ fn bounds_or_object(
     }
 }
 
-/// The bounds of a type parameter, of which there is always one.
+/// The bounds of the type parameter `at` in the order in which they are written (JLS 4.4): where none is written, or no
+/// type parameter is there, `java.lang.Object` alone, or its error type where the table has no such class. Out of memory
+/// where the list could not be made.
 #[tactic(auto, using(crate::proofs::BoundsOfElements::bounds_found))]
-pub(crate) fn bounds(
+pub fn bounds(
     alloc: Global,
     table: &Table,
     at: &ElementRef,

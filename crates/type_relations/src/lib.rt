@@ -17,7 +17,7 @@ mod places;
 mod replacing;
 mod supertypes;
 
-pub use bounds::{written_types, written_types_with};
+pub use bounds::{bounds, written_types, written_types_with};
 pub use boxing::{box_of, boxed_kind, primitive_of};
 pub use erasing::erasure_within;
 pub use headers::{declared_supertypes, declared_supertypes_with, header_types, header_types_with};
