@@ -11,8 +11,8 @@ ghost use Rattle.type_relations.specs.Erasure as erasing;
 ghost use Rattle.type_relations.specs.Erasure.{erasure, base_erasure, erased_around, executable_of, is_executable, IsSimple};
 ghost use Rattle.type_relations.specs.Named.{object};
 
-use crate::bounds::first_bound;
 use crate::named::object;
+use crate::parameter_bounds::first_bound;
 use crate::parts::{array_of, class_type, executable};
 use apt_base::{ElementRef, List, NoMemory};
 use element_table::Table;

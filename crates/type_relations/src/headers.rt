@@ -7,7 +7,7 @@ ghost use Rattle.type_relations.specs.Elements as elements;
 ghost use Rattle.type_relations.specs.Named as named;
 ghost use Rattle.type_relations.specs.Named.{unless_nothing, or_object, header_types};
 
-use crate::bounds::only_object;
+use crate::parameter_bounds::only_object;
 use crate::places::place_of;
 use apt_base::{ElementRef, List, NoMemory};
 use decl_elements::Place;

@@ -7,21 +7,21 @@
 //! Not promised: that memory is there, and that an element that a type names is of the kind that it is named as.
 #![tactic(auto)]
 
-mod bounds;
 mod boxing;
 mod erasing;
 mod headers;
 mod named;
+mod parameter_bounds;
 mod parts;
 mod places;
 mod replacing;
 mod supertypes;
 
-pub use bounds::{bounds, written_types, written_types_with};
 pub use boxing::{box_of, boxed_kind, primitive_of};
 pub use erasing::erasure_within;
 pub use headers::{declared_supertypes, declared_supertypes_with, header_types, header_types_with};
 pub use named::named_type;
+pub use parameter_bounds::{bounds, written_types, written_types_with};
 pub use parts::{array_of, class_type, executable};
 pub use places::{
     around_of, canonical_name, child, has_type_parameters, is_there, parameter_count,

@@ -8,10 +8,10 @@ ghost use Rattle.type_relations.specs.Direct.{of_array, of_layer, declared_direc
 ghost use Rattle.type_relations.specs.Named.{bounds};
 ghost use Rattle.type_relations.specs.RawTypes.{is_raw_with};
 
-use crate::bounds::bounds;
 use crate::erasing::erasures;
 use crate::headers::declared_supertypes;
 use crate::named::{named_type, object};
+use crate::parameter_bounds::bounds;
 use crate::parts::array_of;
 use crate::places::has_type_parameters;
 use crate::replacing::replaced_by;

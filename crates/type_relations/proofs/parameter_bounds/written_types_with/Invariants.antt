@@ -1,6 +1,6 @@
 use Rattle.std.proofs.Common.{◌≡◌, take}
 use Rattle.type_relations.specs.Named.{written_types}
-use Rattle.type_relations.proofs.bounds.written_types_with.Given as goal
+use Rattle.type_relations.proofs.parameter_bounds.written_types_with.Given as goal
 
 -- the types so far, over the same table
 abbrev pub invariant-loop-each : goal.invariant-loop-each

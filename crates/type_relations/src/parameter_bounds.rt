@@ -90,11 +90,7 @@ fn bounds_or_object(
 /// type parameter is there, `java.lang.Object` alone, or its error type where the table has no such class. Out of memory
 /// where the list could not be made.
 #[tactic(auto, using(crate::proofs::BoundsOfElements::bounds_found))]
-pub fn bounds(
-    alloc: Global,
-    table: &Table,
-    at: &ElementRef,
-) -> Result<List<Mirror>, NoMemory>
+pub fn bounds(alloc: Global, table: &Table, at: &ElementRef) -> Result<List<Mirror>, NoMemory>
     ensures { IfOk result (λ list. list ≡ named.bounds table.now at.now) }
 {
     match place_of(table, at) {
