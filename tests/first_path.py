@@ -13,10 +13,11 @@ import subprocess
 import sys
 import time
 
-from host import (ACCEPTED, BAD_CONFIG, BAD_GENERATED, BAD_SOURCE, BAD_STUB, BAD_WORDS, CHILD_FAULT, CLAIM_BROKEN,
-                  CREATE, DONE, DONE_STATUS, DUPLICATE_TYPE, EXISTS, FIRST_ROUND, HELLO, INIT, KINDS, LAST_ROUND,
-                  PAST_A_LIMIT, SECONDS, SERVICES, SINK_FAULT, SOURCE, TREE_FAULT, UNBUILT_TALK, UNKNOWN_PROCESSOR,
-                  Cases, Failure, NotRun, by_hand, expect, former_stands, frames, processes_of, program, record_of,
+from host import (ACCEPTED, BAD_CONFIG, BAD_FRAME, BAD_GENERATED, BAD_SOURCE, BAD_STUB, BAD_WORDS, CHILD_ENDED,
+                  CHILD_FAULT, CLAIM_BROKEN, CREATE, DONE, DONE_STATUS, DUPLICATE_TYPE, EXISTS, FIRST_ROUND, HELLO,
+                  INIT, KINDS, LAST_ROUND, PAST_A_LIMIT, SECONDS, SERVICES, SINK_FAULT, SOURCE, TREE_FAULT,
+                  UNKNOWN_PROCESSOR, WRONG_FRAME, Cases, Failure, NotRun, by_hand, expect, former_stands, frames,
+                  processes_of, program, record_of,
                   refused, say, says)
 
 # The steps of a child that creates one file, and of one that creates nothing.
@@ -50,7 +51,7 @@ def one_round_publishes_a_file(project):
 
 @case
 def hello_is_answered_by_done(project):
-    refused(project, project.scripted(["read", say(DONE), "rest"]), UNBUILT_TALK, "UnbuiltTalk(maker)")
+    refused(project, project.scripted(["read", say(DONE), "rest"]), WRONG_FRAME, "WrongFrame(maker, 65)")
 
 
 @case
@@ -344,14 +345,14 @@ def a_child_that_ends_at_once(project):
     # The host may see that nobody reads what it sends, or that nothing comes.
     project.publish_former()
     run = project.run(project.with_command(["true"]))
-    ends = {CHILD_FAULT: b"refused: ChildFault(maker)\n", UNBUILT_TALK: b"refused: UnbuiltTalk(maker)\n"}
+    ends = {CHILD_FAULT: b"refused: ChildFault(maker)\n", CHILD_ENDED: b"refused: ChildEnded(maker, 0)\n"}
     expect("the output", run.output, ends.get(run.status))
     former_stands(project)
 
 
 @case
 def a_child_that_ends_after_init(project):
-    run = refused(project, project.scripted(["read"]), UNBUILT_TALK, "UnbuiltTalk(maker)")
+    run = refused(project, project.scripted(["read"]), CHILD_ENDED, "ChildEnded(maker, 0)")
     says(run, "processor maker: frame at offset 0: end of stream after 0 bytes of it")
 
 
@@ -379,14 +380,14 @@ def ended_by(project, command):
 @case
 def a_child_that_ends_badly_where_the_build_is_refused(project):
     # It ends with status 3 where its input ends before the frame that it waits for.
-    run = refused(project, project.scripted([say(DONE), "read", "read"]), UNBUILT_TALK, "UnbuiltTalk(maker)")
+    run = refused(project, project.scripted([say(DONE), "read", "read"]), WRONG_FRAME, "WrongFrame(maker, 65)")
     says(run, f"processor {sys.executable} ended with status 3",
          "processor maker: frame at offset 0, tag 65: it may not stand there")
 
 
 @case
 def a_child_that_ends_inside_a_frame(project):
-    refused(project, project.scripted(["read", say(HELLO[:-1])]), UNBUILT_TALK, "UnbuiltTalk(maker)")
+    refused(project, project.scripted(["read", say(HELLO[:-1])]), CHILD_ENDED, "ChildEnded(maker, 20)")
 
 
 @case
@@ -414,13 +415,13 @@ def a_child_that_writes_a_byte_at_a_time(project):
 
 @case
 def a_child_that_writes_a_megabyte_at_once(project):
-    refused(project, project.scripted(["flood:1048576", "rest"]), UNBUILT_TALK, "UnbuiltTalk(maker)")
+    refused(project, project.scripted(["flood:1048576", "rest"]), BAD_FRAME, "BadFrame(maker, 3, Length)")
 
 
 @case
 def a_child_that_writes_a_megabyte_in_a_round(project):
     steps = ["read", say(HELLO), "read", "flood:1048576", "rest"]
-    refused(project, project.scripted(steps), UNBUILT_TALK, "UnbuiltTalk(maker)")
+    refused(project, project.scripted(steps), BAD_FRAME, "BadFrame(maker, 3, Length)")
 
 
 @case
@@ -496,7 +497,7 @@ def options_that_a_processor_supports(project):
 @case
 def a_done_with_one_byte_more(project):
     steps = ["read", say(HELLO), "read", say(by_hand("00000003 410100")), "rest"]
-    refused(project, project.scripted(steps), UNBUILT_TALK, "UnbuiltTalk(maker)")
+    refused(project, project.scripted(steps), BAD_FRAME, "BadFrame(maker, 6, Rest)")
 
 
 # Several processors, and the configuration.
@@ -580,7 +581,7 @@ def all_processors_are_started_before_the_first_round(project):
 @case
 def a_refused_processor_between_two(project):
     talks = {"one": ["read", say(HELLO), "rest"], "two": ["read", say(DONE), "rest"], "three": CREATES}
-    refused(project, several(project, talks), UNBUILT_TALK, "UnbuiltTalk(two)")
+    refused(project, several(project, talks), WRONG_FRAME, "WrongFrame(two, 65)")
     expect("what the first was sent", project.sent("one"), frames.init("one"))
     expect("whether the third was started", os.path.exists(project.path("three")), False)
 
@@ -772,18 +773,25 @@ ONE_ORIGIN = frames.number_field(1) + frames.text_field("p.C") + frames.number_f
 
 # What a child says to Init and then to the first round, and what is said of it.
 TALKS = [
-    (["00000000"], "frame at offset 0: bad length, at byte 3 of it"),
-    (["00000001 77"], "frame at offset 0, tag 119: bad tag, at byte 4 of it"),
-    (["00000002 41 02"], "frame at offset 0, tag 65: bad field, at byte 5 of it"),
-    (["0000000f 40 00000001 00000001 31 00000000 02"], "frame at offset 0, tag 64: bad pattern, at byte 13 of it"),
-    (["00000002 41 01"], "frame at offset 0, tag 65: it may not stand there"),
-    ([HELLO.hex(), "00000003 41 01 00"], "frame at offset 21, tag 65: more than its fields, at byte 6 of it"),
-    ([HELLO.hex(), "00000001 73"], "frame at offset 21, tag 115: this host does not answer this yet"),
-    ([HELLO.hex(), frames.create_source("p.D", b"", ONE_ORIGIN).hex()],
+    (["00000000"], BAD_FRAME, "BadFrame(maker, 3, Length)", "frame at offset 0: bad length, at byte 3 of it"),
+    (["00000001 77"], BAD_FRAME, "BadFrame(maker, 4, Tag)", "frame at offset 0, tag 119: bad tag, at byte 4 of it"),
+    (["00000002 41 02"], BAD_FRAME, "BadFrame(maker, 5, Field)",
+     "frame at offset 0, tag 65: bad field, at byte 5 of it"),
+    (["0000000f 40 00000001 00000001 31 00000000 02"], BAD_FRAME, "BadFrame(maker, 13, Pattern)",
+     "frame at offset 0, tag 64: bad pattern, at byte 13 of it"),
+    (["00000002 41 01"], WRONG_FRAME, "WrongFrame(maker, 65)",
+     "frame at offset 0, tag 65: it may not stand there"),
+    ([HELLO.hex(), "00000003 41 01 00"], BAD_FRAME, "BadFrame(maker, 6, Rest)",
+     "frame at offset 21, tag 65: more than its fields, at byte 6 of it"),
+    ([HELLO.hex(), "00000001 73"], WRONG_FRAME, "WrongFrame(maker, 115)",
+     "frame at offset 21, tag 115: this host does not answer this yet"),
+    ([HELLO.hex(), frames.create_source("p.D", b"", ONE_ORIGIN).hex()], WRONG_FRAME, "WrongFrame(maker, 66)",
      "frame at offset 21, tag 66: this host does not answer this yet"),
-    ([HELLO.hex(), HELLO.hex()], "frame at offset 21, tag 64: it may not stand there"),
-    ([HELLO.hex(), "00000001 18"], "frame at offset 21, tag 24: it may not stand there"),
-    ([HELLO.hex(), "00010000 42 00000000 0000f000" + "00" * 8192],
+    ([HELLO.hex(), HELLO.hex()], WRONG_FRAME, "WrongFrame(maker, 64)",
+     "frame at offset 21, tag 64: it may not stand there"),
+    ([HELLO.hex(), "00000001 18"], WRONG_FRAME, "WrongFrame(maker, 24)",
+     "frame at offset 21, tag 24: it may not stand there"),
+    ([HELLO.hex(), "00010000 42 00000000 0000f000" + "00" * 8192], CHILD_ENDED, "ChildEnded(maker, 8205)",
      "frame at offset 21, tag 66: end of stream after 8205 bytes of it"),
 ]
 
@@ -833,10 +841,10 @@ def an_item_that_is_none(project):
 
 @case
 def children_that_leave_the_protocol(project):
-    for answers, line in TALKS:
+    for answers, status, refusal, line in TALKS:
         steps = [step for answer in answers for step in ("read", "say:" + answer.replace(" ", ""))]
         steps += [] if "end of stream" in line else ["rest"]
-        run = refused(project, project.scripted(steps), UNBUILT_TALK, "UnbuiltTalk(maker)")
+        run = refused(project, project.scripted(steps), status, refusal)
         says(run, "processor maker: " + line)
 
 
@@ -844,7 +852,7 @@ def children_that_leave_the_protocol(project):
 def a_long_frame_that_has_no_answer(project):
     project.write("frame", frames.create_resource("x", b"-" * 70_000, origins=ONE_ORIGIN))
     steps = ["read", say(HELLO), "read", "make:" + project.path("frame"), "rest"]
-    run = refused(project, project.scripted(steps), UNBUILT_TALK, "UnbuiltTalk(maker)")
+    run = refused(project, project.scripted(steps), WRONG_FRAME, "WrongFrame(maker, 67)")
     says(run, "processor maker: frame at offset 21, tag 67: what is wrong is not known of its first 65536 bytes")
 
 

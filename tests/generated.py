@@ -8,10 +8,10 @@ with status 1. The last line is 'generated: N passed, M failed'.
 """
 import os
 
-from host import (ACCEPTED, BAD_GENERATED, BAD_NAME, CLAIM_BROKEN, CREATE, DONE, DONE_STATUS, ERRORS, EXISTS,
-                  FIRST_ROUND, GENERATED_DUPLICATE, HELLO, HERE, INIT, LAST_ROUND, NOTED, PAST_A_LIMIT, TOO_LARGE,
-                  TOO_MANY_QUESTIONS, TOO_MANY_ROUNDS, UNBUILT_TALK, UNSUPPORTED, Cases, Failure, by_hand, expect,
-                  former_stands, frames as spelling, record_of, refused, say)
+from host import (ACCEPTED, BAD_FRAME, BAD_GENERATED, BAD_NAME, CHILD_ENDED, CLAIM_BROKEN, CREATE, DONE, DONE_STATUS,
+                  ERRORS, EXISTS, FIRST_ROUND, GENERATED_DUPLICATE, HELLO, HERE, INIT, LAST_ROUND, NOTED, PAST_A_LIMIT,
+                  TOO_LARGE, TOO_MANY_QUESTIONS, TOO_MANY_ROUNDS, UNSUPPORTED, WRONG_FRAME, Cases, Failure, by_hand,
+                  expect, former_stands, frames as spelling, record_of, refused, say)
 
 case = Cases("generated")
 
@@ -667,52 +667,64 @@ NAME, NOTHING = spelling.text_field("p.D"), spelling.bytes_field(b"")
 A_NOTE = bytes([NOTE]) + spelling.NO_ELEMENT
 
 NOT_IN_A_ROUND = {
-    "a Done that says 2": by_hand("00000002 41 02"),
-    "a Done with one byte more": by_hand("00000003 41 01 00"),
-    "a Done without its field": by_hand("00000001 41"),
-    "a second Hello": HELLO,
-    "Init": INIT,
-    "a round": FIRST_ROUND,
-    "a reply": ACCEPTED,
-    "Noted": NOTED,
-    "a source with an origin": create_source("p.D", origins=ONE_ORIGIN),
-    "a resource with an origin": create_resource("x", origins=ONE_ORIGIN),
-    "a class file with an origin": create_class("p.D", origins=ONE_ORIGIN),
-    "a message with an element": message(NOTE, "n", element=by_hand("01 00000003 702e43 00000000")),
-    "a message of kind 5": message(5, "n"),
-    "a message whose element is 2": message(NOTE, "n", element=bytes([2])),
-    "a message that is no text": spelling.frame(spelling.MESSAGE, A_NOTE + NO_TEXT),
-    "a message with one byte more": spelling.frame(spelling.MESSAGE, A_NOTE + spelling.text_field("n") + b"\0"),
-    "a message that ends inside its text": spelling.frame(spelling.MESSAGE, A_NOTE + by_hand("00000002 6e")),
-    "a source whose name is no text": spelling.frame(spelling.CREATE_SOURCE, NO_TEXT + NOTHING + NO_ORIGINS),
-    "a source without origins": spelling.frame(spelling.CREATE_SOURCE, NAME + NOTHING),
-    "a resource at location 3": create_resource("x", location=3),
-    "a class file with one byte more": spelling.frame(spelling.CREATE_CLASS, NAME + NOTHING + NO_ORIGINS + b"\0"),
-    "a question": by_hand("00000008 50 00000003 782e59"),
-    "a question for the roots": by_hand("00000001 73"),
-    "a tag of no frame": by_hand("00000001 77"),
-    "an empty frame": by_hand("00000000"),
-    "a frame past the limit": by_hand("07fffffd 45"),
+    "a Done that says 2": (by_hand("00000002 41 02"), BAD_FRAME, "BadFrame(maker, 5, Field)"),
+    "a Done with one byte more": (by_hand("00000003 41 01 00"), BAD_FRAME, "BadFrame(maker, 6, Rest)"),
+    "a Done without its field": (by_hand("00000001 41"), BAD_FRAME, "BadFrame(maker, 4, Field)"),
+    "a second Hello": (HELLO, WRONG_FRAME, "WrongFrame(maker, 64)"),
+    "Init": (INIT, WRONG_FRAME, "WrongFrame(maker, 1)"),
+    "a round": (FIRST_ROUND, WRONG_FRAME, "WrongFrame(maker, 2)"),
+    "a reply": (ACCEPTED, WRONG_FRAME, "WrongFrame(maker, 23)"),
+    "Noted": (NOTED, WRONG_FRAME, "WrongFrame(maker, 24)"),
+    "a source with an origin": (create_source("p.D", origins=ONE_ORIGIN),
+        WRONG_FRAME, "WrongFrame(maker, 66)"),
+    "a resource with an origin": (create_resource("x", origins=ONE_ORIGIN),
+        WRONG_FRAME, "WrongFrame(maker, 67)"),
+    "a class file with an origin": (create_class("p.D", origins=ONE_ORIGIN),
+        WRONG_FRAME, "WrongFrame(maker, 68)"),
+    "a message with an element": (message(NOTE, "n", element=by_hand("01 00000003 702e43 00000000")),
+        WRONG_FRAME, "WrongFrame(maker, 69)"),
+    "a message of kind 5": (message(5, "n"), BAD_FRAME, "BadFrame(maker, 5, Field)"),
+    "a message whose element is 2": (message(NOTE, "n", element=bytes([2])),
+        BAD_FRAME, "BadFrame(maker, 6, Field)"),
+    "a message that is no text": (spelling.frame(spelling.MESSAGE, A_NOTE + NO_TEXT),
+        BAD_FRAME, "BadFrame(maker, 11, Field)"),
+    "a message with one byte more": (spelling.frame(spelling.MESSAGE, A_NOTE + spelling.text_field("n") + b"\0"),
+        BAD_FRAME, "BadFrame(maker, 12, Rest)"),
+    "a message that ends inside its text": (spelling.frame(spelling.MESSAGE, A_NOTE + by_hand("00000002 6e")),
+        BAD_FRAME, "BadFrame(maker, 11, Field)"),
+    "a source whose name is no text": (spelling.frame(spelling.CREATE_SOURCE, NO_TEXT + NOTHING + NO_ORIGINS),
+        BAD_FRAME, "BadFrame(maker, 9, Field)"),
+    "a source without origins": (spelling.frame(spelling.CREATE_SOURCE, NAME + NOTHING),
+        BAD_FRAME, "BadFrame(maker, 15, Field)"),
+    "a resource at location 3": (create_resource("x", location=3), BAD_FRAME, "BadFrame(maker, 5, Field)"),
+    "a class file with one byte more": (spelling.frame(spelling.CREATE_CLASS, NAME + NOTHING + NO_ORIGINS + b"\0"),
+        BAD_FRAME, "BadFrame(maker, 20, Rest)"),
+    "a question": (by_hand("00000008 50 00000003 782e59"), WRONG_FRAME, "WrongFrame(maker, 80)"),
+    "a question for the roots": (by_hand("00000001 73"), WRONG_FRAME, "WrongFrame(maker, 115)"),
+    "a tag of no frame": (by_hand("00000001 77"), BAD_FRAME, "BadFrame(maker, 4, Tag)"),
+    "an empty frame": (by_hand("00000000"), BAD_FRAME, "BadFrame(maker, 3, Length)"),
+    "a frame past the limit": (by_hand("07fffffd 45"), BAD_FRAME, "BadFrame(maker, 3, Length)"),
 }
 
 
 @case
 def what_is_no_talk_in_a_round(project):
-    for what, frame in NOT_IN_A_ROUND.items():
-        in_round(what, project, [[CREATE, [say(frame), "rest"]]])
+    for what, (frame, status, refusal) in NOT_IN_A_ROUND.items():
+        in_round(what, project, [[CREATE, [say(frame), "rest"]]], status, refusal)
 
 
 @case
 def what_is_no_talk_in_a_further_round(project):
     for what in ["a Done that says 2", "a source with an origin", "a question", "a second Hello"]:
-        steps = [say(NOT_IN_A_ROUND[what]), "rest"]
-        in_round(what + ", in round 2", project, [[create_source("p.D")], [steps]])
-        in_round(what + ", in the last round", project, [[create_source("p.D")], [], [steps]])
+        frame, status, refusal = NOT_IN_A_ROUND[what]
+        steps = [say(frame), "rest"]
+        in_round(what + ", in round 2", project, [[create_source("p.D")], [steps]], status, refusal)
+        in_round(what + ", in the last round", project, [[create_source("p.D")], [], [steps]], status, refusal)
 
 
-def in_round(what, project, rounds):
+def in_round(what, project, rounds, status, refusal):
     try:
-        refuses(project, rounds, UNBUILT_TALK, "UnbuiltTalk(maker)")
+        refuses(project, rounds, status, refusal)
     except Failure as failure:
         raise Failure(f"{what}: {failure}") from None
 
@@ -729,16 +741,16 @@ def a_done_that_breaks_the_claim(project):
 
 @case
 def a_frame_in_the_place_of_hello(project):
-    for frame in [create_source("p.D"), CREATE, create_class("p.D"), message(NOTE, "n")]:
-        refused(project, project.scripted(["read", say(frame), "rest"]), UNBUILT_TALK, "UnbuiltTalk(maker)")
+    for tag, frame in [(66, create_source("p.D")), (67, CREATE), (68, create_class("p.D")), (69, message(NOTE, "n"))]:
+        refused(project, project.scripted(["read", say(frame), "rest"]), WRONG_FRAME, f"WrongFrame(maker, {tag})")
 
 
 @case
 def a_child_that_ends_in_a_further_round(project):
     steps = talk([create_source("p.D")])[:-1]
-    refused(project, project.scripted([*steps, "read"]), UNBUILT_TALK, "UnbuiltTalk(maker)")
-    refused(project, project.scripted([*steps, "read", say(create_source("p.E")[:-1])]), UNBUILT_TALK,
-            "UnbuiltTalk(maker)")
+    refused(project, project.scripted([*steps, "read"]), CHILD_ENDED, "ChildEnded(maker, 0)")
+    cut = create_source("p.E")[:-1]
+    refused(project, project.scripted([*steps, "read", say(cut)]), CHILD_ENDED, f"ChildEnded(maker, {len(cut)})")
 
 
 # How many frames other than Done may come in one round: 65,536 and 4,096 for each root.
@@ -765,7 +777,8 @@ def one_frame_more(project):
 
 @case
 def what_is_no_talk_behind_as_many_frames_as_may_come(project):
-    refuses(project, [[asked(69_632, create_class("x")), [say(NOT_IN_A_ROUND["a question"]), "rest"]]], UNBUILT_TALK, "UnbuiltTalk(maker)")
+    frame, status, refusal = NOT_IN_A_ROUND["a question"]
+    refuses(project, [[asked(69_632, create_class("x")), [say(frame), "rest"]]], status, refusal)
 
 
 @case

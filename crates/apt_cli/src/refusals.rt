@@ -33,7 +33,7 @@ fn say_refusal(alloc: Global, messages: Stderr, refusal: &Refusal, talk: &Talk) 
             let path = path.as_str();
             say_java_fault(alloc, messages, path, talk.source_at(path), *place as usize);
         }
-        Refusal::UnbuiltTalk { processor } => {
+        Refusal::Breach { processor, .. } => {
             talk.say_departure(alloc, messages, processor.as_str());
         }
         _ => {}

@@ -6,7 +6,7 @@ use Rattle.apt_outside.specs.Files.{Files}
 use Rattle.apt_outside.specs.Child.{State}
 use Rattle.tree_store.specs.declared.fault.StoreFault.{StoreFault}
 use Rattle.tree_store.specs.declared.fault.StoreFault.TheVariants as store
-use Rattle.project_units.specs.Refusals.{Refusal, BadWords, BadConfig, UnknownProcessor, BadStub, BadSource, DuplicateType, BadGenerated, UnbuiltTalk, TooManyQuestions, ClaimBroken, GeneratedDuplicate, TooManyRounds, TooLarge}
+use Rattle.project_units.specs.Refusals.{Refusal, BadWords, BadConfig, UnknownProcessor, BadStub, BadSource, DuplicateType, BadGenerated, LeavesProtocol, TooManyQuestions, ClaimBroken, GeneratedDuplicate, TooManyRounds, TooLarge}
 use Rattle.project_reading.specs.Configuration.{Options, is_of_project}
 use Rattle.apt_host.specs.Words.{Request, Build, Bad}
 use Rattle.project_reading.specs.Project.{read_of}
@@ -71,7 +71,7 @@ module _ (old new : State) where
   due_project (Refused (BadSource path place)) none due = tt
   due_project (Refused (DuplicateType name first second)) none due = tt
   due_project (Refused (BadGenerated path place)) none due = tt
-  due_project (Refused (UnbuiltTalk processor)) none due = tt
+  due_project (Refused (LeavesProtocol processor breach)) none due = tt
   due_project (Refused (TooManyQuestions processor most)) none due = absurd cc
   due_project (Refused (ClaimBroken processor declared said)) none due = absurd cc
   due_project (Refused (GeneratedDuplicate name)) none due = tt

@@ -38,7 +38,7 @@ fails_stop stop.Memory e = absurd cc
 
 early_of : (refusal : engine.Refusal) → EndsEarly is_children (stopped (stop_of refusal))
 early_of (run.ChildFault processor) = refl
-early_of (run.UnbuiltTalk processor) = tt
+early_of (run.Breach processor breach) = tt
 early_of (run.TooManyQuestions processor most) = tt
 early_of (run.ClaimBroken processor declared said) = tt
 early_of (run.BadGenerated path place) = tt
@@ -77,7 +77,7 @@ names_stop names stop.Memory named = tt
 module _ (old new : State) where
   refuses_run : (refusal : engine.Refusal) → (is_refusal (stop_of refusal) ≡ true → old.starts < new.starts) → RefusesRun old new (stopped (stop_of refusal))
   refuses_run (run.ChildFault processor) rose = tt
-  refuses_run (run.UnbuiltTalk processor) rose = (rose refl, refl)
+  refuses_run (run.Breach processor breach) rose = (rose refl, refl)
   refuses_run (run.TooManyQuestions processor most) rose = (rose refl, refl)
   refuses_run (run.ClaimBroken processor declared said) rose = (rose refl, refl)
   refuses_run (run.BadGenerated path place) rose = (rose refl, refl)
@@ -88,7 +88,7 @@ module _ (old new : State) where
 
   is_due_run : (refusal : engine.Refusal) → (is_refusal (stop_of refusal) ≡ true → old.starts < new.starts) → IsDueStop (stop_of refusal) → IsDue old new (stopped (stop_of refusal))
   is_due_run (run.ChildFault processor) rose is = tt
-  is_due_run (run.UnbuiltTalk processor) rose is = tt
+  is_due_run (run.Breach processor breach) rose is = tt
   is_due_run (run.TooManyQuestions processor most) rose is = is
   is_due_run (run.ClaimBroken processor declared said) rose is = is
   is_due_run (run.BadGenerated path place) rose is = tt

@@ -5,8 +5,12 @@ use Rattle.apt_base.specs.declared.kinds.Claim.{Claim}
 use Rattle.apt_base.specs.declared.kinds.Claim.TheVariants as claim
 use Rattle.apt_base.specs.declared.kinds.What.{What}
 use Rattle.apt_base.specs.declared.kinds.What.TheVariants as what
+use Rattle.frame_forms.specs.declared.bad_kind.BadKind.{BadKind}
+use Rattle.frame_forms.specs.declared.bad_kind.BadKind.TheVariants as kind
+use Rattle.frame_breaches.specs.declared.breach.Breach.{Breach}
+use Rattle.frame_breaches.specs.declared.breach.Breach.TheVariants as breach
 use Rattle.project_units.specs.Refusals as stop
-use Rattle.project_units.specs.Refusals.{Refusal, BadWords, BadConfig, UnknownProcessor, BadStub, BadSource, DuplicateType, BadGenerated, UnbuiltTalk, TooManyQuestions, ClaimBroken, GeneratedDuplicate, TooManyRounds, TooLarge, Place, Object, Tree, Sink, Children}
+use Rattle.project_units.specs.Refusals.{Refusal, BadWords, BadConfig, UnknownProcessor, BadStub, BadSource, DuplicateType, BadGenerated, LeavesProtocol, TooManyQuestions, ClaimBroken, GeneratedDuplicate, TooManyRounds, TooLarge, Place, Object, Tree, Sink, Children}
 use Rattle.project_reading.specs.Verdicts.{Verdict, Done, Errors, Refused, Failed, Memory}
 
 -- the name of a limit
@@ -41,6 +45,21 @@ place_text stop.Json = codes "json"
 place_text (stop.Item item) = item
 place_text (stop.Line line) = decimal line
 
+-- what is wrong with a bad byte
+abbrev pub bad_kind_text : BadKind → List ℕ
+bad_kind_text kind.Length = codes "Length"
+bad_kind_text kind.Tag = codes "Tag"
+bad_kind_text kind.Field = codes "Field"
+bad_kind_text kind.Pattern = codes "Pattern"
+bad_kind_text kind.Rest = codes "Rest"
+
+-- the line of a child's leaving the protocol
+abbrev pub breach_line : List ℕ → Breach → List ℕ
+breach_line processor (breach.Ended got) = codes "refused: ChildEnded(" ++ (processor ++ (codes ", " ++ (decimal got ++ codes ")\n")))
+breach_line processor (breach.Bad place kind) =
+    codes "refused: BadFrame(" ++ (processor ++ (codes ", " ++ (decimal place ++ (codes ", " ++ (bad_kind_text kind ++ codes ")\n")))))
+breach_line processor (breach.Wrong tag) = codes "refused: WrongFrame(" ++ (processor ++ (codes ", " ++ (decimal tag ++ codes ")\n")))
+
 -- the line of a refusal
 abbrev pub line_of : Refusal → List ℕ
 line_of (BadWords at) = codes "refused: BadWords(" ++ (decimal at ++ codes ")\n")
@@ -51,7 +70,7 @@ line_of (BadSource path place) = codes "refused: BadSource(" ++ (path ++ (codes 
 line_of (DuplicateType name first second) =
     codes "refused: DuplicateType(" ++ (name ++ (codes ", " ++ (first ++ (codes ", " ++ (second ++ codes ")\n")))))
 line_of (BadGenerated path place) = codes "refused: BadGenerated(" ++ (path ++ (codes ", " ++ (decimal place ++ codes ")\n")))
-line_of (UnbuiltTalk processor) = codes "refused: UnbuiltTalk(" ++ (processor ++ codes ")\n")
+line_of (LeavesProtocol processor breach) = breach_line processor breach
 line_of (TooManyQuestions processor most) = codes "refused: TooManyQuestions(" ++ (processor ++ (codes ", " ++ (decimal most ++ codes ")\n")))
 line_of (ClaimBroken processor declared said) =
     codes "refused: ClaimBroken(" ++ (processor ++ (codes ", " ++ (claim_text declared ++ (codes ", " ++ (truth_text said ++ codes ")\n")))))

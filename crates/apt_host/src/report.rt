@@ -3,12 +3,14 @@ ghost use Rattle.std.specs.Prelude.{◌≡◌, ◌++◌, [], IfOk, OnOk, string_
 ghost use Rattle.std.specs.List.{flat_map};
 ghost use Rattle.apt_host.specs.Report.{kind_text, escaped, message_text, message_line, message_lines, unread_line, first_lines, file_line, file_lines, errors_report};
 ghost use Rattle.project_units.specs.Refusals.{BadConfig, BadStub, BadSource, DuplicateType, BadGenerated, ClaimBroken};
-ghost use Rattle.apt_host.specs.RefusalLines.{IsLineOf, what_text, claim_text, place_text, line_of, refusal_of};
+ghost use Rattle.apt_host.specs.RefusalLines.{IsLineOf, what_text, claim_text, bad_kind_text, place_text, breach_line, line_of, refusal_of};
 ghost use Rattle.project_units.specs.Faults.{stop_of};
 ghost use Rattle.project_reading.specs.Verdicts.{verdict, stopped, shown_place};
 ghost use Rattle.apt_host.specs.Listed.{listed, summary_of, report_for};
 
 use apt_base::{Claim, List, Name, NoMemory, What};
+use frame_breaches::Breach;
+use frame_forms::BadKind;
 use project_reading::{Place, Status};
 use project_units::Refusal;
 use round_engine::Placed;
@@ -307,6 +309,33 @@ fn duplicate_line(
     format!(in alloc; "refused: DuplicateType({name}, {first}, {second})\n")
 }
 
+// What is wrong with a bad byte.
+fn bad_kind_text(kind: BadKind) -> &'static str
+    ensures { result.now ≡ bad_kind_text kind }
+{
+    match kind {
+        BadKind::Length => "Length",
+        BadKind::Tag => "Tag",
+        BadKind::Field => "Field",
+        BadKind::Pattern => "Pattern",
+        BadKind::Rest => "Rest",
+    }
+}
+
+// The line of a run whose child left the protocol.
+fn child_line(alloc: Global, processor: &str, breach: Breach) -> Result<String, AllocError>
+    ensures { IfOk result (λ text. string_bytes text ≡ breach_line processor.now breach) }
+{
+    match breach {
+        Breach::Ended { got } => format!(in alloc; "refused: ChildEnded({processor}, {got})\n"),
+        Breach::Bad { place, kind } => {
+            let kind = bad_kind_text(kind);
+            format!(in alloc; "refused: BadFrame({processor}, {place}, {kind})\n")
+        }
+        Breach::Wrong { tag } => format!(in alloc; "refused: WrongFrame({processor}, {tag})\n"),
+    }
+}
+
 // The line of what a run may come to.
 fn run_line(alloc: Global, refusal: &Refusal) -> Result<String, AllocError>
     ensures { IfOk result (λ text. string_bytes text ≡ refusal_of (stopped (stop_of refusal.now))) }
@@ -316,10 +345,7 @@ fn run_line(alloc: Global, refusal: &Refusal) -> Result<String, AllocError>
             let processor = processor.as_str();
             format!(in alloc; "refused: ChildFault({processor})\n")
         }
-        Refusal::UnbuiltTalk { processor } => {
-            let processor = processor.as_str();
-            format!(in alloc; "refused: UnbuiltTalk({processor})\n")
-        }
+        Refusal::Breach { processor, breach } => { child_line(alloc, processor.as_str(), *breach) }
         Refusal::TooManyQuestions { processor, limit } => {
             let processor = processor.as_str();
             format!(in alloc; "refused: TooManyQuestions({processor}, {limit})\n")

@@ -1,18 +1,18 @@
 -- What comes of a child that is started and sent the first frame, from its start to its answer, and to its stop where that is no Hello.
-use Rattle.std.proofs.Common.{◌≡◌, ◌⊎◌, ◌+◌, ℕ, List, [], ◌∷◌, ◌++◌, Option, None, Some, Err, IfSome, IsSome, IsSomeAnd, inl, inr, refl, sym, ap, ◌∙◌, subst}
+use Rattle.std.proofs.Common.{◌≡◌, ◌⊎◌, ◌+◌, ℕ, List, [], ◌∷◌, ◌++◌, Option, None, Some, Result, Ok, Err, IsOk, IfSome, IsSomeAnd, inl, inr, refl, sym, ap, ◌∙◌, subst}
 use Rattle.apt_outside.specs.Child.{Try, Child, State, begun, Attends, StaysSent, OthersKept, AllKept, Tries}
 use Rattle.apt_outside.specs.declared.fault.Fault.{Fault}
 use Rattle.apt_outside.specs.declared.fault.Fault.TheVariants as outside
-use Rattle.wire_frames.specs.declared.frame.Frame.{Frame}
 use Rattle.wire_frames.specs.declared.frame.Hello.{Hello}
 use Rattle.child_session.specs.Faults.{fault_of}
-use Rattle.child_session.specs.Talk.{rest_after, answer_to, HasAnswered, Exchanged, Exchanges, SendsOnce}
+use Rattle.frame_breaches.specs.declared.breach.Breach.{Breach}
+use Rattle.child_session.specs.Talk.{Answer, rest_after, answer_to, HasAnswered, Exchanged, Exchanges, SendsOnce}
 use Rattle.child_session.specs.Beginning.{hello_in, first_hello, IsOf, IsBegun, IsUnheard, HasBegun, SaysHello, SaysNone, Stopped, Begins}
 use Rattle.child_session.proofs.Taking.{some_of}
 
-some_answer : (answer : Option Frame) (hello : Hello) → hello_in answer ≡ Some hello → IsSome answer
-some_answer None hello e = absurd cc
-some_answer (Some f) hello e = refl
+is_frame : (answer : Answer) (hello : Hello) → hello_in answer ≡ Ok hello → IsOk answer
+is_frame (Err breach) hello e = absurd cc
+is_frame (Ok f) hello e = refl
 
 -- ---- no child was started
 
@@ -56,7 +56,7 @@ module _ (child : ℕ) (call : Try) (init : List ℕ) (k0 k1 k2 : State) (unknow
     begins_failed outside.Failed sends = inr (stopped (IsOf call) (λ b c at2 is same. is))
     begins_failed outside.Memory sends = inr (stopped (IsUnheard call init) (λ b c at2 is same. unheard b c at2 is same sends))
 
-  module _ (answer : Option Frame) (exchanges : Exchanges child init k1 k2 answer) where
+  module _ (answer : Answer) (exchanges : Exchanges child init k1 k2 answer) where
     has_answered : HasAnswered k0.says (begun k0.says call)
     unfolding rest_after
     has_answered = refl
@@ -70,7 +70,7 @@ module _ (child : ℕ) (call : Try) (init : List ℕ) (k0 k1 k2 : State) (unknow
     hello_is = ap hello_in (first.2.answer_is ∙ ap (answer_to (k0.says call.0 call.1)) first.2.sent)
 
     -- it said Hello
-    pub begins_so : (hello : Hello) → hello_in answer ≡ Some hello → SaysHello call init k0 k2 child hello
+    pub begins_so : (hello : Hello) → hello_in answer ≡ Ok hello → SaysHello call init k0 k2 child hello
     begins_so hello is = record {
       says = sym hello_is ∙ is;
       tells = record {
@@ -78,15 +78,15 @@ module _ (child : ℕ) (call : Try) (init : List ℕ) (k0 k1 k2 : State) (unknow
         others = λ k ne. attends.change.others k ne ∙ others k ne;
         fact = subst (λ o. IsSomeAnd o (HasBegun k2.says call init)) (sym first.1) (record {
           begun = record { is = record { name = first.2.name; command = first.2.command }; sent = first.2.sent };
-          answered = subst (λ says. HasAnswered says first.0) (sym (attends.same_says ∙ same)) (first.2.answered (some_answer answer hello is));
+          answered = subst (λ says. HasAnswered says first.0) (sym (attends.same_says ∙ same)) (first.2.answered (is_frame answer hello is));
         });
       };
       tried = attends.same_tried ∙ tried;
     }
 
     -- it said none, and was stopped
-    pub begins_none : (k3 : State) → Attends child k2 k3 → StaysSent child k2 k3 → hello_in answer ≡ None → SaysNone call init k0 k3
-    begins_none k3 stops stays is =
+    pub begins_none : (k3 : State) (breach : Breach) → Attends child k2 k3 → StaysSent child k2 k3 → hello_in answer ≡ Err breach → SaysNone call init breach k0 k3
+    begins_none k3 breach stops stays is =
         let last = stops.change.same_child first.0 first.1 in
         let sent : last.0.sent ≡ first.0.sent = subst (λ o. IsSomeAnd o (λ c. c.sent ≡ first.0.sent)) last.1 (subst (λ o. IfSome o (λ b. IsSomeAnd (k3.known child) (λ c. c.sent ≡ b.sent))) first.1 stays.same_sent) in
         record {

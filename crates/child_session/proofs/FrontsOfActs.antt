@@ -37,7 +37,7 @@ turn_front : (turn : Turn) (sent : Frames) (filings : Filings) (printed : List M
 turn_front (turns.Ends claimed) sent filings printed go more = front_same sent
 turn_front (turns.Differs said) sent filings printed go more = front_same sent
 turn_front (turns.Asks request) sent filings printed go more = more request
-turn_front turns.Leaves sent filings printed go more = front_same sent
+turn_front (turns.Leaves breach) sent filings printed go more = front_same sent
 
 -- from an answer on
 pub talk_front : (stream : Stream) (declared : Claim) (left : ℕ) (sent : Frames) (filings : Filings) (printed : List Message) → IsFront sent (sent_of (round_from stream declared left sent filings printed))

@@ -1,5 +1,5 @@
 -- How a round goes on, and what comes of it.
-use Rattle.std.proofs.Common.{◌≡◌, ◌<◌, ◌≤◌, ◌+◌, ◌-◌, ◌⊎◌, ℕ, zero, suc, Bool, true, false, cond, List, [], ◌∷◌, ◌++◌, Option, None, Some, Result, Ok, Err, IfSome, IsSome, IsSomeAnd, inl, inr, refl, sym, ap, ◌∙◌, subst, arith}
+use Rattle.std.proofs.Common.{◌≡◌, ◌<◌, ◌≤◌, ◌+◌, ◌-◌, ◌⊎◌, ℕ, zero, suc, Bool, true, false, cond, List, [], ◌∷◌, ◌++◌, Option, None, Some, Result, Ok, Err, IsOk, IfSome, IsSomeAnd, inl, inr, refl, sym, ap, ◌∙◌, subst, arith}
 use Rattle.apt_base.specs.declared.kinds.Claim.{Claim}
 use Rattle.apt_base.specs.declared.element.ElementRef.{ElementRef}
 use Rattle.apt_outside.specs.Child.{Says, Child, State, Known, Changes}
@@ -11,13 +11,15 @@ use Rattle.apt_filer.specs.Filing.{Filings}
 use Rattle.wire_frames.specs.declared.frame.Creation.{Creation}
 use Rattle.wire_frames.specs.declared.frame.Message.{Message}
 use Rattle.child_session.specs.declared.fault.SessionFault.{SessionFault}
-use Rattle.child_session.specs.declared.fault.SessionFault.TheVariants.{Failed, Unbuilt, TooManyQuestions, ClaimBroken, Memory}
+use Rattle.child_session.specs.declared.fault.SessionFault.TheVariants.{Failed, Breach, TooManyQuestions, ClaimBroken, Memory}
 use Rattle.child_session.specs.declared.round.Request.{Request}
 use Rattle.child_session.specs.declared.round.Turn.{Turn}
 use Rattle.child_session.specs.declared.round.Turn.TheVariants.{Ends, Differs, Asks, Leaves}
 use Rattle.child_session.specs.declared.round.Showing.{Showing}
 use Rattle.child_session.specs.declared.round.Answer.{Answer}
 use Rattle.child_session.specs.Faults.{fault_of, IsFreeFault, HasReason}
+use Rattle.frame_breaches.specs.declared.breach.Breach as breaches
+use Rattle.child_session.specs.Talk as talk
 use Rattle.child_session.specs.Talk.{Stream, answer_to, HasAnswered, Exchanged, Exchanges, SentOrNot, SendsOnce}
 use Rattle.child_session.specs.Round.{keeps, done_with, has_no_origins, turn_by_origins, turn_by_element, turn_at, after_turn, reply_frame, filed_after, printed_after, end_of, Act, Overasked, round_from, act_within, act_of, filings_of, IsFiled, Comes, IsDue, OnAnswered, Shown, Shows, Underway, GoesOn, sent_of, IsFront}
 use Rattle.child_session.specs.Served.{Served}
@@ -48,7 +50,7 @@ filed_turn : (turn : Turn) (sent : Frames) (made : Filings) (printed : List Mess
 filed_turn (Ends claimed) sent made printed = refl
 filed_turn (Differs said) sent made printed = refl
 filed_turn (Asks request) sent made printed = refl
-filed_turn Leaves sent made printed = refl
+filed_turn (Leaves breach) sent made printed = refl
 
 filed_here : (stream : Stream) (declared : Claim) (sent : Frames) (made : Filings) (printed : List Message) → filings_of (round_from stream declared 0 sent made printed) ≡ made
 filed_here stream declared sent made printed = ap filings_of (turn_zero stream declared sent made printed) ∙ filed_turn (turn_at declared (answer_to stream sent)) sent made printed
@@ -80,13 +82,13 @@ module _ (says : Says) where
   joined (Some a) (Some b) None E F G answered h p q = λ before. absurd (q (answered a b (p before)))
   joined (Some a) (Some b) (Some c) E F G answered h p q = λ before. h a b c (p before) (q (answered a b (p before)))
 
-some_turn : (declared : Claim) (answer : Option Frame) (request : Request) → turn_at declared answer ≡ Asks request → IsSome answer
-some_turn declared None request e = absurd (let f : Leaves ≡ Asks request = e in cc)
-some_turn declared (Some f) request e = refl
+some_turn : (declared : Claim) (answer : talk.Answer) (request : Request) → turn_at declared answer ≡ Asks request → IsOk answer
+some_turn declared (Err breach) request e = absurd (let f : Leaves breach ≡ Asks request = e in cc)
+some_turn declared (Ok f) request e = refl
 
-some_end : (declared : Claim) (answer : Option Frame) (claimed : Bool) → turn_at declared answer ≡ Ends claimed → IsSome answer
-some_end declared None claimed e = absurd (let f : Leaves ≡ Ends claimed = e in cc)
-some_end declared (Some f) claimed e = refl
+some_end : (declared : Claim) (answer : talk.Answer) (claimed : Bool) → turn_at declared answer ≡ Ends claimed → IsOk answer
+some_end declared (Err breach) claimed e = absurd (let f : Leaves breach ≡ Ends claimed = e in cc)
+some_end declared (Ok f) claimed e = refl
 
 done_breaks : (declared : Claim) (claimed said : Bool) → done_with declared claimed ≡ Differs said → keeps declared said ≡ false
 done_breaks declared claimed said e = by (keeps declared claimed) refl
@@ -119,41 +121,41 @@ element_ends None message claimed e = cc
 element_ends (Some element) message claimed e = cc
 
 -- what ends a round keeps what was declared
-pub end_keeps : (declared : Claim) (answer : Option Frame) (claimed : Bool) → turn_at declared answer ≡ Ends claimed → keeps declared claimed ≡ true
-end_keeps declared None claimed e = absurd cc
-end_keeps declared (Some (frame.Done said)) claimed e = done_keeps declared said claimed e
-end_keeps declared (Some (frame.Init init)) claimed e = absurd cc
-end_keeps declared (Some (frame.Round number over error offered roots)) claimed e = absurd cc
-end_keeps declared (Some (frame.Reply reply)) claimed e = absurd cc
-end_keeps declared (Some (frame.Hello hello)) claimed e = absurd cc
-end_keeps declared (Some (frame.Create creation)) claimed e = absurd (origins_end (has_no_origins creation) creation claimed e)
-end_keeps declared (Some (frame.Message message)) claimed e = absurd (element_ends message.element message claimed e)
-end_keeps declared (Some (frame.Ask question)) claimed e = absurd cc
+pub end_keeps : (declared : Claim) (answer : talk.Answer) (claimed : Bool) → turn_at declared answer ≡ Ends claimed → keeps declared claimed ≡ true
+end_keeps declared (Err breach) claimed e = absurd cc
+end_keeps declared (Ok (frame.Done said)) claimed e = done_keeps declared said claimed e
+end_keeps declared (Ok (frame.Init init)) claimed e = absurd cc
+end_keeps declared (Ok (frame.Round number over error offered roots)) claimed e = absurd cc
+end_keeps declared (Ok (frame.Reply reply)) claimed e = absurd cc
+end_keeps declared (Ok (frame.Hello hello)) claimed e = absurd cc
+end_keeps declared (Ok (frame.Create creation)) claimed e = absurd (origins_end (has_no_origins creation) creation claimed e)
+end_keeps declared (Ok (frame.Message message)) claimed e = absurd (element_ends message.element message claimed e)
+end_keeps declared (Ok (frame.Ask question)) claimed e = absurd cc
 
 -- what differs breaks what was declared
-pub differs_breaks : (declared : Claim) (answer : Option Frame) (said : Bool) → turn_at declared answer ≡ Differs said → keeps declared said ≡ false
-differs_breaks declared None said e = absurd cc
-differs_breaks declared (Some (frame.Done claimed)) said e = done_breaks declared claimed said e
-differs_breaks declared (Some (frame.Init init)) said e = absurd cc
-differs_breaks declared (Some (frame.Round number over error offered roots)) said e = absurd cc
-differs_breaks declared (Some (frame.Reply reply)) said e = absurd cc
-differs_breaks declared (Some (frame.Hello hello)) said e = absurd cc
-differs_breaks declared (Some (frame.Create creation)) said e = absurd (origins_differ (has_no_origins creation) creation said e)
-differs_breaks declared (Some (frame.Message message)) said e = absurd (element_differs message.element message said e)
-differs_breaks declared (Some (frame.Ask question)) said e = absurd cc
+pub differs_breaks : (declared : Claim) (answer : talk.Answer) (said : Bool) → turn_at declared answer ≡ Differs said → keeps declared said ≡ false
+differs_breaks declared (Err breach) said e = absurd cc
+differs_breaks declared (Ok (frame.Done claimed)) said e = done_breaks declared claimed said e
+differs_breaks declared (Ok (frame.Init init)) said e = absurd cc
+differs_breaks declared (Ok (frame.Round number over error offered roots)) said e = absurd cc
+differs_breaks declared (Ok (frame.Reply reply)) said e = absurd cc
+differs_breaks declared (Ok (frame.Hello hello)) said e = absurd cc
+differs_breaks declared (Ok (frame.Create creation)) said e = absurd (origins_differ (has_no_origins creation) creation said e)
+differs_breaks declared (Ok (frame.Message message)) said e = absurd (element_differs message.element message said e)
+differs_breaks declared (Ok (frame.Ask question)) said e = absurd cc
 
 -- how a round ends is due, and no fault of the children
-pub end_is_due : (showing : Showing) (answer : Option Frame) (turn : Turn) (printed : List Message) → turn_at showing.claim answer ≡ turn → IsDue showing (end_of showing.claim showing.limit turn printed)
+pub end_is_due : (showing : Showing) (answer : talk.Answer) (turn : Turn) (printed : List Message) → turn_at showing.claim answer ≡ turn → IsDue showing (end_of showing.claim showing.limit turn printed)
 end_is_due showing answer (Ends claimed) printed is = end_keeps showing.claim answer claimed is
 end_is_due showing answer (Differs said) printed is = (refl, differs_breaks showing.claim answer said is)
 end_is_due showing answer (Asks request) printed is = refl
-end_is_due showing answer Leaves printed is = tt
+end_is_due showing answer (Leaves breach) printed is = tt
 
 pub end_has_reason : (before now : ℕ) (declared : Claim) (limit : ℕ) (turn : Turn) (printed : List Message) → before ≤ now → HasReason before now (end_of declared limit turn printed)
 end_has_reason before now declared limit (Ends claimed) printed later = record { later = later; failed = λ e. absurd (cc) }
 end_has_reason before now declared limit (Differs said) printed later = record { later = later; failed = λ e. absurd (cc) }
 end_has_reason before now declared limit (Asks request) printed later = record { later = later; failed = λ e. absurd (cc) }
-end_has_reason before now declared limit Leaves printed later = record { later = later; failed = λ e. absurd (cc) }
+end_has_reason before now declared limit (Leaves breach) printed later = record { later = later; failed = λ e. absurd (cc) }
 
 pub fault_is_free : (fault : Fault) → IsFreeFault (fault_of fault)
 fault_is_free outside.Failed = tt
@@ -178,7 +180,7 @@ sent_at child frame k0 k1 sends a b is is' =
     subst (λ o. IsSomeAnd o (P a)) is' (subst (λ o. IfSome o (λ a. IsSomeAnd (k1.known child) (P a))) is sends)
 
 module _ (child : ℕ) (showing : Showing) (made : Filings) where
-  pub way_begins : (k0 k1 : State) (answer : Option Frame) → Exchanges child showing.round k0 k1 answer → GoesOn child showing k0 k1 made made [] 0 answer
+  pub way_begins : (k0 k1 : State) (answer : talk.Answer) → Exchanges child showing.round k0 k1 answer → GoesOn child showing k0 k1 made made [] 0 answer
   way_begins k0 k1 answer e = record {
     way = later k0.says (k0.known child) (k1.known child) (Exchanged k0.says showing.round answer) (Underway k0.says showing made made [] 0 answer)
         (λ a b x. record {
@@ -194,7 +196,7 @@ module _ (child : ℕ) (showing : Showing) (made : Filings) where
   }
 
   -- one answer more
-  pub way_goes : (k0 k1 k2 : State) (made1 made2 : Filings) (printed1 printed2 : List Message) (turns : ℕ) (answer answer' : Option Frame) (request : Request)
+  pub way_goes : (k0 k1 k2 : State) (made1 made2 : Filings) (printed1 printed2 : List Message) (turns : ℕ) (answer answer' : talk.Answer) (request : Request)
       → k1.says ≡ k0.says → GoesOn child showing k0 k1 made made1 printed1 turns answer
       → turn_at showing.claim answer ≡ Asks request → made2 ≡ filed_after made1 request → printed2 ≡ printed_after printed1 request
       → Exchanges child (reply_frame made1 request) k1 k2 answer' → GoesOn child showing k0 k2 made made2 printed2 (turns + 1) answer'
@@ -225,7 +227,7 @@ module _ (child : ℕ) (showing : Showing) (made : Filings) where
         w.way (subst (λ says. IfSome (k1.known child) (λ b. HasAnswered says b → IsSomeAnd (k2.known child) (Exchanged says (reply_frame made1 request) answer' b))) same e.exchanged);
   }
 
-  module _ (says : Says) (made1 : Filings) (printed : List Message) (turns : ℕ) (answer : Option Frame) (a b : Child) (x : Underway says showing made made1 printed turns answer a b) where
+  module _ (says : Says) (made1 : Filings) (printed : List Message) (turns : ℕ) (answer : talk.Answer) (a b : Child) (x : Underway says showing made made1 printed turns answer a b) where
     -- what the filer has by now
     filed_now : turns ≤ showing.limit → IsFiled (says a.name a.command) showing a.sent made made1
     filed_now few =
@@ -268,7 +270,7 @@ module _ (child : ℕ) (showing : Showing) (made : Filings) where
     front_then request few turn sent sends = front_with request (showing.limit - (turns + 1)) (omega (arith, few)) turn sent sends
 
   -- what a last turn comes to
-  module _ (k0 k1 : State) (made1 : Filings) (printed : List Message) (turns left : ℕ) (answer : Option Frame) (all : turns + left ≡ showing.limit) (w : GoesOn child showing k0 k1 made made1 printed turns answer) where
+  module _ (k0 k1 : State) (made1 : Filings) (printed : List Message) (turns left : ℕ) (answer : talk.Answer) (all : turns + left ≡ showing.limit) (w : GoesOn child showing k0 k1 made made1 printed turns answer) where
     last : (result : Result Answer SessionFault) → ((a b : Child) → Underway k0.says showing made made1 printed turns answer a b → Comes (act_of (k0.says a.name a.command) showing a.sent made) showing result b.sent made1 × OnAnswered result (HasAnswered k0.says b)) → Shows child showing k0 k1 made made1 result
     last result h = record {
       shown = later k0.says (k0.known child) (k1.known child) (Underway k0.says showing made made1 printed turns answer) (Shown k0.says showing made made1 result)
@@ -291,8 +293,8 @@ module _ (child : ℕ) (showing : Showing) (made : Filings) where
     pub way_differs : (said : Bool) → turn_at showing.claim answer ≡ Differs said → Shows child showing k0 k1 made made1 (Err (ClaimBroken showing.claim said))
     way_differs said turn = last (Err (ClaimBroken showing.claim said)) (λ a b x. (((turned a b x (Differs said) turn).1, refl), tt))
 
-    pub way_leaves : turn_at showing.claim answer ≡ Leaves → Shows child showing k0 k1 made made1 (Err Unbuilt)
-    way_leaves turn = last (Err Unbuilt) (λ a b x. ((turned a b x Leaves turn).1, tt))
+    pub way_leaves : (breach : breaches.Breach) → turn_at showing.claim answer ≡ Leaves breach → Shows child showing k0 k1 made made1 (Err (Breach breach))
+    way_leaves breach turn = last (Err (Breach breach)) (λ a b x. ((turned a b x (Leaves breach) turn).1, tt))
 
     -- it may ask no more
     pub way_is_full : (request : Request) → left ≡ 0 → turn_at showing.claim answer ≡ Asks request → Shows child showing k0 k1 made made1 (Err (TooManyQuestions showing.limit))
@@ -309,13 +311,13 @@ module _ (child : ℕ) (showing : Showing) (made : Filings) where
     way_closes (Ends claimed) is full = way_ends claimed is
     way_closes (Differs said) is full = way_differs said is
     way_closes (Asks request) is full = way_is_full request (full request refl) is
-    way_closes Leaves is full = way_leaves is
+    way_closes (Leaves breach) is full = way_leaves breach is
 
   -- a fault of the children or out of memory may come at any point
   free_comes : (fault : SessionFault) → IsFreeFault fault → (act : Act) (sent : Frames) (filings : Filings) → (fault ≡ Memory → IsFront sent (sent_of act)) → Comes act showing (Err fault) sent filings
   free_comes Failed is_free act sent filings front = tt
   free_comes Memory is_free act sent filings front = front refl
-  free_comes Unbuilt is_free act sent filings front = absurd is_free
+  free_comes (Breach breach) is_free act sent filings front = absurd is_free
   free_comes (TooManyQuestions limit) is_free act sent filings front = absurd is_free
   free_comes (ClaimBroken declared said) is_free act sent filings front = absurd is_free
 
@@ -339,7 +341,7 @@ module _ (child : ℕ) (showing : Showing) (made : Filings) where
           })
 
   -- in a turn
-  pub way_stops : (k0 k1 k2 : State) (made1 made2 : Filings) (printed : List Message) (turns : ℕ) (answer : Option Frame) (request : Request) (fault : SessionFault)
+  pub way_stops : (k0 k1 k2 : State) (made1 made2 : Filings) (printed : List Message) (turns : ℕ) (answer : talk.Answer) (request : Request) (fault : SessionFault)
       → IsFreeFault fault → turns < showing.limit → GoesOn child showing k0 k1 made made1 printed turns answer → turn_at showing.claim answer ≡ Asks request → Served request made1 made2
       → Changes child k1.known k2.known → (fault ≡ Memory → SentOrNot child (reply_frame made1 request) k1 k2) → Shows child showing k0 k2 made made2 (Err fault)
   way_stops k0 k1 k2 made1 made2 printed turns answer request fault is_free few w turn served change sends = record {

@@ -1,14 +1,14 @@
 -- One call on a child after another.
-use Rattle.std.proofs.Common.{◌≡◌, ℕ, ◌<◌, List, [], ◌++◌, length, Option, None, Some, IfSome, IsSomeAnd, refl, sym, ap, ◌∙◌, subst, append_assoc, append-nil, length-append, arith}
+use Rattle.std.proofs.Common.{◌≡◌, ℕ, ◌<◌, List, [], ◌++◌, length, Option, None, Some, Err, IfSome, IsSomeAnd, refl, sym, ap, ◌∙◌, subst, append_assoc, append-nil, length-append, arith}
 use Rattle.apt_outside.specs.Child.{Child, Known, State, OfChild, Changes, Attends, AllKept, StaysSent}
-use Rattle.wire_frames.specs.declared.frame.Frame.{Frame}
 use Rattle.frame_reader.specs.declared.found.Found.TheVariants as founds
 use Rattle.frame_reader.specs.Stages.{found_in}
-use Rattle.frame_stream.specs.Streams.{frame_at}
-use Rattle.frame_stream.proofs.StreamsLemmas.{frame_at-begun}
+use Rattle.frame_breaches.specs.declared.breach.Breach.TheVariants.{Ended}
+use Rattle.frame_breaches.specs.Breaches.{front_of}
 use Rattle.child_session.specs.declared.receiving.Progress.{Progress}
 use Rattle.child_session.specs.declared.receiving.Progress.TheVariants.{Begun, Over}
-use Rattle.child_session.specs.Talk.{TakesBytes, TakesMore, FindsFrame, TakesFrame, LeadsTo, IsLonger, FindsBehind, Reaches}
+use Rattle.child_session.specs.Talk.{Answer, TakesBytes, TakesMore, FindsFrame, TakesFrame, LeadsTo, IsLonger, FindsBehind, Reaches}
+use Rattle.frame_breaches.proofs.FrontsOfBytes.{front_begun}
 
 pub changes_self : (child : ℕ) (known : Known) → Changes child known known
 changes_self child known = record { others = λ k ne. refl; same_child = λ before is. (before, is, refl, refl) }
@@ -72,7 +72,7 @@ stays_then child a b c bytes first second = record { same_sent = through (a.know
 -- ---- a frame that comes in pieces
 
 -- bytes of a frame were taken, and then it was found
-pub found_then : (child : ℕ) (a b c : State) (bytes : List ℕ) (found : Option Frame) → TakesBytes child a b bytes → FindsBehind child bytes b c found → TakesFrame child a c found
+pub found_then : (child : ℕ) (a b c : State) (bytes : List ℕ) (found : Answer) → TakesBytes child a b bytes → FindsBehind child bytes b c found → TakesFrame child a c found
 found_then child a b c bytes found first second = record {
   first = through (a.known child) (b.known child) (c.known child)
       (λ p q. (q.sent ≡ p.sent) × (p.waiting ≡ bytes ++ q.waiting)) (λ q r. (r.sent ≡ q.sent) × FindsFrame (bytes ++ q.waiting) found r.waiting) (λ p r. (r.sent ≡ p.sent) × FindsFrame p.waiting found r.waiting)
@@ -88,7 +88,7 @@ module _ (child : ℕ) (a b : State) (bytes piece : List ℕ) (sent : OfChild ch
   split : OfChild child a b (λ before after. (after.sent ≡ before.sent) × (before.waiting ≡ piece ++ after.waiting))
   split = both_of (a.known child) (b.known child) (λ before after. after.sent ≡ before.sent) (λ before after. before.waiting ≡ piece ++ after.waiting) sent taken
 
-  found_in_piece : (found : Option Frame) → ((rest : List ℕ) → FindsFrame ((bytes ++ piece) ++ rest) found rest) → (x y : Option Child) → IfSome x (λ before. IsSomeAnd y (λ after. (after.sent ≡ before.sent) × (before.waiting ≡ piece ++ after.waiting)))
+  found_in_piece : (found : Answer) → ((rest : List ℕ) → FindsFrame ((bytes ++ piece) ++ rest) found rest) → (x y : Option Child) → IfSome x (λ before. IsSomeAnd y (λ after. (after.sent ≡ before.sent) × (before.waiting ≡ piece ++ after.waiting)))
       → IfSome x (λ before. IsSomeAnd y (λ after. (after.sent ≡ before.sent) × FindsFrame (bytes ++ before.waiting) found after.waiting))
   found_in_piece found finds None y h = tt
   found_in_piece found finds (Some p) None h = absurd h
@@ -107,10 +107,10 @@ is_longer bytes piece new Begun some leads = (ap found_in leads.1 ∙ leads.0, o
 is_longer bytes piece new (Over found) some leads = tt
 
 -- no byte waits, and none will
-pub ends_behind : (child : ℕ) (a b : State) (bytes : List ℕ) → found_in bytes ≡ founds.Begun → OfChild child a b (λ before after. after.sent ≡ before.sent) → IfSome (a.known child) (λ before. before.waiting ≡ []) → FindsBehind child bytes a b None
+pub ends_behind : (child : ℕ) (a b : State) (bytes : List ℕ) → found_in bytes ≡ founds.Begun → OfChild child a b (λ before after. after.sent ≡ before.sent) → IfSome (a.known child) (λ before. before.waiting ≡ []) → FindsBehind child bytes a b (Err (Ended (length bytes)))
 ends_behind child a b bytes starts sent ended = record { behind = cases (a.known child) (b.known child) sent ended }
   where
-    cases : (x y : Option Child) → IfSome x (λ before. IsSomeAnd y (λ after. after.sent ≡ before.sent)) → IfSome x (λ before. before.waiting ≡ []) → IfSome x (λ before. IsSomeAnd y (λ after. (after.sent ≡ before.sent) × (frame_at (bytes ++ before.waiting) ≡ None)))
+    cases : (x y : Option Child) → IfSome x (λ before. IsSomeAnd y (λ after. after.sent ≡ before.sent)) → IfSome x (λ before. before.waiting ≡ []) → IfSome x (λ before. IsSomeAnd y (λ after. (after.sent ≡ before.sent) × (front_of (bytes ++ before.waiting) ≡ Err (Ended (length bytes)))))
     cases None y same none = tt
     cases (Some p) None same none = absurd same
-    cases (Some p) (Some q) same none = (same, ap (λ (w : List ℕ). frame_at (bytes ++ w)) none ∙ ap frame_at (append-nil bytes) ∙ frame_at-begun bytes starts)
+    cases (Some p) (Some q) same none = (same, ap (λ (w : List ℕ). front_of (bytes ++ w)) none ∙ ap front_of (append-nil bytes) ∙ front_begun bytes starts)

@@ -1,20 +1,22 @@
 -- What comes of a child that is started and sent the first frame.
-use Rattle.std.specs.Prelude.{◌≡◌, ◌⊎◌, ℕ, ◌+◌, ◌≤◌, List, [], ◌∷◌, ◌++◌, Option, None, Some, Result, Ok, Err, IsSomeAnd, Contains}
+use Rattle.std.specs.Prelude.{◌≡◌, ◌⊎◌, ℕ, ◌+◌, ◌≤◌, List, [], ◌∷◌, ◌++◌, None, Result, Ok, Err, IsSomeAnd, Contains}
 use Rattle.apt_outside.specs.Child.{Says, Try, Child, State, OthersKept, AllKept}
-use Rattle.wire_frames.specs.declared.frame.Frame.{Frame}
 use Rattle.wire_frames.specs.declared.frame.Frame.TheVariants as frame
 use Rattle.wire_frames.specs.declared.frame.Hello.{Hello}
+use Rattle.frame_breaches.specs.declared.breach.Breach as breaches
 use Rattle.child_session.specs.declared.fault.SessionFault.{SessionFault}
-use Rattle.child_session.specs.declared.fault.SessionFault.TheVariants.{Failed, Unbuilt, TooManyQuestions, ClaimBroken, Memory}
-use Rattle.child_session.specs.Talk.{answer_to, HasAnswered}
+use Rattle.child_session.specs.declared.fault.SessionFault.TheVariants.{Failed, Breach, TooManyQuestions, ClaimBroken, Memory}
+use Rattle.frame_breaches.specs.Breaches.{stray}
+use Rattle.child_session.specs.Talk.{Answer, answer_to, HasAnswered}
 
--- the Hello that an answer is
-abbrev pub hello_in : Option Frame → Option Hello
-hello_in (Some (frame.Hello hello)) = Some hello
-hello_in other = None
+-- the Hello that an answer is, or the breach that it is; no other frame may come first
+abbrev pub hello_in : Answer → Result Hello breaches.Breach
+hello_in (Ok (frame.Hello hello)) = Ok hello
+hello_in (Ok other) = Err (stray other)
+hello_in (Err breach) = Err breach
 
 -- what a child with this name and command says first, once it was sent this frame
-abbrev pub first_hello : Says → Try → List ℕ → Option Hello
+abbrev pub first_hello : Says → Try → List ℕ → Result Hello breaches.Breach
 first_hello says call init = hello_in (answer_to (says call.0 call.1) (init ∷ []))
 
 -- a child of this name and command
@@ -40,13 +42,13 @@ pub record TellsOf (child : ℕ) (P : Child → Type 0) (old new : State) : Type
 
 -- it said Hello
 pub record SaysHello (call : Try) (init : List ℕ) (old new : State) (child : ℕ) (hello : Hello) : Type 0 where
-  pub says : first_hello old.says call init ≡ Some hello
+  pub says : first_hello old.says call init ≡ Ok hello
   pub tells : TellsOf child (HasBegun new.says call init) old new
   pub tried : new.tried ≡ old.tried ++ call ∷ []
 
--- it said no Hello, and was stopped
-pub record SaysNone (call : Try) (init : List ℕ) (old new : State) : Type 0 where
-  pub says : first_hello old.says call init ≡ None
+-- it said no Hello but left the protocol so, and was stopped
+pub record SaysNone (call : Try) (init : List ℕ) (breach : breaches.Breach) (old new : State) : Type 0 where
+  pub says : first_hello old.says call init ≡ Err breach
   pub child : ℕ
   pub tells : TellsOf child (IsBegun call init) old new
   pub tried : new.tried ≡ old.tried ++ call ∷ []
@@ -79,7 +81,7 @@ pub record IsUnheard (call : Try) (init : List ℕ) (child : Child) : Type 0 whe
 -- out of memory no start was tried, or the child was stopped before it was heard.
 abbrev pub Begins : Try → List ℕ → State → State → Result (ℕ × Hello) SessionFault → Type 0
 Begins call init old new (Ok begun) = SaysHello call init old new begun.0 begun.1
-Begins call init old new (Err Unbuilt) = SaysNone call init old new
+Begins call init old new (Err (Breach breach)) = SaysNone call init breach old new
 Begins call init old new (Err Failed) = Unstarted call old new ⊎ Stopped call (IsOf call) old new
 Begins call init old new (Err Memory) = Untried old new ⊎ Stopped call (IsUnheard call init) old new
 Begins call init old new (Err (TooManyQuestions limit)) = ⊥
@@ -90,7 +92,7 @@ Begins call init old new (Err (ClaimBroken declared said)) = ⊥
 -- one child was started, or at most one where it was refused
 abbrev pub StartsOne : {T : Type 0} → ℕ → ℕ → Result T SessionFault → Type 0
 StartsOne old new (Ok begun) = new ≡ old + 1
-StartsOne old new (Err Unbuilt) = new ≡ old + 1
+StartsOne old new (Err (Breach breach)) = new ≡ old + 1
 StartsOne old new (Err fault) = (old ≤ new) × (new ≤ old + 1)
 
 -- it lives, and it is new among those that live; where it was refused none lives that did not before
@@ -101,7 +103,7 @@ Joins old new (Err fault) = new ≡ old
 -- it is refused for these alone
 abbrev pub RefusesHello : {T : Type 0} → Result T SessionFault → Type 0
 RefusesHello (Ok begun) = Unit {0}
-RefusesHello (Err Unbuilt) = Unit {0}
+RefusesHello (Err (Breach breach)) = Unit {0}
 RefusesHello (Err Failed) = Unit {0}
 RefusesHello (Err Memory) = Unit {0}
 RefusesHello (Err (TooManyQuestions limit)) = ⊥

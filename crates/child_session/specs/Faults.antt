@@ -4,7 +4,7 @@ use Rattle.apt_outside.specs.Count.{Rose}
 use Rattle.apt_outside.specs.declared.fault.Fault.{Fault}
 use Rattle.apt_outside.specs.declared.fault.Fault.TheVariants as outside
 use Rattle.child_session.specs.declared.fault.SessionFault.{SessionFault}
-use Rattle.child_session.specs.declared.fault.SessionFault.TheVariants.{Failed, Unbuilt, TooManyQuestions, ClaimBroken, Memory}
+use Rattle.child_session.specs.declared.fault.SessionFault.TheVariants.{Failed, Breach, TooManyQuestions, ClaimBroken, Memory}
 
 abbrev pub fault_of : Fault → SessionFault
 fault_of outside.Failed = Failed
@@ -19,7 +19,7 @@ pub record HasReason {T : Type 0} (before now : ℕ) (result : Result T SessionF
 abbrev pub IsFreeFault : SessionFault → Type 0
 IsFreeFault Failed = Unit {0}
 IsFreeFault Memory = Unit {0}
-IsFreeFault Unbuilt = ⊥
+IsFreeFault (Breach breach) = ⊥
 IsFreeFault (TooManyQuestions limit) = ⊥
 IsFreeFault (ClaimBroken declared said) = ⊥
 

@@ -1,6 +1,6 @@
 -- What the answer to a round comes to: a child creates files and prints messages, one after another, each is answered, and
 -- then it is done and says whether its processor claims what it was offered. A round is a function of what the child says, and of what was created before it.
-use Rattle.std.specs.Prelude.{◌≡◌, ◌≤◌, ℕ, zero, suc, ◌+◌, not, ◌==◌, Bool, true, false, List, [], ◌∷◌, ◌++◌, length, Option, None, Some, IsSome, if◌then◌else◌, Result, Ok, Err, IsErrOf}
+use Rattle.std.specs.Prelude.{◌≡◌, ◌≤◌, ℕ, zero, suc, ◌+◌, not, ◌==◌, Bool, true, false, List, [], ◌∷◌, ◌++◌, length, Option, None, Some, if◌then◌else◌, Result, Ok, Err, IsOk, IsErrOf}
 use Rattle.apt_base.specs.declared.kinds.Claim.{Claim}
 use Rattle.apt_base.specs.declared.kinds.Claim.TheVariants.{Always, Never, Varies}
 use Rattle.apt_outside.specs.Child.{Says, Child, State}
@@ -15,14 +15,17 @@ use Rattle.wire_frames.specs.declared.reply.Reply.TheVariants as reply
 use Rattle.wire_frames.specs.Frames.{spelling}
 use Rattle.apt_filer.specs.Filing as filing
 use Rattle.apt_filer.specs.Filing.{Filings, filed}
+use Rattle.frame_breaches.specs.declared.breach.Breach as breaches
 use Rattle.child_session.specs.declared.fault.SessionFault.{SessionFault}
-use Rattle.child_session.specs.declared.fault.SessionFault.TheVariants.{Failed, Unbuilt, TooManyQuestions, ClaimBroken, Memory}
+use Rattle.child_session.specs.declared.fault.SessionFault.TheVariants.{Failed, Breach, TooManyQuestions, ClaimBroken, Memory}
 use Rattle.child_session.specs.declared.round.Request.{Request}
 use Rattle.child_session.specs.declared.round.Request.TheVariants.{Create, Print}
 use Rattle.child_session.specs.declared.round.Turn.{Turn}
 use Rattle.child_session.specs.declared.round.Turn.TheVariants.{Ends, Differs, Asks, Leaves}
 use Rattle.child_session.specs.declared.round.Showing.{Showing}
 use Rattle.child_session.specs.declared.round.Answer.{Answer}
+use Rattle.frame_breaches.specs.Breaches.{stray}
+use Rattle.child_session.specs.Talk as talk
 use Rattle.child_session.specs.Talk.{Stream, answer_to, HasAnswered, WasAnswered, Exchanges, SentOrNot}
 
 -- ---- what a frame means in a round
@@ -45,27 +48,26 @@ has_no_origins (creations.Class name content origins) = length origins == 0
 
 abbrev pub turn_by_origins : Bool → Creation → Turn
 turn_by_origins true creation = Asks (Create creation)
-turn_by_origins false creation = Leaves
+turn_by_origins false creation = Leaves (stray (frame.Create creation))
 
 -- and no messages at an element
 abbrev pub turn_by_element : Option ElementRef → Message → Turn
 turn_by_element None message = Asks (Print message)
-turn_by_element (Some element) message = Leaves
+turn_by_element (Some element) message = Leaves (stray (frame.Message message))
 
 abbrev pub turn_of : Claim → Frame → Turn
 turn_of declared (frame.Done claimed) = done_with declared claimed
 turn_of declared (frame.Create creation) = turn_by_origins (has_no_origins creation) creation
 turn_of declared (frame.Message message) = turn_by_element message.element message
-turn_of declared (frame.Init init) = Leaves
-turn_of declared (frame.Round number over error offered roots) = Leaves
-turn_of declared (frame.Reply answer) = Leaves
-turn_of declared (frame.Hello hello) = Leaves
-turn_of declared (frame.Ask question) = Leaves
+turn_of declared (frame.Init init) = Leaves (stray (frame.Init init))
+turn_of declared (frame.Round number over error offered roots) = Leaves (stray (frame.Round number over error offered roots))
+turn_of declared (frame.Reply answer) = Leaves (stray (frame.Reply answer))
+turn_of declared (frame.Hello hello) = Leaves (stray (frame.Hello hello))
+turn_of declared (frame.Ask question) = Leaves (stray (frame.Ask question))
 
--- a child that sent no frame has left the form
-abbrev pub turn_at : Claim → Option Frame → Turn
-turn_at declared None = Leaves
-turn_at declared (Some f) = turn_of declared f
+abbrev pub turn_at : Claim → talk.Answer → Turn
+turn_at declared (Ok f) = turn_of declared f
+turn_at declared (Err breach) = Leaves breach
 
 -- ---- what the host answers
 
@@ -87,7 +89,7 @@ abbrev pub reply_frame : Filings → Request → List ℕ
 reply_frame filings request = spelling (frame.Reply (reply_to filings request))
 
 -- the reply to a request was sent, and this is the answer to it
-abbrev pub Replies : ℕ → Filings → Request → State → State → Option Frame → Type 0
+abbrev pub Replies : ℕ → Filings → Request → State → State → talk.Answer → Type 0
 Replies child filings request old new answer = Exchanges child (reply_frame filings request) old new answer
 
 -- after out of memory it was sent, or nothing was
@@ -100,8 +102,8 @@ MayReply child filings request old new result = IsErrOf result Memory → SentOr
 pub data Act : Type 0 where
   -- what the child printed in this round, and whether its processor claims what it was offered
   Answered : (sent : List (List ℕ)) (filings : Filings) (printed : List Message) (claimed : Bool) → Act
-  -- its bytes left the form
-  Broken : (sent : List (List ℕ)) (filings : Filings) → Act
+  -- its bytes left the protocol
+  Broken : (sent : List (List ℕ)) (filings : Filings) (breach : breaches.Breach) → Act
   -- it asked once more than it may in a round
   Overasked : (sent : List (List ℕ)) (filings : Filings) → Act
   -- it said this of its claim, and its processor had declared another thing
@@ -112,7 +114,7 @@ abbrev pub after_turn : Turn → List (List ℕ) → Filings → List Message �
 after_turn (Ends claimed) sent filings printed go = Answered sent filings printed claimed
 after_turn (Differs said) sent filings printed go = Differed sent filings said
 after_turn (Asks request) sent filings printed go = go (sent ++ reply_frame filings request ∷ []) (filed_after filings request) (printed_after printed request)
-after_turn Leaves sent filings printed go = Broken sent filings
+after_turn (Leaves breach) sent filings printed go = Broken sent filings breach
 
 -- the answer to the frames that were sent, where the child may ask this many times more
 unfoldable pub round_from : Stream → Claim → ℕ → List (List ℕ) → Filings → List Message → Act
@@ -129,14 +131,14 @@ act_of stream showing sent filings = act_within stream showing showing.limit sen
 -- the frames that the child was sent in the end
 abbrev pub sent_of : Act → List (List ℕ)
 sent_of (Answered sent filings printed claimed) = sent
-sent_of (Broken sent filings) = sent
+sent_of (Broken sent filings breach) = sent
 sent_of (Overasked sent filings) = sent
 sent_of (Differed sent filings said) = sent
 
 -- what the filer has in the end
 abbrev pub filings_of : Act → Filings
 filings_of (Answered sent filings printed claimed) = filings
-filings_of (Broken sent filings) = filings
+filings_of (Broken sent filings breach) = filings
 filings_of (Overasked sent filings) = filings
 filings_of (Differed sent filings said) = filings
 
@@ -157,7 +159,7 @@ pub record IsFront (some all : List (List ℕ)) : Type 0 where
 -- sends; after a fault of the children they are not told.
 abbrev pub Comes : Act → Showing → Result Answer SessionFault → List (List ℕ) → Filings → Type 0
 Comes act showing (Ok answer) sent filings = act ≡ Answered sent filings answer.messages answer.claimed
-Comes act showing (Err Unbuilt) sent filings = act ≡ Broken sent filings
+Comes act showing (Err (Breach breach)) sent filings = act ≡ Broken sent filings breach
 Comes act showing (Err (TooManyQuestions most)) sent filings = (act ≡ Overasked sent filings) × (most ≡ showing.limit)
 Comes act showing (Err (ClaimBroken declared said)) sent filings = (act ≡ Differed sent filings said) × (declared ≡ showing.claim)
 Comes act showing (Err Failed) sent filings = Unit {0}
@@ -168,14 +170,14 @@ abbrev pub end_of : Claim → ℕ → Turn → List Message → Result Answer Se
 end_of declared limit (Ends claimed) printed = Ok (record { messages = printed; claimed = claimed })
 end_of declared limit (Differs said) printed = Err (ClaimBroken declared said)
 end_of declared limit (Asks request) printed = Err (TooManyQuestions limit)
-end_of declared limit Leaves printed = Err Unbuilt
+end_of declared limit (Leaves breach) printed = Err (Breach breach)
 
 -- whatever the child tells, its claim is held against what was declared, and it is refused by its limit and its claim alone
 abbrev pub IsDue : Showing → Result Answer SessionFault → Type 0
 IsDue showing (Ok answer) = keeps showing.claim answer.claimed ≡ true
 IsDue showing (Err (TooManyQuestions most)) = most ≡ showing.limit
 IsDue showing (Err (ClaimBroken declared said)) = (declared ≡ showing.claim) × (keeps declared said ≡ false)
-IsDue showing (Err Unbuilt) = Unit {0}
+IsDue showing (Err (Breach breach)) = Unit {0}
 IsDue showing (Err Failed) = Unit {0}
 IsDue showing (Err Memory) = Unit {0}
 
@@ -197,12 +199,12 @@ pub record Shows (child : ℕ) (showing : Showing) (old new : State) (filings fi
   pub shown : WasAnswered child old new (Shown old.says showing filings filings' result)
 
 -- a round is under way: this answer came after this many turns, and however often the child may ask from here on, that decides what comes of the whole
-pub record Underway (says : Says) (showing : Showing) (filings filings' : Filings) (printed : List Message) (turns : ℕ) (answer : Option Frame) (before after : Child) : Type 0 where
+pub record Underway (says : Says) (showing : Showing) (filings filings' : Filings) (printed : List Message) (turns : ℕ) (answer : talk.Answer) (before after : Child) : Type 0 where
   pub name : after.name ≡ before.name
   pub command : after.command ≡ before.command
   pub answer_is : answer ≡ answer_to (says before.name before.command) after.sent
-  pub answered : IsSome answer → HasAnswered says after
+  pub answered : IsOk answer → HasAnswered says after
   pub rest : (left : ℕ) → round_from (says before.name before.command) showing.claim left after.sent filings' printed ≡ act_within (says before.name before.command) showing (turns + left) before.sent filings
 
-pub record GoesOn (child : ℕ) (showing : Showing) (old new : State) (filings filings' : Filings) (printed : List Message) (turns : ℕ) (answer : Option Frame) : Type 0 where
+pub record GoesOn (child : ℕ) (showing : Showing) (old new : State) (filings filings' : Filings) (printed : List Message) (turns : ℕ) (answer : talk.Answer) : Type 0 where
   pub way : WasAnswered child old new (Underway old.says showing filings filings' printed turns answer)

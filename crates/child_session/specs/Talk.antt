@@ -1,5 +1,5 @@
 -- What a child says to the frames that it was sent: the frame at each place of its stream, and what the answer to a round comes to.
-use Rattle.std.specs.Prelude.{◌≡◌, ◌⊎◌, ◌<◌, ℕ, zero, suc, ◌-◌, List, [], ◌∷◌, ◌++◌, length, Option, None, Some, option_map, option_and_then, Result, Ok, Err, IsErrOf, IsSome, IfSome, IsSomeAnd}
+use Rattle.std.specs.Prelude.{◌≡◌, ◌⊎◌, ◌<◌, ℕ, zero, suc, ◌-◌, List, [], ◌∷◌, ◌++◌, length, Option, Some, option_and_then, Result, Ok, Err, IsOk, IsErrOf, IfSome, IsSomeAnd}
 use Rattle.apt_outside.specs.Child.{Says, Child, State, OfChild, StaysSent, written_by}
 use Rattle.apt_outside.specs.declared.fault.Fault.{Fault}
 use Rattle.apt_outside.specs.declared.fault.Fault.TheVariants.{Failed, Memory}
@@ -8,6 +8,8 @@ use Rattle.frame_reader.specs.declared.found.Found.TheVariants as founds
 use Rattle.frame_reader.specs.Stages.{found_in}
 use Rattle.frame_stream.specs.declared.reader.ReadFault.{ReadFault}
 use Rattle.frame_stream.specs.Streams.{frame_at, ComesOf}
+use Rattle.frame_breaches.specs.declared.breach.Breach.{Breach}
+use Rattle.frame_breaches.specs.Breaches.{front_of, front_behind, frame_in}
 use Rattle.child_session.specs.declared.receiving.Progress.{Progress}
 use Rattle.child_session.specs.declared.receiving.Progress.TheVariants.{Begun, Over}
 
@@ -20,14 +22,14 @@ unfoldable pub rest_after : ℕ → List ℕ → Option (List ℕ)
 rest_after zero bytes = Some bytes
 rest_after (suc n) bytes = option_and_then (λ x. rest_after n x.1) (frame_at bytes)
 
--- the whole frame that stands behind this many others, and what follows it
-abbrev pub frame_behind : ℕ → List ℕ → Option (Frame × List ℕ)
-frame_behind n bytes = option_and_then frame_at (rest_after n bytes)
+-- a frame, or how the child's bytes leave the protocol where it was to come
+abbrev pub Answer : Type 0
+Answer = Result Frame Breach
 
 -- The answer to the last frame that was sent. A child answers each frame by one, so it stands behind as many as
 -- frames were sent before, and it is whole once this one is sent.
-abbrev pub answer_to : Stream → List (List ℕ) → Option Frame
-answer_to stream sent = option_map (λ x. x.0) (frame_behind (length sent - 1) (stream sent))
+abbrev pub answer_to : Stream → List (List ℕ) → Answer
+answer_to stream sent = frame_in (front_behind (length sent - 1) (stream sent))
 
 -- a child that has answered each frame that it was sent, and no byte of an answer waits
 abbrev pub HasAnswered : Says → Child → Type 0
@@ -38,14 +40,14 @@ abbrev pub WasAnswered : ℕ → State → State → (Child → Child → Type 0
 WasAnswered child old new P = IfSome (old.known child) (λ before. HasAnswered old.says before → IsSomeAnd (new.known child) (P before))
 
 -- a frame was sent to the child, and this is the answer to it
-pub record Exchanged (says : Says) (frame : List ℕ) (answer : Option Frame) (before after : Child) : Type 0 where
+pub record Exchanged (says : Says) (frame : List ℕ) (answer : Answer) (before after : Child) : Type 0 where
   pub name : after.name ≡ before.name
   pub command : after.command ≡ before.command
   pub sent : after.sent ≡ before.sent ++ frame ∷ []
   pub answer_is : answer ≡ answer_to (says before.name before.command) after.sent
-  pub answered : IsSome answer → HasAnswered says after
+  pub answered : IsOk answer → HasAnswered says after
 
-pub record Exchanges (child : ℕ) (frame : List ℕ) (old new : State) (answer : Option Frame) : Type 0 where
+pub record Exchanges (child : ℕ) (frame : List ℕ) (old new : State) (answer : Answer) : Type 0 where
   pub exchanged : WasAnswered child old new (Exchanged old.says frame answer)
 
 -- the child was sent this frame, or nothing
@@ -54,7 +56,7 @@ SentOrNot child frame old new = OfChild child old new (λ before after. (after.s
 
 -- What the child was sent by a call that sends this frame: the frame, and after out of memory the frame or nothing. After a fault
 -- of the children it is not told.
-abbrev pub SendsOnce : ℕ → List ℕ → State → State → Result (Option Frame) Fault → Type 0
+abbrev pub SendsOnce : ℕ → List ℕ → State → State → Result Answer Fault → Type 0
 SendsOnce child frame old new (Ok answer) = OfChild child old new (λ before after. after.sent ≡ before.sent ++ frame ∷ [])
 SendsOnce child frame old new (Err Memory) = SentOrNot child frame old new
 SendsOnce child frame old new (Err Failed) = Unit {0}
@@ -73,12 +75,12 @@ pub record TakesMore (child : ℕ) (old new : State) (bytes bytes' : List ℕ) :
   pub added : bytes' ≡ bytes ++ more
   pub taken : TakesBytes child old new more
 
--- the frame that stands first was taken from the bytes that wait, or none does
-abbrev pub FindsFrame : List ℕ → Option Frame → List ℕ → Type 0
-FindsFrame waiting None left = frame_at waiting ≡ None
-FindsFrame waiting (Some frame) left = frame_at waiting ≡ Some (frame, left)
+-- the frame that stands first was taken from the bytes that wait, or none stands there
+abbrev pub FindsFrame : List ℕ → Answer → List ℕ → Type 0
+FindsFrame waiting (Ok frame) left = front_of waiting ≡ Ok (frame, left)
+FindsFrame waiting (Err breach) left = front_of waiting ≡ Err breach
 
-pub record TakesFrame (child : ℕ) (old new : State) (found : Option Frame) : Type 0 where
+pub record TakesFrame (child : ℕ) (old new : State) (found : Answer) : Type 0 where
   pub first : OfChild child old new (λ before after. (after.sent ≡ before.sent) × FindsFrame before.waiting found after.waiting)
 
 -- ---- a frame that comes in pieces
@@ -88,7 +90,7 @@ pub record TakesFront (answer : Result (Option Frame) ReadFault) (piece old new 
   pub taken : ℕ
   pub comes : ComesOf answer taken piece old new
 
--- what bytes that were fed to a reader lead to, and what it has then: they begin a frame, or whatever comes behind them a frame is found, or that there is none
+-- what bytes that were fed to a reader lead to, and what it has then: they begin a frame, or whatever comes behind them a frame is found, or a bad byte
 abbrev pub LeadsTo : Progress → List ℕ → List ℕ → Type 0
 LeadsTo Begun bytes new = (found_in bytes ≡ founds.Begun) × (new ≡ bytes)
 LeadsTo (Over found) bytes new = (rest : List ℕ) → FindsFrame (bytes ++ rest) found rest
@@ -98,8 +100,8 @@ abbrev pub IsLonger : List ℕ → List ℕ → Progress → Type 0
 IsLonger old new Begun = (found_in new ≡ founds.Begun) × (length old < length new)
 IsLonger old new (Over found) = Unit {0}
 
--- the frame that begins with these bytes, or that none does, was found in those that wait behind them
-pub record FindsBehind (child : ℕ) (bytes : List ℕ) (old new : State) (found : Option Frame) : Type 0 where
+-- the frame that begins with these bytes, or why none does, was found in those that wait behind them
+pub record FindsBehind (child : ℕ) (bytes : List ℕ) (old new : State) (found : Answer) : Type 0 where
   pub behind : OfChild child old new (λ before after. (after.sent ≡ before.sent) × FindsFrame (bytes ++ before.waiting) found after.waiting)
 
 -- behind these bytes of a frame more were taken, which begin it, or it was found

@@ -10,26 +10,30 @@ use crate::SessionFault;
 use crate::receiving::exchange;
 use apt_base::Name;
 use apt_outside::Children;
+use frame_breaches::{Breach, stray};
 use std::alloc::Global;
 use wire_frames::{Frame, Hello};
 
-// The Hello that an answer is, if it is one.
-fn hello_in(answer: Option<Frame>) -> Option<Hello>
+// The Hello that an answer is. No other frame may come first.
+fn hello_in(answer: Result<Frame, Breach>) -> Result<Hello, Breach>
     ensures { result ≡ hello_in answer }
 {
     match answer {
-        Some(Frame::Hello(hello)) => Some(hello),
-        other => {
+        Ok(Frame::Hello(hello)) => Ok(hello),
+        Ok(other) => {
+            let breach = stray(&other);
             drop(other);
-            None
+            Err(breach)
         }
+        Err(breach) => Err(breach),
     }
 }
 
 /// Starts a child, sends it the first frame, and gives its number and its Hello.
 ///
-/// `Unbuilt` comes only where its answer is no Hello, and always there where the children tell what they say. `Failed` comes
-/// where a start was tried, `Memory` also where none was. Where it is refused after the child was started, the child was stopped.
+/// `Breach` says how its answer leaves the protocol: exactly so where the children tell what they say. `Failed`
+/// comes where a start was tried, `Memory` also where none was. Where it is refused after the child was started,
+/// the child was stopped.
 pub fn begin<C: Children>(
     alloc: Global,
     children: &mut C,
@@ -52,9 +56,11 @@ pub fn begin<C: Children>(
             return Err(SessionFault::from(fault));
         }
     };
-    let Some(hello) = hello_in(answer) else {
-        children.stop(child);
-        return Err(SessionFault::Unbuilt);
-    };
-    Ok((child, hello))
+    match hello_in(answer) {
+        Ok(hello) => Ok((child, hello)),
+        Err(breach) => {
+            children.stop(child);
+            Err(SessionFault::Breach(breach))
+        }
+    }
 }

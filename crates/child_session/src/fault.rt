@@ -6,6 +6,7 @@ ghost use Rattle.child_session.specs.Faults.{fault_of};
 
 use apt_base::{Claim, NoMemory};
 use apt_outside::Fault;
+use frame_breaches::Breach;
 use std::alloc::{AllocError, AllocFailed};
 
 /// Why a session was refused.
@@ -13,8 +14,8 @@ use std::alloc::{AllocError, AllocFailed};
 pub enum SessionFault {
     /// A call of the children failed, and their count of faults rose.
     Failed,
-    /// The child's bytes are not the frames of this order and form, or it ended inside a frame that was wanted.
-    Unbuilt,
+    /// The child's bytes leave the protocol, at the first place where they do.
+    Breach(Breach),
     /// The child asked more often in one round than it may.
     TooManyQuestions {
         /// How often it may.

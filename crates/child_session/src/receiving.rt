@@ -9,6 +9,7 @@ ghost use Rattle.child_session.specs.Moments.{Gives, Answers};
 
 use apt_base::NoMemory;
 use apt_outside::{Children, Fault};
+use frame_breaches::Breach;
 use frame_stream::{ReadFault, Reader};
 use std::alloc::Global;
 use wire_frames::Frame;
@@ -20,8 +21,8 @@ const ROOM: usize = 4096;
 pub enum Progress {
     /// They are the beginning of a frame.
     Begun,
-    /// They are this frame, or there is none: one of them is bad, or no more will come.
-    Over(Option<Frame>),
+    /// They are this frame, or they leave the protocol: one of them is bad, or no more will come.
+    Over(Result<Frame, Breach>),
 }
 
 /// Feeds a reader the front of some bytes, and gives what the last one that it takes is answered.
@@ -40,8 +41,8 @@ fn feed_all(reader: &mut Reader, bytes: &[u8]) -> Result<Progress, NoMemory>
 {
     match feed_front(reader, bytes) {
         Ok(None) => Ok(Progress::Begun),
-        Ok(Some(frame)) => Ok(Progress::Over(Some(frame))),
-        Err(ReadFault::Bad { .. }) => Ok(Progress::Over(None)),
+        Ok(Some(frame)) => Ok(Progress::Over(Ok(frame))),
+        Err(ReadFault::Bad { place, kind }) => Ok(Progress::Over(Err(Breach::Bad { place, kind }))),
         Err(ReadFault::Memory) => Err(NoMemory),
     }
 }
@@ -68,7 +69,8 @@ fn receive_more<C: Children>(
 {
     let got = children.receive(child, room)?;
     if got == 0 {
-        return Ok(Progress::Over(None));
+        let got = reader.waiting();
+        return Ok(Progress::Over(Err(Breach::Ended { got })));
     }
     match feed_all(reader, &room[..got]) {
         Ok(progress) => Ok(progress),
@@ -76,13 +78,13 @@ fn receive_more<C: Children>(
     }
 }
 
-/// The next frame of a child, by the table of all frames, or none where its bytes are no frame, or it ends before the
-/// frame is whole. No byte behind a frame is taken.
+/// The next frame of a child, by the table of all frames, or its first bad byte, or how many bytes came where it ends
+/// before the frame is whole. No byte behind a frame is taken.
 fn read_frame<C: Children>(
     alloc: Global,
     children: &mut C,
     child: u32,
-) -> Result<Option<Frame>, Fault>
+) -> Result<Result<Frame, Breach>, Fault>
     requires lives { Contains (C.state children.old).live child }
     ensures cause { HasCause (C.faults children.old) (C.faults children.new) result }
     ensures starts { (C.state children.new).starts ≡ (C.state children.old).starts }
@@ -102,8 +104,8 @@ fn read_frame<C: Children>(
     }
 }
 
-/// Sends a frame to a child, and gives its answer: the next frame, or none where its bytes are no frame, or it ends before
-/// the frame is whole.
+/// Sends a frame to a child, and gives its answer: the next frame, or its first bad byte, or how many bytes came
+/// where it ends before the frame is whole.
 ///
 /// After `Memory` it was sent the frame or nothing.
 pub fn exchange<C: Children>(
@@ -111,7 +113,7 @@ pub fn exchange<C: Children>(
     children: &mut C,
     child: u32,
     frame: &[u8],
-) -> Result<Option<Frame>, Fault>
+) -> Result<Result<Frame, Breach>, Fault>
     requires lives { Contains (C.state children.old).live child }
     ensures cause { HasCause (C.faults children.old) (C.faults children.new) result }
     ensures starts { (C.state children.new).starts ≡ (C.state children.old).starts }

@@ -15,6 +15,7 @@ use crate::receiving::exchange;
 use apt_base::{Claim, List, NoMemory};
 use apt_filer::Filer;
 use apt_outside::Children;
+use frame_breaches::{Breach, stray};
 use std::alloc::Global;
 use wire_frames::{Creation, Frame, FrameFault, Message, Reply, encode};
 
@@ -62,8 +63,8 @@ pub enum Turn {
     },
     /// It asks, and is answered.
     Asks(Request),
-    /// It is none of the frames that may come there.
-    Leaves,
+    /// It leaves the protocol.
+    Leaves(Breach),
 }
 
 // Whether an answer keeps what the processor declared of its claims.
@@ -104,7 +105,10 @@ fn creation_turn(creation: Creation) -> Turn
     if has_no_origins(&creation) {
         Turn::Asks(Request::Create(creation))
     } else {
-        Turn::Leaves
+        let frame = Frame::Create(creation);
+        let breach = stray(&frame);
+        drop(frame);
+        Turn::Leaves(breach)
     }
 }
 
@@ -113,29 +117,34 @@ fn message_turn(message: Message) -> Turn
     ensures { result ≡ turn_by_element message.element message }
 {
     if message.element.is_some() {
-        Turn::Leaves
+        let frame = Frame::Message(message);
+        let breach = stray(&frame);
+        drop(frame);
+        Turn::Leaves(breach)
     } else {
         Turn::Asks(Request::Print(message))
     }
 }
 
-/// What a child's answer means in a round, where its processor declared this of its claims. A frame of the table that no
-/// round has today leaves its form: a creation with originating elements, a message at an element, a question, a frame
-/// of the host's.
-fn turn_of(declared: Claim, answer: Option<Frame>) -> Turn
+/// What a child's answer means in a round, where its processor declared this of its claims. A frame of the table that
+/// no round has today leaves the protocol: a creation with originating elements, a message at an element, a question,
+/// a frame of the host's.
+fn turn_of(declared: Claim, answer: Result<Frame, Breach>) -> Turn
     ensures { result ≡ turn_at declared answer }
 {
     match answer {
-        Some(Frame::Done { claimed }) => {
+        Ok(Frame::Done { claimed }) => {
             drop(answer);
             done_with(declared, claimed)
         }
-        Some(Frame::Create(creation)) => creation_turn(creation),
-        Some(Frame::Message(message)) => message_turn(message),
-        other => {
+        Ok(Frame::Create(creation)) => creation_turn(creation),
+        Ok(Frame::Message(message)) => message_turn(message),
+        Ok(other) => {
+            let breach = stray(&other);
             drop(other);
-            Turn::Leaves
+            Turn::Leaves(breach)
         }
+        Err(breach) => Turn::Leaves(breach),
     }
 }
 
@@ -187,7 +196,7 @@ fn take_turn<C: Children>(
     request: Request,
     filer: &mut Filer,
     printed: &mut List<Message>,
-) -> Result<Option<Frame>, SessionFault>
+) -> Result<Result<Frame, Breach>, SessionFault>
     requires lives { Contains (C.state children.old).live child }
     ensures reason { HasReason (C.faults children.old) (C.faults children.new) result }
     ensures starts { (C.state children.new).starts ≡ (C.state children.old).starts }
@@ -218,15 +227,15 @@ fn end_of(
         Turn::Ends { claimed } => Ok(Answer { messages, claimed }),
         Turn::Differs { said } => Err(SessionFault::ClaimBroken { declared, said }),
         Turn::Asks(_) => Err(SessionFault::TooManyQuestions { limit }),
-        Turn::Leaves => Err(SessionFault::Unbuilt),
+        Turn::Leaves(breach) => Err(SessionFault::Breach(breach)),
     }
 }
 
 /// Shows a round to a child, and gives what it prints and whether its processor claims. What it creates is added to
 /// the files that were made before.
 ///
-/// Where the children tell what they say, `Unbuilt` comes exactly where the child's bytes are not the frames of a round,
-/// `TooManyQuestions` exactly where it asks once more than it may, and `ClaimBroken` exactly where it is done and says another
+/// Where the children tell what they say, `Breach` comes exactly where the child's bytes leave the protocol, and says
+/// where, `TooManyQuestions` exactly where it asks once more than it may, and `ClaimBroken` exactly where it is done and says another
 /// thing than its processor declared with `Always` or `Never` (JSR 269, `Processor.process`). `Failed` is a fault of the
 /// children, and `Memory` out of memory. After each the filer has what was accepted up to then, and after each but `Failed` the
 /// child was sent the first of the frames that the round sends it and nothing else.

@@ -1,8 +1,10 @@
 -- How a call ends, as a value: its number, and which ends may come at any point.
 use Rattle.std.specs.Prelude.{◌≡◌, ◌⊎◌, ℕ, ◌≤◌, Bool, true, false, List, Option, None, Some}
 use Rattle.apt_outside.specs.Count.{Rose}
+use Rattle.frame_breaches.specs.declared.breach.Breach.{Breach}
+use Rattle.frame_breaches.specs.declared.breach.Breach.TheVariants.{Ended, Bad, Wrong}
 use Rattle.project_units.specs.Refusals as stop
-use Rattle.project_units.specs.Refusals.{Refusal, BadWords, BadConfig, UnknownProcessor, BadStub, BadSource, DuplicateType, BadGenerated, UnbuiltTalk, TooManyQuestions, ClaimBroken, GeneratedDuplicate, TooManyRounds, TooLarge, Place, Object, Tree, Sink, Children, Stop, processor_of}
+use Rattle.project_units.specs.Refusals.{Refusal, BadWords, BadConfig, UnknownProcessor, BadStub, BadSource, DuplicateType, BadGenerated, LeavesProtocol, TooManyQuestions, ClaimBroken, GeneratedDuplicate, TooManyRounds, TooLarge, Place, Object, Tree, Sink, Children, Stop, processor_of}
 use Rattle.project_units.specs.Faults.{stop_of}
 use Rattle.project_reading.specs.declared.status.Place as status
 use Rattle.project_reading.specs.declared.status.Place.TheVariants as code_place
@@ -120,8 +122,14 @@ pub record HasCause (is : Object → Bool) (v : Verdict) (before now : ℕ) : Ty
 
 -- ---- its number
 
+abbrev pub number_of_breach : Breach → ℕ
+number_of_breach (Ended got) = 8
+number_of_breach (Bad place kind) = 9
+number_of_breach (Wrong tag) = 10
+
 abbrev pub number_of : Refusal → ℕ
 number_of (BadWords at) = 2
+number_of (LeavesProtocol processor breach) = number_of_breach breach
 number_of (TooManyQuestions processor most) = 11
 number_of (ClaimBroken processor declared said) = 12
 number_of (BadConfig path place) = 13
@@ -133,7 +141,6 @@ number_of (BadGenerated path place) = 18
 number_of (GeneratedDuplicate name) = 19
 number_of TooManyRounds = 20
 number_of (TooLarge what limit) = 21
-number_of (UnbuiltTalk processor) = 26
 
 abbrev pub number_of_failure : Object → ℕ
 number_of_failure Tree = 4

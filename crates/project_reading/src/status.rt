@@ -3,10 +3,11 @@ ghost use Rattle.std.specs.Prelude.{◌≡◌, IfOk, None, false};
 ghost use Rattle.project_units.specs.Faults.{stop_of};
 ghost use Rattle.project_units.specs.Refusals.{past};
 ghost use Rattle.project_reading.specs.declared.status.Status.TheVariants as code;
-ghost use Rattle.project_reading.specs.Verdicts.{verdict, stopped, code_of, named_in, Refused};
+ghost use Rattle.project_reading.specs.Verdicts.{verdict, stopped, code_of, number_of_breach, named_in, Refused};
 ghost use Rattle.project_reading.specs.Endings.{of_store, EndsEarly};
 
 use apt_base::{Name, NoMemory, What};
+use frame_breaches::Breach;
 use project_units::{Refusal, limit_of};
 use tree_store::StoreFault;
 
@@ -201,6 +202,17 @@ impl Status {
     }
 }
 
+// The exit status of a program whose child left the protocol.
+fn code_of_breach(breach: Breach) -> u8
+    ensures { result ≡ number_of_breach breach }
+{
+    match breach {
+        Breach::Ended { .. } => 8,
+        Breach::Bad { .. } => 9,
+        Breach::Wrong { .. } => 10,
+    }
+}
+
 // The exit status of a program whose run came to this.
 fn code_of_run(refusal: &Refusal) -> u8
     ensures { result ≡ code_of (stopped (stop_of refusal.now)) }
@@ -208,12 +220,12 @@ fn code_of_run(refusal: &Refusal) -> u8
     match refusal {
         Refusal::Memory => 3,
         Refusal::ChildFault { .. } => 7,
+        Refusal::Breach { breach, .. } => code_of_breach(*breach),
         Refusal::TooManyQuestions { .. } => 11,
         Refusal::ClaimBroken { .. } => 12,
         Refusal::BadGenerated { .. } => 18,
         Refusal::GeneratedDuplicate { .. } => 19,
         Refusal::TooManyRounds => 20,
         Refusal::TooLarge { .. } => 21,
-        Refusal::UnbuiltTalk { .. } => 26,
     }
 }

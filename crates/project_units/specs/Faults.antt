@@ -3,11 +3,11 @@ use Rattle.std.specs.Prelude.{◌≡◌, ℕ, ◌≤◌, Bool, true, List, Optio
 use Rattle.apt_outside.specs.Count.{Rose}
 use Rattle.project_units.specs.declared.refusal.Refusal as declared
 use Rattle.project_units.specs.declared.refusal.Refusal.TheVariants as code
-use Rattle.project_units.specs.Refusals.{BadGenerated, UnbuiltTalk, TooManyQuestions, ClaimBroken, GeneratedDuplicate, TooManyRounds, TooLarge, Children, Stop, Refused, Failed, Memory, is_refusal, is_failure, exempt_by}
+use Rattle.project_units.specs.Refusals.{BadGenerated, LeavesProtocol, TooManyQuestions, ClaimBroken, GeneratedDuplicate, TooManyRounds, TooLarge, Children, Stop, Refused, Failed, Memory, is_refusal, is_failure, exempt_by}
 
 abbrev pub stop_of : declared.Refusal → Stop
 stop_of (code.ChildFault processor) = Failed (Children processor)
-stop_of (code.UnbuiltTalk processor) = Refused (UnbuiltTalk processor)
+stop_of (code.Breach processor breach) = Refused (LeavesProtocol processor breach)
 stop_of (code.TooManyQuestions processor most) = Refused (TooManyQuestions processor most)
 stop_of (code.ClaimBroken processor declared said) = Refused (ClaimBroken processor declared said)
 stop_of (code.BadGenerated path place) = Refused (BadGenerated path place)

@@ -2,6 +2,7 @@
 use Rattle.std.specs.Prelude.{◌≡◌, ◌⊎◌, ℕ, Bool, true, false, List, Option, None, Some, IfSome, Contains}
 use Rattle.apt_base.specs.declared.kinds.Claim.{Claim}
 use Rattle.apt_base.specs.declared.kinds.What.{What}
+use Rattle.frame_breaches.specs.declared.breach.Breach.{Breach}
 use Rattle.project_units.specs.Limits.{limit_of}
 
 -- where a file of the configuration is off its form
@@ -28,8 +29,8 @@ pub data Refusal : Type 0 where
   DuplicateType : (name first second : List ℕ) → Refusal
   -- a created source has no reading: its path in the output, and the place of its first fault
   BadGenerated : (path : List ℕ) (place : ℕ) → Refusal
-  -- a child's bytes are none that can be read so far
-  UnbuiltTalk : (processor : List ℕ) → Refusal
+  -- a child's bytes leave the protocol, at the first place where they do
+  LeavesProtocol : (processor : List ℕ) (breach : Breach) → Refusal
   -- a child asked once more than it may in one round
   TooManyQuestions : (processor : List ℕ) (most : ℕ) → Refusal
   -- a processor declared that it claims always, or never, and said the other thing
@@ -47,7 +48,7 @@ past what = TooLarge what (limit_of what)
 
 -- the processor of the run that a refusal names, if it names one
 abbrev pub processor_of : Refusal → Option (List ℕ)
-processor_of (UnbuiltTalk processor) = Some processor
+processor_of (LeavesProtocol processor breach) = Some processor
 processor_of (TooManyQuestions processor most) = Some processor
 processor_of (ClaimBroken processor declared said) = Some processor
 processor_of other = None
@@ -79,7 +80,7 @@ is_failure Memory = false
 
 -- a stop that may come before round 1, at the start and the first answer of a processor
 abbrev pub is_of_hello : Stop → Bool
-is_of_hello (Refused (UnbuiltTalk processor)) = true
+is_of_hello (Refused (LeavesProtocol processor breach)) = true
 is_of_hello (Refused other) = false
 is_of_hello (Failed object) = true
 is_of_hello Memory = true

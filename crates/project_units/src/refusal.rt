@@ -3,6 +3,7 @@ ghost use Rattle.std.specs.Prelude.{◌≡◌, IfOk};
 ghost use Rattle.project_units.specs.declared.refusal.Refusal.TheVariants as code;
 
 use apt_base::{Claim, Name, NoMemory, What};
+use frame_breaches::Breach;
 use std::alloc::{AllocError, AllocFailed};
 
 /// Why a run over a project was refused.
@@ -13,10 +14,12 @@ pub enum Refusal {
         /// The processor's name.
         processor: Name,
     },
-    /// A child's bytes are not the frames that can be read so far, in their order, or it ended inside a frame.
-    UnbuiltTalk {
+    /// A child's bytes leave the protocol.
+    Breach {
         /// The processor's name.
         processor: Name,
+        /// How they do, at the first place where they do.
+        breach: Breach,
     },
     /// A child asked more often in one round than it may.
     TooManyQuestions {
@@ -69,8 +72,9 @@ impl Refusal {
             Refusal::ChildFault { processor } => Ok(Refusal::ChildFault {
                 processor: processor.copy()?,
             }),
-            Refusal::UnbuiltTalk { processor } => Ok(Refusal::UnbuiltTalk {
+            Refusal::Breach { processor, breach } => Ok(Refusal::Breach {
                 processor: processor.copy()?,
+                breach: *breach,
             }),
             Refusal::TooManyQuestions { processor, limit } => Ok(Refusal::TooManyQuestions {
                 processor: processor.copy()?,

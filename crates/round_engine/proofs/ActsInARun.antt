@@ -14,7 +14,7 @@ use Rattle.child_session.specs.Round.{IsFront, act_of}
 use Rattle.round_engine.specs.declared.progress.Progress as code_progress
 use Rattle.round_engine.specs.declared.beginning.Discovered as code_discovered
 use Rattle.round_engine.specs.declared.rounds.Round.{Round}
-use Rattle.project_units.specs.Refusals.{Stop, Refusal, UnbuiltTalk, TooManyQuestions, ClaimBroken}
+use Rattle.project_units.specs.Refusals.{Stop, Refusal, LeavesProtocol, TooManyQuestions, ClaimBroken}
 use Rattle.round_engine.specs.Faults.{of_session}
 use Rattle.round_engine.specs.Run.{Frames, Course, Discovered, Progress, claim_at, sent_at, showing, act, place, with_act, after_act, show}
 use Rattle.round_engine.specs.Shown.{all_sent, EachOf, IsOf, Serves, Stands, shown_discovered, standing, StopsAs, sent_by, sent_in_step}
@@ -96,7 +96,7 @@ module _ (d : code_discovered.Discovered) (processors : List Try) (k0 k1 : State
     stops : (f : SessionFault) → result ≡ Err f → StopsAs (show run r now number offered) (all_sent k1.known d.group) (of_session processor.0 f)
     stops fault.Failed is = tt
     stops fault.Memory is = tt
-    stops fault.Unbuilt is = ap (after_act run r now number) (act_is ∙ comes fault.Unbuilt is) ∙ stopped_so (UnbuiltTalk processor.0)
+    stops (fault.Breach breach) is = ap (after_act run r now number) (act_is ∙ comes (fault.Breach breach) is) ∙ stopped_so (LeavesProtocol processor.0 breach)
     stops (fault.TooManyQuestions most) is =
         let c = comes (fault.TooManyQuestions most) is in
         ap (after_act run r now number) (act_is ∙ c.0) ∙ stopped_so (TooManyQuestions processor.0 shown.limit)

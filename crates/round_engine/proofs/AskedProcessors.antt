@@ -121,7 +121,7 @@ module _ (d : code_discovered.Discovered) (k0 k1 : State) (number : ℕ) (lt : n
       → FrontsBut (exempt_by (of_session (get_or processors number ([], [])).0 f)) processors (all_sent k1.known d.group) (sent_by sent_in_step step)
   fault_so fault.Failed shows comes = others_so (Err fault.Failed) shows
   fault_so fault.Memory shows comes = some_so (Err fault.Memory) shows refl
-  fault_so fault.Unbuilt shows comes = fronts_exact (all_sent k1.known d.group) (sent_by sent_in_step step) (ap (sent_by sent_in_step) comes)
+  fault_so (fault.Breach breach) shows comes = fronts_exact (all_sent k1.known d.group) (sent_by sent_in_step step) (ap (sent_by sent_in_step) comes)
   fault_so (fault.TooManyQuestions most) shows comes = fronts_exact (all_sent k1.known d.group) (sent_by sent_in_step step) (ap (sent_by sent_in_step) comes)
   fault_so (fault.ClaimBroken declared said) shows comes = fronts_exact (all_sent k1.known d.group) (sent_by sent_in_step step) (ap (sent_by sent_in_step) comes)
 

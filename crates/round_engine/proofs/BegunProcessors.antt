@@ -1,18 +1,18 @@
 -- What one processor says of itself: from what its session says to what the run has of it.
-use Rattle.std.proofs.Common.{◌≡◌, ◌+◌, ℕ, List, [], ◌∷◌, ◌++◌, Option, None, Some, Err, IfSome, IsSomeAnd, inl, inr, refl, sym, ap, ◌∙◌, subst}
-use Rattle.std.specs.Prelude.{option_and_then}
+use Rattle.std.proofs.Common.{◌≡◌, ◌+◌, ℕ, List, [], ◌∷◌, ◌++◌, Option, None, Some, Ok, Err, IfSome, IsSomeAnd, inl, inr, refl, sym, ap, ◌∙◌, subst}
 use Rattle.apt_outside.specs.Child.{Try, Child, State, Attends, StaysSent}
 use Rattle.wire_frames.specs.declared.frame.Hello.{Hello}
+use Rattle.frame_breaches.specs.declared.breach.Breach.{Breach}
 use Rattle.processor_claims.specs.declared.supported.Supported.{Supported}
 use Rattle.child_session.specs.declared.fault.SessionFault.{SessionFault}
 use Rattle.child_session.specs.declared.fault.SessionFault.TheVariants as fault
 use Rattle.child_session.specs.Beginning as session
 use Rattle.child_session.specs.Beginning.{IsBegun, HasBegun, IsUnheard}
 use Rattle.project_units.specs.Refusals as stop
-use Rattle.project_units.specs.Refusals.{Stop, UnbuiltTalk}
+use Rattle.project_units.specs.Refusals.{Stop, LeavesProtocol}
 use Rattle.round_engine.specs.Faults.{of_session}
 use Rattle.project_units.specs.Plans.{Plan, init_frame}
-use Rattle.round_engine.specs.Run.{supported_in}
+use Rattle.round_engine.specs.Run.{supported_in, supported_by}
 use Rattle.round_engine.specs.Shown.{IsSame, SaysHello, SaysNone, StopsOne}
 use Rattle.round_engine.proofs.StoppedChildren.{same_one}
 
@@ -41,18 +41,19 @@ module _ (plan : Plan) (p : Try) (k0 k1 : State) where
   abbrev init : List ℕ
   init = init_frame plan p.0
 
-  -- it said Hello, and each name in it is a pattern
-  pub says_hello : (child : ℕ) (hello : Hello) (supported : Supported) → session.SaysHello p init k0 k1 child hello → supported_in hello ≡ Some supported → SaysHello plan p child supported k0 k1
+  -- it said Hello
+  pub says_hello : (child : ℕ) (hello : Hello) (supported : Supported) → session.SaysHello p init k0 k1 child hello → supported_in hello ≡ supported → SaysHello plan p child supported k0 k1
   says_hello child hello supported says is = record {
-    hello = ap (option_and_then supported_in) says.says ∙ is;
+    hello = ap supported_by says.says ∙ ap Ok is;
     tells = says.tells;
     tried = says.tried;
   }
 
-  -- it said none
-  pub says_none : (s : Stop) → session.SaysNone p init k0 k1 → k1.starts ≡ k0.starts + 1 → s ≡ stop.Refused (UnbuiltTalk p.0) → SaysNone plan p s k0 k1
-  says_none s says starts is = record {
-    hello = ap (option_and_then supported_in) says.says;
+  -- it left the protocol
+  pub says_none : (s : Stop) (breach : Breach) → session.SaysNone p init breach k0 k1 → k1.starts ≡ k0.starts + 1 → s ≡ stop.Refused (LeavesProtocol p.0 breach) → SaysNone plan p s k0 k1
+  says_none s breach says starts is = record {
+    breach = breach;
+    hello = ap supported_by says.says;
     is = is;
     child = says.child;
     tells = says.tells;
@@ -64,7 +65,7 @@ module _ (plan : Plan) (p : Try) (k0 k1 : State) where
   pub begins_err : (f : SessionFault) (s : Stop) → session.Begins p init k0 k1 (Err f) → session.StartsOne {T = ℕ × Hello} k0.starts k1.starts (Err f) → s ≡ of_session p.0 f → StopsOne plan p s k0 k1
   begins_err fault.Failed s fails starts is = subst (λ t. StopsOne plan p t k0 k1) (sym is) (refl, fails)
   begins_err fault.Memory s fails starts is = subst (λ t. StopsOne plan p t k0 k1) (sym is) fails
-  begins_err fault.Unbuilt s says starts is = subst (λ t. StopsOne plan p t k0 k1) (sym is) (says_none (stop.Refused (UnbuiltTalk p.0)) says starts refl)
+  begins_err (fault.Breach breach) s says starts is = subst (λ t. StopsOne plan p t k0 k1) (sym is) (says_none (stop.Refused (LeavesProtocol p.0 breach)) breach says starts refl)
   begins_err (fault.TooManyQuestions most) s never starts is = absurd never
   begins_err (fault.ClaimBroken declared said) s never starts is = absurd never
 
@@ -86,14 +87,3 @@ module _ (plan : Plan) (p : Try) (k0 k1 : State) where
     -- since memory was wanted for what it supports
     pub stopped_memory : StopsOne plan p stop.Memory k0 k2
     stopped_memory = inr (record { child = child; tells = begun_is p init child k0 k2 stopped_tells; starts = same ∙ starts; tried = tried_so })
-
-    -- since a name in its Hello is no pattern
-    pub stopped_none : supported_in hello ≡ None → StopsOne plan p (stop.Refused (UnbuiltTalk p.0)) k0 k2
-    stopped_none none = record {
-      hello = ap (option_and_then supported_in) says.says ∙ none;
-      is = refl;
-      child = child;
-      tells = stopped_tells;
-      starts = same ∙ starts;
-      tried = tried_so;
-    }

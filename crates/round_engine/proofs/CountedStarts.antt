@@ -8,7 +8,7 @@ use Rattle.child_session.specs.declared.fault.SessionFault.TheVariants as fault
 use Rattle.child_session.specs.Beginning as session
 use Rattle.child_session.specs.Beginning.{RefusesHello}
 use Rattle.project_units.specs.Refusals as stop
-use Rattle.project_units.specs.Refusals.{Stop, UnbuiltTalk, OrMemory, is_refusal, is_of_hello}
+use Rattle.project_units.specs.Refusals.{Stop, OrMemory, is_refusal, is_of_hello}
 use Rattle.round_engine.specs.Faults.{of_session}
 use Rattle.project_units.specs.Plans.{Plan}
 use Rattle.round_engine.specs.Shown.{StartsUpTo, IsDueStop, StopsOne, IsCounted, StopsCounted}
@@ -22,7 +22,7 @@ hello_or expected s is (inr e) = ap is_of_hello e
 -- a fault of a session that does not begin
 pub hello_err : (name : List ℕ) (f : SessionFault) (s : Stop) → RefusesHello {T = ℕ × Hello} (Err f) → OrMemory (of_session name f) s → is_of_hello s ≡ true
 hello_err name fault.Failed s refuses due = hello_or (of_session name fault.Failed) s refl due
-hello_err name fault.Unbuilt s refuses due = hello_or (of_session name fault.Unbuilt) s refl due
+hello_err name (fault.Breach breach) s refuses due = hello_or (of_session name (fault.Breach breach)) s refl due
 hello_err name fault.Memory s refuses due = hello_or (of_session name fault.Memory) s refl due
 hello_err name (fault.TooManyQuestions most) s refuses due = absurd refuses
 hello_err name (fault.ClaimBroken declared said) s refuses due = absurd refuses
@@ -31,7 +31,7 @@ hello_err name (fault.ClaimBroken declared said) s refuses due = absurd refuses
 pub due_of_hello : (s : Stop) → is_of_hello s ≡ true → IsDueStop s
 due_of_hello (stop.Refused (stop.TooManyQuestions processor most)) is = absurd (false≢true is)
 due_of_hello (stop.Refused (stop.ClaimBroken processor declared said)) is = absurd (false≢true is)
-due_of_hello (stop.Refused (stop.UnbuiltTalk processor)) is = tt
+due_of_hello (stop.Refused (stop.LeavesProtocol processor breach)) is = tt
 due_of_hello (stop.Refused (stop.BadWords at)) is = tt
 due_of_hello (stop.Refused (stop.BadConfig path place)) is = tt
 due_of_hello (stop.Refused (stop.UnknownProcessor name)) is = tt
@@ -85,7 +85,7 @@ starts_err name fault.Failed s k0 k1 refuses starts (inl e) =
 starts_err name fault.Failed s k0 k1 refuses starts (inr e) = starts_memory 1 s k0 k1 e starts.0 starts.1
 starts_err name fault.Memory s k0 k1 refuses starts (inl e) = starts_memory 1 s k0 k1 e starts.0 starts.1
 starts_err name fault.Memory s k0 k1 refuses starts (inr e) = starts_memory 1 s k0 k1 e starts.0 starts.1
-starts_err name fault.Unbuilt s k0 k1 refuses starts due = starts_one s k0 k1 (hello_or (of_session name fault.Unbuilt) s refl due) starts
+starts_err name (fault.Breach breach) s k0 k1 refuses starts due = starts_one s k0 k1 (hello_or (of_session name (fault.Breach breach)) s refl due) starts
 starts_err name (fault.TooManyQuestions most) s k0 k1 refuses starts due = absurd refuses
 starts_err name (fault.ClaimBroken declared said) s k0 k1 refuses starts due = absurd refuses
 

@@ -20,7 +20,7 @@ due_unnamed (stop.Refused (stop.BadStub path place)) is = tt
 due_unnamed (stop.Refused (stop.BadSource path place)) is = tt
 due_unnamed (stop.Refused (stop.DuplicateType name first second)) is = tt
 due_unnamed (stop.Refused (stop.BadGenerated path place)) is = tt
-due_unnamed (stop.Refused (stop.UnbuiltTalk processor)) is = tt
+due_unnamed (stop.Refused (stop.LeavesProtocol processor breach)) is = tt
 due_unnamed (stop.Refused (stop.TooManyQuestions processor most)) is = absurd cc
 due_unnamed (stop.Refused (stop.ClaimBroken processor declared said)) is = absurd cc
 due_unnamed (stop.Refused (stop.GeneratedDuplicate name)) is = tt
@@ -36,7 +36,7 @@ fault_of f = Err f
 module _ (processor : List ℕ) (shown : Showing) (roots : List (List ℕ)) (limit_is : shown.limit ≡ limit roots) where
   due_of : (f : SessionFault) → IsDue shown (fault_of f) → IsDueStop (of_session processor f)
   due_of fault.Failed is = tt
-  due_of fault.Unbuilt is = tt
+  due_of (fault.Breach breach) is = tt
   due_of (fault.TooManyQuestions most) is = (roots, is ∙ limit_is)
   due_of (fault.ClaimBroken declared said) is = is.1
   due_of fault.Memory is = tt

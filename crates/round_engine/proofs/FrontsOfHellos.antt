@@ -1,8 +1,9 @@
 -- What processors are sent of which one after another says Hello: the first of what a run sends them.
-use Rattle.std.proofs.Common.{◌≡◌, ◌≢◌, ◌≤◌, ℕ, zero, suc, List, [], ◌∷◌, ◌++◌, length, map, get_or, Option, None, Some, Ok, Err, IfSome, IsSomeAnd, refl, sym, ap, subst, ◌∙◌, append-nil, append_assoc, length-append, arith}
+use Rattle.std.proofs.Common.{◌≡◌, ◌≢◌, ◌≤◌, ℕ, zero, suc, List, [], ◌∷◌, ◌++◌, length, map, get_or, Option, None, Some, Result, Ok, Err, IfSome, IsSomeAnd, refl, sym, ap, subst, ◌∙◌, append-nil, append_assoc, length-append, arith}
 use Rattle.std.specs.Prelude.{slice_get}
 use Rattle.std.proofs.lemmas.List.{map-append}
 use Rattle.apt_outside.specs.Child.{Says, Try, Child, Known, State, AllKept}
+use Rattle.frame_breaches.specs.declared.breach.Breach.{Breach}
 use Rattle.processor_claims.specs.declared.supported.Supported.{Supported}
 use Rattle.element_table.specs.TypeTable.{TypeTable}
 use Rattle.child_session.specs.Round.{IsFront}
@@ -163,10 +164,10 @@ module _ (says : Says) (plan : Plan) where
   front_more : (before : List Try) (p : Try) → AreFronts (map (first_sent plan) before) (map (first_sent plan) (before ++ p ∷ []))
   front_more before p = subst (AreFronts (map (first_sent plan) before)) (sym (map-append (first_sent plan) before (p ∷ []))) (fronts_append (map (first_sent plan) before) (map (first_sent plan) (p ∷ [])))
 
-  greeted : (before : List Try) (p : Try) (later : List Try) (o : Option Supported) → AreFronts (map (first_sent plan) (before ++ p ∷ [])) (sent_at_hello plan (hellos_from says plan (before ++ p ∷ []) later))
+  greeted : (before : List Try) (p : Try) (later : List Try) (o : Result Supported Breach) → AreFronts (map (first_sent plan) (before ++ p ∷ [])) (sent_at_hello plan (hellos_from says plan (before ++ p ∷ []) later))
       → AreFronts (map (first_sent plan) (before ++ p ∷ [])) (sent_at_hello plan (greeting plan before p o >>= (λ one. hellos_from says plan (before ++ p ∷ []) later >>= (λ others. Ok (one ∷ others)))))
-  greeted before p later None more = fronts_same (map (first_sent plan) (before ++ p ∷ []))
-  greeted before p later (Some one) more = subst (AreFronts (map (first_sent plan) (before ++ p ∷ []))) (sym (others_sent plan one (hellos_from says plan (before ++ p ∷ []) later))) more
+  greeted before p later (Err breach) more = fronts_same (map (first_sent plan) (before ++ p ∷ []))
+  greeted before p later (Ok one) more = subst (AreFronts (map (first_sent plan) (before ++ p ∷ []))) (sym (others_sent plan one (hellos_from says plan (before ++ p ∷ []) later))) more
 
   -- these have said Hello, and the others may
   pub hello_fronts : (before later : List Try) → before ++ later ≡ plan.processors → AreFronts (map (first_sent plan) before) (sent_at_hello plan (hellos_from says plan before later))

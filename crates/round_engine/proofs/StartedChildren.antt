@@ -1,15 +1,16 @@
 -- Children of a run that are started one after another and say Hello.
-use Rattle.std.proofs.Common.{◌≡◌, ◌≢◌, ◌⊎◌, ◌+◌, ℕ, List, [], ◌∷◌, ◌++◌, length, map, take, Option, None, Some, Ok, Err, IsSomeAnd, refl, sym, ap, subst, ◌∙◌, inl, inr, append-nil, append_assoc, length-append, arith}
+use Rattle.std.proofs.Common.{◌≡◌, ◌≢◌, ◌⊎◌, ◌+◌, ℕ, List, [], ◌∷◌, ◌++◌, length, map, take, Option, None, Some, Result, Ok, Err, IsSomeAnd, refl, sym, ap, subst, ◌∙◌, inl, inr, append-nil, append_assoc, length-append, arith}
 use Rattle.std.specs.Prelude.{slice_get}
 use Rattle.std.proofs.Math.Seq.{take-append_seam}
 use Rattle.std.specs.List.{AllByRecursion}
 use Rattle.apt_outside.specs.Child.{Says, Try, Child, Known, State, OthersKept, AllKept}
+use Rattle.frame_breaches.specs.declared.breach.Breach.{Breach}
 use Rattle.processor_claims.specs.declared.supported.Supported.{Supported}
 use Rattle.child_session.specs.Beginning as session
 use Rattle.child_session.specs.Round.{IsFront}
 use Rattle.child_session.proofs.FrontsOfActs.{front_same}
 use Rattle.project_units.specs.Refusals as stop
-use Rattle.project_units.specs.Refusals.{Stop, UnbuiltTalk, exempt_by}
+use Rattle.project_units.specs.Refusals.{Stop, LeavesProtocol, exempt_by}
 use Rattle.project_units.specs.Plans.{Plan, init_frame}
 use Rattle.round_engine.specs.Run.{Frames, Course, first_sent, hello_of, greeting, hellos_from, ◌>>=◌}
 use Rattle.std.proofs.lemmas.List.{map-append, length-map}
@@ -163,7 +164,7 @@ module _ (plan : Plan) (before : List Try) (group : List ℕ) (supported : List 
   begun_nothing new kept tried = begun_untold None new kept first_fronts (tries_before new tried)
 
 -- what the next one says
-abbrev then_hellos : Says → Plan → List Try → Try → List Try → Option Supported → Course (List Supported)
+abbrev then_hellos : Says → Plan → List Try → Try → List Try → Result Supported Breach → Course (List Supported)
 then_hellos says plan before p later o = greeting plan before p o >>= (λ supported. hellos_from says plan (before ++ p ∷ []) later >>= (λ others. Ok (supported ∷ others)))
 
 module _ (plan : Plan) (before : List Try) (group : List ℕ) (supported : List Supported) (p : Try) (later : List Try) (old now : State) (so_far : Begun plan before group supported (p ∷ later) old now) where
@@ -210,7 +211,7 @@ module _ (plan : Plan) (before : List Try) (group : List ℕ) (supported : List 
         child = child;
         comes = subst (StopsAs (hellos_from old.says plan [] plan.processors) (map (first_sent plan) (take (length group + 1) plan.processors))) (sym none.is)
             (sym so_far.hellos ∙ ap (λ o. onto supported (then_hellos old.says plan before p later o)) (sym said ∙ none.hello)
-            ∙ ap (λ sent. Err (record { sent = sent; refusal = UnbuiltTalk p.0 })) (sym sent_is));
+            ∙ ap (λ sent. Err (record { sent = sent; refusal = LeavesProtocol p.0 none.breach })) (sym sent_is));
         shown = record {
           tells = tells_more _ group child old now new so_far.tells out none.tells;
           shown = subst (λ sent. AreSent plan.processors sent (group ++ child ∷ []) new.known) (sym sent_is)

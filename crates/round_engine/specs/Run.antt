@@ -1,7 +1,7 @@
 -- The run of the processors of a project over its type table, from nothing: all say Hello, then come the rounds of JSR 269. It is a function of the table and of
 -- what the children say. In a round those are asked that `asked` of `processor_claims` lists, one after another, and what each answers decides who follows.
-use Rattle.std.specs.Prelude.{ℕ, zero, suc, ◌==◌, ◌+◌, ◌*◌, ◌||◌, not, Bool, true, false, List, [], ◌∷◌, ◌++◌, length, drop, map, replicate, slice_get, slice_set, slice_index_or, Option, None, Some, option_and_then, if◌then◌else◌, Result, Ok, Err}
-use Rattle.std.specs.List.{list_any, list_all}
+use Rattle.std.specs.Prelude.{ℕ, zero, suc, ◌==◌, ◌+◌, ◌*◌, ◌||◌, not, Bool, true, false, List, [], ◌∷◌, ◌++◌, length, drop, filter, map, replicate, slice_get, slice_set, slice_index_or, Option, None, Some, if◌then◌else◌, Result, Ok, Err}
+use Rattle.std.specs.List.{list_any}
 use Rattle.std.specs.FinMap as fin
 use Rattle.apt_outside.specs.Child.{Says, Try}
 use Rattle.apt_base.specs.Identifiers.{is_pattern}
@@ -12,6 +12,7 @@ use Rattle.wire_frames.specs.declared.frame.Frame.TheVariants as frame
 use Rattle.wire_frames.specs.declared.frame.Creation.{Creation}
 use Rattle.wire_frames.specs.declared.frame.Message.{Message}
 use Rattle.wire_frames.specs.Frames.{spelling}
+use Rattle.frame_breaches.specs.declared.breach.Breach.{Breach}
 use Rattle.apt_filer.specs.Filing.{Filings}
 use Rattle.processor_claims.specs.declared.supported.Supported.{Supported}
 use Rattle.processor_claims.specs.Asked.{asked}
@@ -20,7 +21,7 @@ use Rattle.child_session.specs.Beginning.{first_hello}
 use Rattle.child_session.specs.Round.{Act, Answered, Broken, Overasked, Differed, act_of}
 use Rattle.round_engine.specs.declared.messages.Placed.{Placed}
 use Rattle.round_engine.specs.declared.rounds.Round.{Round}
-use Rattle.project_units.specs.Refusals.{Refusal, UnbuiltTalk, TooManyQuestions, ClaimBroken, TooManyRounds}
+use Rattle.project_units.specs.Refusals.{Refusal, LeavesProtocol, TooManyQuestions, ClaimBroken, TooManyRounds}
 use Rattle.element_table.specs.TypeTable.{TypeTable}
 use Rattle.project_units.specs.Units.{Entered, enter_all, all_of, unit_names}
 use Rattle.round_env.specs.Presence.{present_names}
@@ -53,18 +54,22 @@ abbrev pub ◌>>=◌ : {A B : Type 0} → Course A → (A → Course B) → Cour
 abbrev pub first_sent : Plan → Try → Frames
 first_sent plan processor = init_frame plan processor.0 ∷ []
 
--- what a Hello says that its processor supports; each name in it is a pattern
-abbrev pub supported_in : Hello → Option Supported
-supported_in hello = if list_all is_pattern hello.patterns then Some (record { patterns = hello.patterns; claim = hello.claim }) else None
+-- what a Hello says that its processor supports: those of its names that are patterns, and by the table of frames all are
+abbrev pub supported_in : Hello → Supported
+supported_in hello = record { patterns = filter is_pattern hello.patterns; claim = hello.claim }
 
--- what a processor says that it supports, in its answer to the first frame
-abbrev pub hello_of : Says → Plan → Try → Option Supported
-hello_of says plan processor = option_and_then supported_in (first_hello says processor (init_frame plan processor.0))
+abbrev pub supported_by : Result Hello Breach → Result Supported Breach
+supported_by (Ok hello) = Ok (supported_in hello)
+supported_by (Err breach) = Err breach
+
+-- what a processor says that it supports, in its answer to the first frame, or how its child leaves the protocol there
+abbrev pub hello_of : Says → Plan → Try → Result Supported Breach
+hello_of says plan processor = supported_by (first_hello says processor (init_frame plan processor.0))
 
 -- a processor said Hello, or the run is refused; these were started before it, and none behind it is
-abbrev pub greeting : Plan → List Try → Try → Option Supported → Course Supported
-greeting plan before processor (Some supported) = Ok supported
-greeting plan before processor None = Err (record { sent = map (first_sent plan) (before ++ processor ∷ []); refusal = UnbuiltTalk processor.0 })
+abbrev pub greeting : Plan → List Try → Try → Result Supported Breach → Course Supported
+greeting plan before processor (Ok supported) = Ok supported
+greeting plan before processor (Err breach) = Err (record { sent = map (first_sent plan) (before ++ processor ∷ []); refusal = LeavesProtocol processor.0 breach })
 
 -- the processors behind these, in order: each is sent the first frame and says what it supports
 abbrev pub hellos_from : Says → Plan → List Try → List Try → Course (List Supported)
@@ -148,7 +153,7 @@ stopped_at p number sent refusal = record { sent = slice_set p.sent number sent;
 -- how far the run is after its act, and whether it claims what it was offered; or the refusal, which names it
 abbrev pub after_act : Discovered → Round → Progress → ℕ → Act → Course (Progress × Bool)
 after_act d r p number (Answered sent filings printed claimed) = Ok (with_act r p number sent filings printed, claimed)
-after_act d r p number (Broken sent filings) = Err (stopped_at p number sent (UnbuiltTalk (processor_at d number).0))
+after_act d r p number (Broken sent filings breach) = Err (stopped_at p number sent (LeavesProtocol (processor_at d number).0 breach))
 after_act d r p number (Overasked sent filings) = Err (stopped_at p number sent (TooManyQuestions (processor_at d number).0 (limit r.roots)))
 after_act d r p number (Differed sent filings said) = Err (stopped_at p number sent (ClaimBroken (processor_at d number).0 (claim_at d number) said))
 

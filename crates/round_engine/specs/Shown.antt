@@ -3,6 +3,7 @@ use Rattle.std.specs.Prelude.{◌≡◌, ◌≢◌, ◌⊎◌, ℕ, ◌+◌, ◌
 use Rattle.std.specs.List.{AllByRecursion}
 use Rattle.std.specs.Option.{option_map_or}
 use Rattle.apt_outside.specs.Child.{Says, Try, Child, Known, State, without}
+use Rattle.frame_breaches.specs.declared.breach.Breach.{Breach}
 use Rattle.processor_claims.specs.declared.supported.Supported.{Supported}
 use Rattle.processor_claims.specs.declared.turn.Turn.{Turn}
 use Rattle.processor_claims.specs.Asked as claims
@@ -314,14 +315,15 @@ pub record StopsAll (group : List ℕ) (old new : State) : Type 0 where
 
 -- one processor said Hello
 pub record SaysHello (plan : Plan) (processor : Try) (child : ℕ) (supported : Supported) (old new : State) : Type 0 where
-  pub hello : hello_of old.says plan processor ≡ Some supported
+  pub hello : hello_of old.says plan processor ≡ Ok supported
   pub tells : session.TellsOf child (HasBegun new.says processor (init_frame plan processor.0)) old new
   pub tried : new.tried ≡ old.tried ++ processor ∷ []
 
--- it did not, and was stopped
+-- it left the protocol, and was stopped
 pub record SaysNone (plan : Plan) (processor : Try) (refusal : Stop) (old new : State) : Type 0 where
-  pub hello : hello_of old.says plan processor ≡ None
-  pub is : refusal ≡ stop.Refused (stop.UnbuiltTalk processor.0)
+  pub breach : Breach
+  pub hello : hello_of old.says plan processor ≡ Err breach
+  pub is : refusal ≡ stop.Refused (stop.LeavesProtocol processor.0 breach)
   pub child : ℕ
   pub tells : session.TellsOf child (IsBegun processor (init_frame plan processor.0)) old new
   pub starts : new.starts ≡ old.starts + 1

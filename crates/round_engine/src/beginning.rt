@@ -30,19 +30,18 @@ pub(crate) struct Discovered {
     pub supported: List<Supported>,
 }
 
-// What a Hello says that its processor supports, or `None` where a name in it is no pattern.
-fn supported_in(alloc: Global, hello: Hello) -> Result<Option<Supported>, NoMemory>
+// What a Hello says that its processor supports. By the table of frames each of its names is a pattern.
+fn supported_in(alloc: Global, hello: Hello) -> Result<Supported, NoMemory>
     ensures { IfOk result (λ supported. supported ≡ supported_in hello) }
 {
     let claim = hello.claim;
     let mut patterns = List::new(alloc);
     for text in hello.patterns.into_vec() {
-        let Some(pattern) = Pattern::read(text) else {
-            return Ok(None);
-        };
-        patterns.push(pattern)?;
+        if let Some(pattern) = Pattern::read(text) {
+            patterns.push(pattern)?;
+        }
     }
-    Ok(Some(Supported { patterns, claim }))
+    Ok(Supported { patterns, claim })
 }
 
 // The names of processors.
@@ -92,14 +91,10 @@ fn begin_one<C: Children>(
         Err(fault) => return Err(refusal_by(name, fault)),
     };
     match supported_in(alloc, hello) {
-        Ok(Some(supported)) => return Ok((child, supported)),
-        Ok(None) => {
-            children.stop(child);
-            return Err(Refusal::UnbuiltTalk { processor: name });
-        }
+        Ok(supported) => Ok((child, supported)),
         Err(_) => {
             children.stop(child);
-            return Err(Refusal::Memory);
+            Err(Refusal::Memory)
         }
     }
 }

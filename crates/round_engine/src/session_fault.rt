@@ -15,7 +15,7 @@ pub(crate) fn refusal_by(processor: Name, fault: SessionFault) -> Refusal
 {
     match fault {
         SessionFault::Failed => Refusal::ChildFault { processor },
-        SessionFault::Unbuilt => Refusal::UnbuiltTalk { processor },
+        SessionFault::Breach(breach) => Refusal::Breach { processor, breach },
         SessionFault::TooManyQuestions { limit } => Refusal::TooManyQuestions { processor, limit },
         SessionFault::ClaimBroken { declared, said } => Refusal::ClaimBroken {
             processor,

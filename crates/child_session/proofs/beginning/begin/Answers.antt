@@ -1,4 +1,4 @@
-use Rattle.std.proofs.Common.{◌≡◌, None, Some, Ok, Err, ap, sym, subst, ◌∙◌, map, string_bytes, rules}
+use Rattle.std.proofs.Common.{◌≡◌, Ok, Err, ap, sym, subst, ◌∙◌, map, string_bytes, rules}
 use Rattle.std.proofs.lemmas.Result.{err_from_is_err_and}
 use Rattle.apt_outside.specs.Child.{Try, State, Tries, Begins, without}
 use Rattle.apt_outside.proofs.Live.{without_last}
@@ -12,10 +12,10 @@ returns-in-Err-clause-live g c =
     let child = c.in_ok-child.child in
     c.stop.ensures.live ∙ ap (without child) (c.exchange.ensures.live ∙ c.in_ok-child.ensures.live.joined) ∙ without_last child (g.C.Children.state c.args.children.now).live c.in_ok-child.ensures.live.fresh
 
-pub returns-in_default-clause-live : goal.returns-in_default-clause-live
-returns-in_default-clause-live g c =
+pub returns-in-Err-hello_in-clause-live : goal.returns-in-Err-hello_in-clause-live
+returns-in-Err-hello_in-clause-live g c =
     let child = c.in_ok-child.child in
-    c.stop-in_default.ensures.live ∙ ap (without child) (c.exchange.ensures.live ∙ c.in_ok-child.ensures.live.joined) ∙ without_last child (g.C.Children.state c.args.children.now).live c.in_ok-child.ensures.live.fresh
+    c.stop-in-Err-hello_in.ensures.live ∙ ap (without child) (c.exchange.ensures.live ∙ c.in_ok-child.ensures.live.joined) ∙ without_last child (g.C.Children.state c.args.children.now).live c.in_ok-child.ensures.live.fresh
 
 pub returns-in_err-child-clause-begins : goal.returns-in_err-child-clause-begins
 returns-in_err-child-clause-begins g c = λ told.
@@ -40,8 +40,8 @@ returns-in-Err-clause-begins g c = λ told.
     (begins_failed c.in_ok-child.child (c.args.name.now, command) c.args.init.now before started (C.state c.exchange.new.children) (c.in_ok-child.ensures.unknown told) (c.in_ok-child.ensures.says told) begins.begun begins.others tries.ok
     (c.exchange.ensures.attends told) (C.state c.stop.new.self) (c.stop.ensures.attends told) (c.stop.ensures.sent told) (c.stop.ensures.starts ∙ c.exchange.ensures.starts ∙ c.in_ok-child.ensures.starts.rose) c.in-Err.fault (c.in-Err.ensures.sent told))
 
-pub returns-in_default-clause-begins : goal.returns-in_default-clause-begins
-returns-in_default-clause-begins g c = λ told.
+pub returns-in-Err-hello_in-clause-begins : goal.returns-in-Err-hello_in-clause-begins
+returns-in-Err-hello_in-clause-begins g c = λ told.
     let C = g.C.Children in
     let command = map string_bytes c.args.command.now in
     let name_is : c.as_str.result.now ≡ c.args.name.now = search rules in
@@ -49,12 +49,12 @@ returns-in_default-clause-begins g c = λ told.
     let started : State = C.state c.start.new.self in
     let begins = subst (λ n. Begins (n, command) before started (Ok c.in_ok-child.child)) name_is (c.in_ok-child.ensures.child told) in
     let tries = subst (λ n. Tries (n, command) before started (Ok c.in_ok-child.child)) name_is (c.in_ok-child.ensures.tried told) in
-    let none : hello_in c.in-Ok.answer ≡ None = sym c.hello_in.ensures ∙ c.in_default.is in
+    let none : hello_in c.in-Ok.answer ≡ Err c.in-Err-hello_in.breach = sym c.hello_in.ensures ∙ c.in-Err-hello_in.is in
     begins_none c.in_ok-child.child (c.args.name.now, command) c.args.init.now before started (C.state c.exchange.new.children) (c.in_ok-child.ensures.unknown told) (c.in_ok-child.ensures.says told) begins.begun begins.others tries.ok
-    (c.exchange.ensures.attends told) c.in-Ok.answer (c.in-Ok.ensures.answer told) (C.state c.stop-in_default.new.self) (c.stop-in_default.ensures.attends told) (c.stop-in_default.ensures.sent told) none
+    (c.exchange.ensures.attends told) c.in-Ok.answer (c.in-Ok.ensures.answer told) (C.state c.stop-in-Err-hello_in.new.self) c.in-Err-hello_in.breach (c.stop-in-Err-hello_in.ensures.attends told) (c.stop-in-Err-hello_in.ensures.sent told) none
 
-pub returns-clause-begins : goal.returns-clause-begins
-returns-clause-begins g c = λ told.
+pub returns-in-Ok-hello_in-clause-begins : goal.returns-in-Ok-hello_in-clause-begins
+returns-in-Ok-hello_in-clause-begins g c = λ told.
     let C = g.C.Children in
     let command = map string_bytes c.args.command.now in
     let name_is : c.as_str.result.now ≡ c.args.name.now = search rules in
@@ -62,6 +62,6 @@ returns-clause-begins g c = λ told.
     let started : State = C.state c.start.new.self in
     let begins = subst (λ n. Begins (n, command) before started (Ok c.in_ok-child.child)) name_is (c.in_ok-child.ensures.child told) in
     let tries = subst (λ n. Tries (n, command) before started (Ok c.in_ok-child.child)) name_is (c.in_ok-child.ensures.tried told) in
-    let some : hello_in c.in-Ok.answer ≡ Some c.in-Some.hello = sym c.hello_in.ensures ∙ c.in-Some.is in
+    let some : hello_in c.in-Ok.answer ≡ Ok c.in-Ok-hello_in.hello = sym c.hello_in.ensures ∙ c.in-Ok-hello_in.is in
     begins_so c.in_ok-child.child (c.args.name.now, command) c.args.init.now before started (C.state c.exchange.new.children) (c.in_ok-child.ensures.unknown told) (c.in_ok-child.ensures.says told) begins.begun begins.others tries.ok
-    (c.exchange.ensures.attends told) c.in-Ok.answer (c.in-Ok.ensures.answer told) c.in-Some.hello some
+    (c.exchange.ensures.attends told) c.in-Ok.answer (c.in-Ok.ensures.answer told) c.in-Ok-hello_in.hello some

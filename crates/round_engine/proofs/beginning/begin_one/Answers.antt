@@ -5,13 +5,11 @@ use Rattle.apt_outside.specs.Child.{without}
 use Rattle.apt_outside.proofs.Live.{without_last}
 use Rattle.child_session.specs.Beginning as session
 use Rattle.project_units.specs.Refusals as stop
-use Rattle.project_units.specs.Refusals.{UnbuiltTalk, Names}
+use Rattle.project_units.specs.Refusals.{Names}
 use Rattle.project_units.specs.Faults.{stop_of}
 use Rattle.round_engine.specs.Faults.{of_session}
 use Rattle.project_units.specs.Plans.{init_frame, plan_of, try_of}
-use Rattle.round_engine.specs.Run.{supported_in}
-use Rattle.round_engine.specs.Shown.{StopsOne}
-use Rattle.round_engine.proofs.BegunProcessors.{untried, begins_err, stopped_memory, stopped_none}
+use Rattle.round_engine.proofs.BegunProcessors.{untried, begins_err, stopped_memory}
 use Rattle.round_engine.proofs.CountedStarts.{counted_by, stops_counted, hello_err, starts_memory, starts_one, starts_err}
 use Rattle.round_engine.proofs.beginning.begin_one.Goals as goal
 
@@ -34,14 +32,14 @@ stop-requires g c =
     let child = c.in-Ok.begun.0 in
     subst (λ live. Contains live child) (sym c.in-Ok.ensures.live.0) (Contains-append_right k0.live (child ∷ []) child (0, omega arith, refl))
 
-pub returns-in-Ok-None-clause-live : goal.returns-in-Ok-None-clause-live
-returns-in-Ok-None-clause-live g c =
+pub returns-in-Err-supported_in-clause-live : goal.returns-in-Err-supported_in-clause-live
+returns-in-Err-supported_in-clause-live g c =
     let k0 = g.C.Children.state c.args.children.now in
     let child = c.in-Ok.begun.0 in
     c.stop.ensures.live ∙ ap (without child) c.in-Ok.ensures.live.0 ∙ without_last child k0.live c.in-Ok.ensures.live.1
 
-pub returns-in-Ok-None-clause-begins : goal.returns-in-Ok-None-clause-begins
-returns-in-Ok-None-clause-begins g c = λ told.
+pub returns-in-Err-supported_in-clause-begins : goal.returns-in-Err-supported_in-clause-begins
+returns-in-Err-supported_in-clause-begins g c = λ told.
     let C = g.C.Children in
     let plan = plan_of c.args.key.now in
     let processor = c.args.processor.now in
@@ -54,38 +52,8 @@ returns-in-Ok-None-clause-begins g c = λ told.
     let init_is : c.as_slice-2.result.now ≡ init_frame plan processor.name = c.as_slice-2.ensures ∙ c.in_ok-init.ensures in
     let says = subst (λ words. session.SaysHello (processor.name, words) (init_frame plan processor.name) k0 k1 child hello) words_is
     (subst (λ init. session.SaysHello (processor.name, map string_bytes c.deref.result.now) init k0 k1 child hello) init_is (c.in-Ok.ensures.begins told)) in
-    let none : supported_in hello ≡ None = sym c.in-Ok-None.ensures ∙ c.in-Ok-None.field-0-is in
-    subst (λ n. StopsOne plan (try_of processor) (stop.Refused (UnbuiltTalk n)) k0 k2) (sym c.in_ok-name.ensures)
-    (stopped_none plan (try_of processor) k0 k1 child hello says c.in-Ok.ensures.starts k2 (c.stop.ensures.attends told) (c.stop.ensures.sent told) c.stop.ensures.starts none)
-
-pub stop-requires-in-Err-supported_in : goal.stop-requires-in-Err-supported_in
-stop-requires-in-Err-supported_in g c =
-    let k0 = g.C.Children.state c.args.children.now in
-    let child = c.in-Ok.begun.0 in
-    subst (λ live. Contains live child) (sym c.in-Ok.ensures.live.0) (Contains-append_right k0.live (child ∷ []) child (0, omega arith, refl))
-
-pub returns-in-Err-supported_in-clause-live : goal.returns-in-Err-supported_in-clause-live
-returns-in-Err-supported_in-clause-live g c =
-    let k0 = g.C.Children.state c.args.children.now in
-    let child = c.in-Ok.begun.0 in
-    c.stop-in-Err-supported_in.ensures.live ∙ ap (without child) c.in-Ok.ensures.live.0 ∙ without_last child k0.live c.in-Ok.ensures.live.1
-
-pub returns-in-Err-supported_in-clause-begins : goal.returns-in-Err-supported_in-clause-begins
-returns-in-Err-supported_in-clause-begins g c = λ told.
-    let C = g.C.Children in
-    let plan = plan_of c.args.key.now in
-    let processor = c.args.processor.now in
-    let k0 = C.state c.args.children.now in
-    let k1 = C.state c.begin.new.children in
-    let k2 = C.state c.stop-in-Err-supported_in.new.self in
-    let child = c.in-Ok.begun.0 in
-    let hello = c.in-Ok.begun.1 in
-    let words_is : map string_bytes c.deref.result.now ≡ processor.command = ap (map string_bytes) c.deref.ensures.value ∙ c.in_ok-words.ensures ∙ c.as_slice.ensures in
-    let init_is : c.as_slice-2.result.now ≡ init_frame plan processor.name = c.as_slice-2.ensures ∙ c.in_ok-init.ensures in
-    let says = subst (λ words. session.SaysHello (processor.name, words) (init_frame plan processor.name) k0 k1 child hello) words_is
-    (subst (λ init. session.SaysHello (processor.name, map string_bytes c.deref.result.now) init k0 k1 child hello) init_is (c.in-Ok.ensures.begins told)) in
-    stopped_memory plan (try_of processor) k0 k1 child hello says c.in-Ok.ensures.starts k2 (c.stop-in-Err-supported_in.ensures.attends told) (c.stop-in-Err-supported_in.ensures.sent told)
-    c.stop-in-Err-supported_in.ensures.starts
+    stopped_memory plan (try_of processor) k0 k1 child hello says c.in-Ok.ensures.starts k2 (c.stop.ensures.attends told) (c.stop.ensures.sent told)
+    c.stop.ensures.starts
 
 pub returns-in_err-name-clause-starts : goal.returns-in_err-name-clause-starts
 returns-in_err-name-clause-starts g c =
@@ -134,15 +102,10 @@ returns-in-Err-clause-starts g c =
 pub returns-in-Err-clause-hello : goal.returns-in-Err-clause-hello
 returns-in-Err-clause-hello g c = hello_err c.in_ok-name.name c.in-Err.fault (stop_of c.refusal_by.result) c.in-Err.ensures.refused (inl c.refusal_by.ensures.is)
 
-pub returns-in-Ok-None-clause-starts : goal.returns-in-Ok-None-clause-starts
-returns-in-Ok-None-clause-starts g c =
-    let C = g.C.Children in
-    starts_one (stop.Refused (UnbuiltTalk c.in_ok-name.name)) (C.state c.args.children.now) (C.state c.stop.new.self) refl (c.stop.ensures.starts ∙ c.in-Ok.ensures.starts)
-
 pub returns-in-Err-supported_in-clause-starts : goal.returns-in-Err-supported_in-clause-starts
 returns-in-Err-supported_in-clause-starts g c =
     let C = g.C.Children in
-    starts_one stop.Memory (C.state c.args.children.now) (C.state c.stop-in-Err-supported_in.new.self) refl (c.stop-in-Err-supported_in.ensures.starts ∙ c.in-Ok.ensures.starts)
+    starts_one stop.Memory (C.state c.args.children.now) (C.state c.stop.new.self) refl (c.stop.ensures.starts ∙ c.in-Ok.ensures.starts)
 
 pub returns-in_err-name-clause-counted : goal.returns-in_err-name-clause-counted
 returns-in_err-name-clause-counted g c = λ told.
@@ -164,19 +127,13 @@ returns-in-Err-clause-counted g c = λ told.
     let C = g.C.Children in
     stops_counted (plan_of c.args.key.now) (try_of c.args.processor.now) (stop_of c.refusal_by.result) (C.state c.args.children.now) (C.state c.begin.new.children) (returns-in-Err-clause-begins g c told)
 
-pub returns-in-Ok-None-clause-counted : goal.returns-in-Ok-None-clause-counted
-returns-in-Ok-None-clause-counted g c = λ told.
-    let C = g.C.Children in
-    stops_counted (plan_of c.args.key.now) (try_of c.args.processor.now) (stop.Refused (UnbuiltTalk c.in_ok-name.name)) (C.state c.args.children.now) (C.state c.stop.new.self)
-    (returns-in-Ok-None-clause-begins g c told)
-
 pub returns-in-Err-supported_in-clause-counted : goal.returns-in-Err-supported_in-clause-counted
 returns-in-Err-supported_in-clause-counted g c = λ told.
     let C = g.C.Children in
-    stops_counted (plan_of c.args.key.now) (try_of c.args.processor.now) stop.Memory (C.state c.args.children.now) (C.state c.stop-in-Err-supported_in.new.self)
+    stops_counted (plan_of c.args.key.now) (try_of c.args.processor.now) stop.Memory (C.state c.args.children.now) (C.state c.stop.new.self)
     (returns-in-Err-supported_in-clause-begins g c told)
 
-pub returns-in-Ok-Some-clause-counted : goal.returns-in-Ok-Some-clause-counted
-returns-in-Ok-Some-clause-counted g c = λ told.
+pub returns-in-Ok-supported_in-clause-counted : goal.returns-in-Ok-supported_in-clause-counted
+returns-in-Ok-supported_in-clause-counted g c = λ told.
     let C = g.C.Children in
     counted_by _ (C.state c.args.children.now) (C.state c.begin.new.children) (c.in-Ok.ensures.begins told).tried c.in-Ok.ensures.starts
