@@ -20,9 +20,9 @@ use Rattle.type_numbers.proofs.NumberLaws.{grown-all_known, grown-types}
 use Rattle.type_members.specs.Gathered.{is_among, has_at, Adds, AddsEach, AddsSteps, types_of, IsGathering}
 use Rattle.type_members.specs.MemberOf.{is_of}
 use Rattle.type_members.specs.Once.{with_new}
-use Rattle.type_members.specs.Reached.{types_from, steps_from, reached_within, IsReached}
+use Rattle.type_members.specs.Reached.{types_from, steps_from, reached_within, IsReached, most_reached, is_reached}
 use Rattle.type_members.proofs.NextLevels.{new_known, take_more}
-use Rattle.type_members.proofs.ReachedLaws.{closed_tests_hold, steps_reach, itself, flipped, or_first, or_last}
+use Rattle.type_members.proofs.ReachedLaws.{closed_tests_hold, steps_reach, with_more, test_true, test_false, itself, flipped, or_first, or_last}
 
 -- ---- lists
 
@@ -168,7 +168,7 @@ module _ (table : TypeTable) (from to : ElementRef) where
       record {
         known = subst (AreKnown t) (sym e) (stands.known, tt);
         itself = one from ∙ itself from;
-        reached = λ element has. (0, at_once table from element (flipped element from (sym (one element) ∙ has)));
+        reached = λ element has. at_once table from element (flipped element from (sym (one element) ∙ has));
         closed = λ element next has step. absurd (false≢true has);
         missed = refl;
       }
@@ -190,7 +190,7 @@ module _ (table : TypeTable) (from to : ElementRef) where
         list_any_at (is_of element) (map (at t) numbers) done (at t 0) (subst (λ (n : ℕ). done < n) (sym (length-map numbers (at t))) less) (ap (is_of element) same ∙ of)
 
     -- what is looked for is found
-    pub finds : is_of to (at t number) ≡ true → IsReached table from to
+    pub finds : is_of to (at t number) ≡ true → reached_within table done from to ≡ true
     finds of = so_far.reached to (has_one to of)
 
     module _ (t' : List Mirror) (longer : List ℕ) (g : Grows t t') (adds : AddsSteps table t t' numbers longer number) where
@@ -205,13 +205,15 @@ module _ (table : TypeTable) (from to : ElementRef) where
           by (Some is) of = steps_of table is next ∙ ap (λ (e : ElementRef). is_among (steps_from table e) next) (sym (same_element-true element is of)) ∙ step
 
       -- an element to which a step leads is reached
-      step_reached : (element : ElementRef) → list_any (is_of element) (types_of table (class_element (at t number))) ≡ true → IsReached table from element
+      step_reached : (element : ElementRef) → list_any (is_of element) (types_of table (class_element (at t number))) ≡ true
+          → reached_within table (done + 1) from element ≡ true
       step_reached element has = by (class_element (at t number)) refl has
         where
-          by : (o : Option ElementRef) → class_element (at t number) ≡ o → list_any (is_of element) (types_of table o) ≡ true → IsReached table from element
+          by : (o : Option ElementRef) → class_element (at t number) ≡ o → list_any (is_of element) (types_of table o) ≡ true
+              → reached_within table (done + 1) from element ≡ true
           by None e has = absurd (false≢true has)
           by (Some is) e has =
-              steps_reach table from is element (so_far.reached is (has_one is (of_element is is (at t number) e ∙ itself is))) (sym (steps_of table is element) ∙ has)
+              steps_reach table from is element done (so_far.reached is (has_one is (of_element is is (at t number) e ∙ itself is))) (sym (steps_of table is element) ∙ has)
 
       same_front : take (done + 1) longer ≡ take (done + 1) numbers
       same_front = ap (take (done + 1)) adds.behind ∙ take-append-le (done + 1) numbers adds.more (omega (arith, less))
@@ -230,8 +232,8 @@ module _ (table : TypeTable) (from to : ElementRef) where
         known = adds.known;
         itself = has_before from so_far.itself;
         reached = λ element has.
-            or_cases (has_at t numbers element) (list_any (is_of element) (types_of table (class_element (at t number)))) (IsReached table from element)
-            (sym (adds.has element) ∙ has) (so_far.reached element) (step_reached element);
+            or_cases (has_at t numbers element) (list_any (is_of element) (types_of table (class_element (at t number)))) (reached_within table (done + 1) from element ≡ true)
+            (sym (adds.has element) ∙ has) (λ before. with_more table element done (done + 1) from (omega arith) (so_far.reached element before)) (step_reached element);
         closed = λ element next has step.
             or_cases (has_at t (take done numbers) element) (is_of element (at t number)) (has_at t' longer next ≡ true) (sym (has_front element) ∙ has)
             (λ before. has_before next (so_far.closed element next before step))
@@ -256,4 +258,14 @@ module _ (table : TypeTable) (from to : ElementRef) where
 
   pub answers_found : (t : List Mirror) (numbers : List ℕ) (done : ℕ) → IsGathering table from to t numbers done → done < length numbers
       → is_of to (at t (get_or numbers done 0)) ≡ true → IsTrue true ↔ IsReached table from to
-  answers_found t numbers done so_far less of = (λ e. finds t numbers done so_far less of, λ reached. refl)
+  answers_found t numbers done so_far less of = (λ e. (done, finds t numbers done so_far less of), λ reached. refl)
+
+  -- ---- the same as a test
+
+  pub tests_absent : (t : List Mirror) (numbers : List ℕ) (done : ℕ) → IsGathering table from to t numbers done → length numbers ≤ done
+      → false ≡ is_reached table from to
+  tests_absent t numbers done so_far all = test_false table to from (gathered_all t numbers done so_far all)
+
+  pub tests_found : (t : List Mirror) (numbers : List ℕ) (done : ℕ) → IsGathering table from to t numbers done → done < length numbers → done ≤ most_reached
+      → is_of to (at t (get_or numbers done 0)) ≡ true → true ≡ is_reached table from to
+  tests_found t numbers done so_far less few of = test_true table to done from few (finds t numbers done so_far less of)

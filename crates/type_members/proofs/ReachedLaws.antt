@@ -1,5 +1,5 @@
 -- What is reached by steps: a test that holds behind each step holds of all of it, and one step more is reached too.
-use Rattle.std.proofs.Common.{◌≡◌, ℕ, zero, suc, Bool, true, false, ◌&&◌, ◌||◌, List, [], ◌∷◌, refl, sym, ap, ◌∙◌, subst}
+use Rattle.std.proofs.Common.{◌≡◌, ℕ, ◌+◌, ◌-◌, ◌≤◌, zero, suc, Bool, true, false, ◌&&◌, ◌||◌, List, [], ◌∷◌, refl, sym, ap, ◌∙◌, subst, arith}
 use Rattle.std.proofs.lemmas.Bool.{false≢true}
 use Rattle.std.proofs.lemmas.Slice.Eq.{bytes_eq-Decides}
 use Rattle.std.specs.List.{list_any}
@@ -8,7 +8,7 @@ use Rattle.apt_base.specs.Elements.{same_element}
 use Rattle.apt_base.specs.declared.element.ElementRef.{ElementRef}
 use Rattle.element_table.specs.TypeTable.{TypeTable}
 use Rattle.type_mirror.proofs.Replacements.{same_element-true}
-use Rattle.type_members.specs.Reached.{steps_from, reached_within}
+use Rattle.type_members.specs.Reached.{steps_from, reached_within, IsReached, most_reached, is_reached}
 use Rattle.type_members.specs.Gathered.{is_among, ClosedTestsHold, StepsReach}
 
 pub itself : (at : ElementRef) → same_element at at ≡ true
@@ -96,5 +96,52 @@ module _ (table : TypeTable) (e next : ElementRef) (step : is_among (steps_from 
       by false is reached more =
           any_more (λ x. reached_within table n x e) (λ x. reached_within table (suc n) x next) more (steps_from table from) reached
 
+-- one step further from what is reached by so many
 pub steps_reach : StepsReach
-steps_reach table from e next reached step = (suc reached.0, further_on table e next step reached.0 from reached.1)
+steps_reach table from e next n reached step =
+    let same : suc n ≡ n + 1 = omega arith in
+    subst (λ (k : ℕ). reached_within table k from next ≡ true) same (further_on table e next step n from reached)
+
+-- ---- more steps
+
+module _ (table : TypeTable) (to : ElementRef) where
+  one_more : (n : ℕ) (from : ElementRef) → reached_within table n from to ≡ true → reached_within table (suc n) from to ≡ true
+  unfolding reached_within
+  one_more zero from reached = or_first (same_element from to) _ reached
+  one_more (suc n) from reached = by (same_element from to) refl reached (one_more n)
+    where
+      by : (b : Bool) → same_element from to ≡ b → (b || list_any (λ x. reached_within table n x to) (steps_from table from)) ≡ true
+          → ((x : ElementRef) → reached_within table n x to ≡ true → reached_within table (suc n) x to ≡ true)
+          → (same_element from to || list_any (λ x. reached_within table (suc n) x to) (steps_from table from)) ≡ true
+      by true is reached more = or_first (same_element from to) _ is
+      by false is reached more =
+          or_last (same_element from to) _
+          (any_more (λ x. reached_within table n x to) (λ x. reached_within table (suc n) x to) more (steps_from table from) reached)
+
+  so_many_more : (more n : ℕ) (from : ElementRef) → reached_within table n from to ≡ true → reached_within table (more + n) from to ≡ true
+  so_many_more zero n from reached =
+      let same : n ≡ 0 + n = omega arith in
+      subst (λ (k : ℕ). reached_within table k from to ≡ true) same reached
+  so_many_more (suc more) n from reached =
+      let same : suc (more + n) ≡ suc more + n = omega arith in
+      subst (λ (k : ℕ). reached_within table k from to ≡ true) same (one_more (more + n) from (so_many_more more n from reached))
+
+  -- what is reached by some steps is reached by more
+  pub with_more : (n m : ℕ) (from : ElementRef) → n ≤ m → reached_within table n from to ≡ true → reached_within table m from to ≡ true
+  with_more n m from less reached =
+      let same : m - n + n ≡ m = omega (arith, less) in
+      subst (λ (k : ℕ). reached_within table k from to ≡ true) same (so_many_more (m - n) n from reached)
+
+  -- ---- the test
+
+  pub test_true : (n : ℕ) (from : ElementRef) → n ≤ most_reached → reached_within table n from to ≡ true → true ≡ is_reached table from to
+  unfolding is_reached
+  test_true n from less reached = sym (with_more n most_reached from less reached)
+
+  pub test_false : (from : ElementRef) → (IsReached table from to → ⊥) → false ≡ is_reached table from to
+  unfolding is_reached
+  test_false from not = by (reached_within table most_reached from to) refl
+    where
+      by : (b : Bool) → reached_within table most_reached from to ≡ b → false ≡ b
+      by true is = absurd (not (most_reached, is))
+      by false is = refl

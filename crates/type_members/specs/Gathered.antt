@@ -1,5 +1,5 @@
 -- How the types that are reached from a type are gathered: by the numbers of class types of them, and how many of these were looked at.
-use Rattle.std.specs.Prelude.{◌≡◌, ℕ, Bool, true, false, ◌||◌, List, [], ◌++◌, map, take, Option, None, Some}
+use Rattle.std.specs.Prelude.{◌≡◌, ℕ, ◌+◌, Bool, true, false, ◌||◌, List, [], ◌++◌, map, take, Option, None, Some}
 use Rattle.std.specs.List.{list_any}
 use Rattle.apt_base.specs.Elements.{same_element}
 use Rattle.apt_base.specs.declared.element.ElementRef.{ElementRef}
@@ -8,7 +8,7 @@ use Rattle.type_mirror.specs.declared.mirror.Mirror.{Mirror}
 use Rattle.type_elements.specs.MemberElements.{class_element}
 use Rattle.type_numbers.specs.Numbers.{at, AreKnown}
 use Rattle.type_members.specs.MemberOf.{is_of}
-use Rattle.type_members.specs.Reached.{steps_from, types_from, IsReached}
+use Rattle.type_members.specs.Reached.{steps_from, types_from, reached_within, IsReached}
 
 -- ---- elements
 
@@ -44,8 +44,8 @@ AddsSteps table old new numbers longer number = Adds old new numbers longer (typ
 pub record IsGathering (table : TypeTable) (from to : ElementRef) (types : List Mirror) (numbers : List ℕ) (done : ℕ) : Type 0 where
   pub known : AreKnown types numbers
   pub itself : has_at types numbers from ≡ true
-  -- each is reached
-  pub reached : (element : ElementRef) → has_at types numbers element ≡ true → IsReached table from element
+  -- each is reached by at most as many steps as elements were looked at
+  pub reached : (element : ElementRef) → has_at types numbers element ≡ true → reached_within table done from element ≡ true
   -- a step from one that was looked at leads to one of the list
   pub closed : (element next : ElementRef) → has_at types (take done numbers) element ≡ true → is_among (steps_from table element) next ≡ true
       → has_at types numbers next ≡ true
@@ -61,8 +61,9 @@ ClosedTestsHold =
     → ((element next : ElementRef) → test element ≡ true → is_among (steps_from table element) next ≡ true → test next ≡ true)
     → test from ≡ true → IsReached table from to → test to ≡ true
 
--- what a step leads to from what is reached is reached
+-- what a step leads to from what is reached by so many steps is reached by one step more
 abbrev pub StepsReach : Type 0
 StepsReach =
-    (table : TypeTable) (from element next : ElementRef)
-    → IsReached table from element → is_among (steps_from table element) next ≡ true → IsReached table from next
+    (table : TypeTable) (from element next : ElementRef) (n : ℕ)
+    → reached_within table n from element ≡ true → is_among (steps_from table element) next ≡ true
+    → reached_within table (n + 1) from next ≡ true

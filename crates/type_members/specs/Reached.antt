@@ -31,3 +31,11 @@ IsReached table from to = (n : ℕ) × IsTrue (reached_within table n from to)
 abbrev pub IsReachedFrom : TypeTable → Option ElementRef → ElementRef → Type 0
 IsReachedFrom table None to = ⊥
 IsReachedFrom table (Some from) to = IsReached table from to
+
+-- how many types are looked at: a way that comes to no type twice has fewer steps than a table has types
+abbrev pub most_reached : ℕ
+most_reached = 65536
+
+-- by at most as many steps, as a test
+unfoldable pub is_reached : TypeTable → ElementRef → ElementRef → Bool
+is_reached table from to = reached_within table most_reached from to

@@ -4,7 +4,7 @@ ghost use Rattle.type_elements.specs.MemberElements.{class_element};
 ghost use Rattle.type_layers.specs.Layers.{declared_mirror};
 ghost use Rattle.type_numbers.specs.Numbers.{at, IsKnown, AreKnown, Stands, AllStand, Grows};
 ghost use Rattle.type_members.specs.Gathered.{Adds, AddsEach, AddsSteps};
-ghost use Rattle.type_members.specs.Reached.{types_from, IsReached};
+ghost use Rattle.type_members.specs.Reached.{types_from, IsReached, is_reached};
 
 use crate::levels::Level;
 use crate::member_types::{is_of, number_of};
@@ -132,7 +132,8 @@ pub fn is_reached(
     from: &ElementRef,
     to: &ElementRef,
 ) -> Result<bool, NoMemory>
-    ensures { IfOk result (λ r. IsTrue r ↔ IsReached table.now from.now to.now) }
+    ensures reached { IfOk result (λ r. IsTrue r ↔ IsReached table.now from.now to.now) }
+    ensures test { IfOk result (λ r. r ≡ is_reached table.now from.now to.now) }
 {
     let mut types = Types::new(alloc);
     let first = bare_class(alloc, &mut types, from.copy(alloc)?)?;

@@ -10,7 +10,7 @@ use Rattle.type_resolve.specs.Scopes.{is_type}
 use Rattle.type_relations.specs.Elements.{is_there, around_of}
 use Rattle.type_elements.specs.MemberElements.{class_element}
 use Rattle.type_members.specs.MemberOf.{member_of}
-use Rattle.type_members.specs.Reached.{IsReachedFrom}
+use Rattle.type_members.specs.Reached.{IsReachedFrom, is_reached}
 use Rattle.type_queries.specs.Verdicts.{are_there}
 use Rattle.type_queries.specs.declared.fault.QueryFault.{QueryFault}
 use Rattle.type_queries.specs.declared.fault.QueryFault.TheVariants as fault
@@ -32,6 +32,14 @@ IsIn table from at = (is_in_type table at ≡ true) × IsReachedFrom table from 
 -- a class type, and an element in a type that is reached from the element of the class type
 abbrev pub AreOfKind : TypeTable → Mirror → ElementRef → Type 0
 AreOfKind table container at = IsIn table (class_element container) at
+
+-- the same as a test
+abbrev pub is_in : TypeTable → Option ElementRef → ElementRef → Bool
+is_in table None at = false
+is_in table (Some from) at = is_in_type table at && is_reached table from (around_of table at)
+
+abbrev pub is_member_of : TypeTable → Mirror → ElementRef → Bool
+is_member_of table container at = is_in table (class_element container) at
 
 abbrev pub both_there : TypeTable → Mirror → ElementRef → Bool
 both_there table container at = are_there table container && is_there table at

@@ -10,7 +10,7 @@ use type_numbers::{Node, Types};
 
 /// Whether it is the types of a method or a constructor. It takes no memory.
 #[tactic(auto, unfolding(type_layers::specs::Layers::layer))]
-pub(crate) fn is_executable(of: &Mirror) -> bool
+pub fn is_executable(of: &Mirror) -> bool
     ensures { result ≡ questions.is_executable (layer of.now) }
 {
     match of.around.as_slice() {
@@ -23,7 +23,7 @@ pub(crate) fn is_executable(of: &Mirror) -> bool
 
 /// Whether it stands for a package. It takes no memory.
 #[tactic(auto, unfolding(type_layers::specs::Layers::layer))]
-pub(crate) fn is_package(of: &Mirror) -> bool
+pub fn is_package(of: &Mirror) -> bool
     ensures { result ≡ questions.is_package (layer of.now) }
 {
     match of.around.as_slice() {
@@ -34,8 +34,8 @@ pub(crate) fn is_package(of: &Mirror) -> bool
     }
 }
 
-/// Whether it is neither of these. It takes no memory.
-pub(crate) fn is_type(of: &Mirror) -> bool
+/// Whether it is neither the types of a method or a constructor nor a package. It takes no memory.
+pub fn is_type(of: &Mirror) -> bool
     ensures { result ≡ questions.is_type of.now }
 {
     !is_executable(of) && !is_package(of)

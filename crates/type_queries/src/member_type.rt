@@ -38,7 +38,8 @@ fn is_type_parameter(table: &Table, at: &ElementRef) -> bool
 
 // Whether it is in a type that is this element or is reached from it.
 fn is_in(alloc: Global, table: &Table, from: &ElementRef, at: &ElementRef) -> Result<bool, NoMemory>
-    ensures { IfOk result (λ r. IsTrue r ↔ IsIn table.now (Some from.now) at.now) }
+    ensures kind { IfOk result (λ r. IsTrue r ↔ IsIn table.now (Some from.now) at.now) }
+    ensures test { IfOk result (λ r. r ≡ question.is_in table.now (Some from.now) at.now) }
 {
     if is_type_parameter(table, at) {
         return Ok(false);
@@ -50,14 +51,20 @@ fn is_in(alloc: Global, table: &Table, from: &ElementRef, at: &ElementRef) -> Re
     is_reached(alloc, table, from, &around)
 }
 
-// Whether the first one is a class type, and the element is in a type that is reached from it.
-fn are_of_kind(
+/// Whether the first one is a class type, and the element one that may be its member: no type parameter, and in a type
+/// that is the element of the class type or is reached from it by any number of direct supertypes. Where nothing stands
+/// at the element it is no member.
+///
+/// Out of memory comes also where that type is not among the first 65,536 types that are reached, nearest first, and
+/// there are more.
+pub fn is_member_of(
     alloc: Global,
     table: &Table,
     container: &Mirror,
     at: &ElementRef,
 ) -> Result<bool, NoMemory>
-    ensures { IfOk result (λ r. IsTrue r ↔ AreOfKind table.now container.now at.now) }
+    ensures kind { IfOk result (λ r. IsTrue r ↔ AreOfKind table.now container.now at.now) }
+    ensures test { IfOk result (λ r. r ≡ question.is_member_of table.now container.now at.now) }
 {
     match class_element(container) {
         None => Ok(false),
@@ -100,7 +107,7 @@ pub fn as_member_of(
     if !both_there(table, container, at) {
         return Err(QueryFault::NoSuch);
     }
-    if !are_of_kind(alloc, table, container, at)? {
+    if !is_member_of(alloc, table, container, at)? {
         return Err(QueryFault::WrongKind);
     }
     match type_of_member(alloc, table, container, at)? {

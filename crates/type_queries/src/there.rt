@@ -11,7 +11,8 @@ use element_table::Table;
 use type_mirror::{BaseMirror, DeclaredMirror, ExecutableMirror, Mirror};
 use type_relations::is_there;
 
-fn each_is_there(table: &Table, list: &[ElementRef]) -> bool
+/// Whether each of these elements is there. It takes no memory.
+pub fn each_is_there(table: &Table, list: &[ElementRef]) -> bool
     ensures { result ≡ list_all (elements.is_there table.now) list.now }
 {
     for each in list {
@@ -22,10 +23,10 @@ fn each_is_there(table: &Table, list: &[ElementRef]) -> bool
     true
 }
 
-/// Whether each element that the mirror names is there.
+/// Whether each element that the mirror names is there. It takes no memory.
 #[cycle(are_there)]
 #[tactic(auto, using(crate::proofs::NamedElements::named))]
-pub(crate) fn are_there(table: &Table, mirror: &Mirror) -> bool
+pub fn are_there(table: &Table, mirror: &Mirror) -> bool
     ensures { result ≡ verdicts.are_there table.now mirror.now }
 {
     base_there(table, &mirror.base)
@@ -50,8 +51,9 @@ fn base_there(table: &Table, base: &BaseMirror) -> bool
     }
 }
 
+/// Whether each element that these mirrors name is there. It takes no memory.
 #[cycle(are_there)]
-fn all_there(table: &Table, mirrors: &[Mirror]) -> bool
+pub fn all_there(table: &Table, mirrors: &[Mirror]) -> bool
     ensures { result ≡ list_all (verdicts.are_there table.now) mirrors.now }
 {
     for each in mirrors {
