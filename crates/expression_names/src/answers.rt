@@ -44,6 +44,7 @@ fn key_of(alloc: Global, levels: usize, at: &ElementRef, name: &str) -> Result<S
 }
 
 impl<'a> Answers<'a> {
+    /// Nothing was asked yet. It takes no memory.
     pub fn new(alloc: Global) -> Self
         ensures { result.list.items ≡ [] }
     {

@@ -20,6 +20,9 @@ use std::alloc::Global;
 use type_elements::class_elements;
 use type_resolve::header_types;
 
+/// How many members of a type are compared one by one: up to about as many a look-up takes longer.
+const MOST_COMPARED: usize = 32;
+
 // ---- fields
 
 fn is_field_named(name: &str, place: Place<'_>) -> bool
@@ -71,7 +74,19 @@ fn fields_at<'a>(
     Ok(finds)
 }
 
-/// The fields and enum constants of this name that a type declares (JLS 8.3, 8.9.1, 9.3).
+/// Whether few children stand there, so that they are compared one by one.
+pub(crate) fn has_few_children(of: &Found<'_>) -> bool {
+    let Some(place) = place_at(of.unit, of.path.as_slice()) else {
+        return true;
+    };
+    match place.declaration() {
+        Some(declaration) => declaration.members.len() <= MOST_COMPARED,
+        None => true,
+    }
+}
+
+/// The fields and enum constants of this name that a type declares (JLS 8.3, 8.9.1, 9.3), by a comparison of all
+/// its children.
 pub(crate) fn declared_fields<'a>(
     alloc: Global,
     of: &Found<'a>,

@@ -5,16 +5,19 @@ ghost use Rattle.name_resolve.specs.Finds.{Nothing, together};
 ghost use Rattle.name_resolve.specs.Placed.{IsPlaced, ArePlaced};
 ghost use Rattle.name_resolve.specs.Shown.{find_of, finds_of, Gives};
 ghost use Rattle.type_resolve.specs.Scopes.{find_in};
-ghost use Rattle.expression_names.specs.Fields.{fields_within, fields, fields_of};
+ghost use Rattle.expression_names.specs.Fields.{declared_fields, fields_within, fields, fields_of};
 ghost use Rattle.expression_names.specs.Remembered.{HasNoFields};
 
 use crate::answers::{Answer, Answers};
-use crate::declared::{declared_fields, supertypes};
+use crate::declared::{declared_fields, has_few_children, supertypes};
+use crate::field_rows::rows_of;
+use crate::known_rows::KnownRows;
 use apt_base::{ElementRef, MAX_TYPE_STEPS, NoMemory};
 use element_table::Table;
 use name_resolve::{Finds, Found, Looks, both, copied_finds};
 use std::alloc::Global;
 use std::marker::Model;
+use std::mem;
 use type_resolve::found_in;
 
 /// The levels of supertypes through which fields are inherited.
@@ -30,6 +33,8 @@ pub struct Fields<'a> {
     pub(crate) table: &'a Table,
     pub(crate) looks: Looks<'a>,
     answers: Answers<'a>,
+    // The fields of types with many children, by their names.
+    rows: KnownRows<'a>,
 }
 
 impl<'a> Model for Fields<'a> {
@@ -43,7 +48,7 @@ impl<'a> Model for Fields<'a> {
 
     ghost view = { λ a. a.table.now };
 
-    ghost invariant = { λ a. IsRemembered a.table.now a.looks a.answers };
+    ghost invariant = { λ a. IsRemembered a.table.now a.looks a.answers a.rows };
 }
 
 /// Whether nothing was found.
@@ -86,7 +91,42 @@ impl<'a> Fields<'a> {
             table,
             looks: Looks::new(alloc, table),
             answers: Answers::new(alloc),
+            rows: KnownRows::new(alloc),
         }
+    }
+
+    // The fields of this name that a type declares. Of a type with many children it takes the time of a look-up,
+    // once the type was asked twice.
+    fn own_fields(&mut self, of: &Found<'a>, name: &str) -> Result<Finds<'a>, NoMemory>
+        requires placed { IsPlaced self.old (find_of of.now) }
+        ensures value { Gives result (declared_fields (find_of of.now) name.now) }
+        ensures kept { self.new ≡ self.old }
+    {
+        if has_few_children(of) {
+            return declared_fields(self.alloc, of, name);
+        }
+        if let Some(finds) = self.rows.find(of, name)? {
+            return Ok(finds);
+        }
+        if !self.rows.is_asked_again(of)? {
+            return declared_fields(self.alloc, of, name);
+        }
+        let rows = rows_of(self.alloc, of)?;
+        let finds = rows.find(self.alloc, name)?;
+        self.rows.add(rows)?;
+        Ok(finds)
+    }
+
+    /// Makes the look-ups of types anew where many questions are remembered.
+    pub(crate) fn make_room(&mut self)
+        ensures { self.new ≡ self.old }
+    {
+        if self.looks.are_few() {
+            return;
+        }
+        let none = Looks::new(self.alloc, self.table);
+        let many = mem::replace(&mut self.looks, none);
+        drop(many);
     }
 
     // ---- by levels of supertypes
@@ -149,7 +189,7 @@ impl<'a> Fields<'a> {
         ensures value { Gives result (fields_within self.old levels (find_of of.now) name.now) }
         ensures kept { self.new ≡ self.old }
     {
-        let own = declared_fields(self.alloc, of, name)?;
+        let own = self.own_fields(of, name)?;
         if !is_nothing(&own) {
             return Ok(own);
         }

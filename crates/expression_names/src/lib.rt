@@ -6,14 +6,18 @@
 //! supertypes. Neither access nor `static` is tested. `specs/Remembered` says what is remembered.
 //!
 //! A type is asked for the fields of a name once for each number of levels that are left, so that types that
-//! are reached along many ways cost no more than these.
+//! are reached along many ways cost no more than these. The fields of a type with more than 32 members are found by
+//! their names in an ordered map, which is made when the type is asked again: each name then takes the time of a
+//! look-up.
 //!
 //! Not promised: that memory is there.
 #![tactic(auto)]
 
 mod answers;
 mod declared;
+mod field_rows;
 mod fields;
+mod known_rows;
 mod meanings;
 
 pub use fields::Fields;

@@ -203,6 +203,7 @@ impl<'a> Fields<'a> {
         ensures placed { IfOk result (λ f. ArePlaced self.old (finds_of f)) }
         ensures kept { self.new ≡ self.old }
     {
+        self.make_room();
         let finds = self.field_meaning(at, names)?;
         Ok(finds)
     }

@@ -14,12 +14,14 @@ fields_within-returns-clause-value t c =
     let f = find_of c.args.of.now in
     let name = c.args.name.now in
     let levels = c.args.levels in
-    let none : declared_fields f name ≡ Nothing = sym c.in_ok-own.ensures ∙ c.is_nothing.ensures.0 (search rules) in
+    let none : declared_fields f name ≡ Nothing = sym c.in_ok-own.ensures.value ∙ c.is_nothing.ensures.0 (search rules) in
     let some : 0 < levels = omega arith in
+    let kept : c.own_fields.new.self ≡ table = c.in_ok-own.ensures.kept in
     subst (λ (x : Finds). Gives c.together.result x)
     (
-    ap (λ (types : List ElementRef). together (map (λ at. fields_within table (levels - 1) (find_in table at) name) types))
-    (c.as_slice.ensures ∙ c.in_ok-types.ensures ∙ ap (λ u. supertypes u f) c.self.view_is)
+    ap (λ u. together (map (λ at. fields_within u (levels - 1) (find_in u at) name) c.as_slice.result.now)) kept
+    ∙ ap (λ (types : List ElementRef). together (map (λ at. fields_within table (levels - 1) (find_in table at) name) types))
+    (c.as_slice.ensures ∙ c.in_ok-types.ensures ∙ ap (λ u. supertypes u f) (c.self.view_is ∙ kept))
     ∙ within-more table f name levels some none
     )
     c.together.ensures.value

@@ -5,4 +5,5 @@ invariant_of-self c = record {
   is_table = c.self.invariant.is_table;
   over = c.self.invariant.over;
   right = c.make_room.ensures c.self.inside.table.now c.self.invariant.right;
+  known = c.self.invariant.known;
 }
