@@ -2,7 +2,7 @@
 use Rattle.std.specs.Prelude.{◌≡◌, ℕ, Bool, true, false, not, ◌&&◌, List, ◌∷◌, Some, is_some}
 use Rattle.std.specs.List.{AllByRecursion}
 use Rattle.apt_base.specs.declared.element.ElementRef.{ElementRef}
-use Rattle.element_table.specs.TypeTable.{TypeTable, unit_of}
+use Rattle.element_table.specs.TypeTable.{TypeTable, IsTable, unit_of}
 use Rattle.name_resolve.specs.Ways.{type_at}
 use Rattle.name_resolve.specs.Finds.{Find, Finds, Nothing, One, Several, declared_types}
 use Rattle.name_resolve.specs.Meaning.{Within, meaning}
@@ -61,6 +61,7 @@ AreSuperclasses table superclasses = AllByRecursion (IsSuperclass table) supercl
 
 -- what is remembered over a table is right: its look-ups, the meanings, the superclasses, and where `Inherited` is declared
 pub record IsRemembered (table looks : TypeTable) (meanings : Meanings) (superclasses : Superclasses) (declared : ElementRef) : Type 0 where
+  pub is_table : IsTable table
   pub over : looks ≡ table
   pub right : AreMeanings table meanings
   pub above : AreSuperclasses table superclasses

@@ -25,6 +25,7 @@ use element_table::Table;
 use name_resolve::{Found, Looks, split, type_at};
 use std::alloc::Global;
 use std::marker::Model;
+use std::mem;
 use type_elements::class_element;
 use type_mirror::Mirror;
 use type_resolve::{found_annotation, found_in, superclass};
@@ -179,6 +180,18 @@ impl<'a> Presence<'a> {
 
     // ---- written
 
+    // Makes the look-ups anew where many questions are remembered.
+    fn make_room(&mut self)
+        ensures { self.new ≡ self.old }
+    {
+        if self.looks.are_few() {
+            return;
+        }
+        let none = Looks::new(self.alloc, self.table);
+        let many = mem::replace(&mut self.looks, none);
+        drop(many);
+    }
+
     // The annotation interface that the names mean there.
     fn look_up(&mut self, at: &Found<'a>, names: &[&str]) -> Result<Option<ElementRef>, NoMemory>
         requires placed { IsPlaced self.old (find_of at.now) }
@@ -186,6 +199,7 @@ impl<'a> Presence<'a> {
             (λ of. of ≡ found_annotation (meaning self.old (Within (find_of at.now)) (lent names.now))) }
         ensures kept { self.new ≡ self.old }
     {
+        self.make_room();
         let finds = self.looks.meaning(false, at, names)?;
         found_annotation(self.alloc, &finds)
     }
