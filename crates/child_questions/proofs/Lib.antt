@@ -1,0 +1,2 @@
+pub mod AllThere
+pub mod AnnotationCounts

@@ -1,0 +1,3 @@
+pub mod NamedElements
+pub mod WantedKinds
+pub mod Stops
