@@ -15,5 +15,6 @@ returns c =
     let are : carried_in list ≡ present table (find_in table at) =
     c.in_ok-list.ensures.value ∙ ap (λ (t : TypeTable). present t (find_in t at)) c.in_ok-presence.ensures in
     let number : c.from.result ≡ c.args.number = omega (arith, c.from.ensures) in
-    let count : c.len.result ≡ length (all_mirrors table at) = omega (arith, c.len.ensures, counted table at list are) in
+    let count : c.len.result ≡ length (all_mirrors table at) =
+    omega (arith, c.len.ensures, counted table at list are) in
     ap (λ (n : ℕ). nat_lt n c.len.result) number ∙ ap (nat_lt c.args.number) count
