@@ -7,7 +7,7 @@ use Rattle.decl_tree.specs.declared.annotation.ValueText.{ValueText}
 use Rattle.decl_tree.specs.declared.annotation.ElementValuePair.{ElementValuePair}
 use Rattle.decl_tree.specs.declared.annotation.ValueText.TheOpen.{ValueText-F}
 use Rattle.decl_tree.specs.declared.annotation.ValueText.TheFolds.{fold-ElementValuePair}
-use Rattle.element_table.specs.TypeTable.{TypeTable}
+use Rattle.element_table.specs.TypeTable.{TypeTable, IsTable}
 use Rattle.type_mirror.specs.declared.value.Value.{Value}
 use Rattle.type_mirror.specs.declared.value.Annotation.{Annotation}
 use Rattle.type_mirror.specs.declared.value.NamedValue.{NamedValue}
@@ -59,9 +59,16 @@ AreFieldValues table values = AllByRecursion (IsFieldValue table) values.list.it
 
 -- what is remembered over a table is right
 pub record IsRemembered (table of_types of_fields : TypeTable) (values : FieldValues) : Type 0 where
+  pub is_table : IsTable table
   pub looks : of_types ≡ table
   pub fields : of_fields ≡ table
   pub right : AreFieldValues table values
+
+-- both the annotations and the values that are remembered are of this table
+pub record AreOver (table of_annotations of_values : TypeTable) : Type 0 where
+  pub is_table : IsTable table
+  pub annotations : of_annotations ≡ table
+  pub values : of_values ≡ table
 
 -- ---- elements
 

@@ -91,8 +91,10 @@ annotation_mirror name (Some at) = class_mirror at None []
 
 -- its type, and its values as they are written, whether the annotation interface declares such elements or not
 abbrev pub annotation_step : Meanings → AnnotationText-F Meant Annotation NamedValue → Annotation
-annotation_step m a =
-    roll-Annotation (record { annotation_type = annotation_mirror a.name (m.annotation_type a.name); values = a.values })
+annotation_step m a = roll-Annotation (record {
+  annotation_type = annotation_mirror a.name (m.annotation_type a.name);
+  values = a.values;
+})
 
 abbrev pub pair_step : ElementValuePair-F Meant Annotation NamedValue → NamedValue
 pair_step pair = roll-NamedValue (record { name = pair.name; value = pair.value.value })

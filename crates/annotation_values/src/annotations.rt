@@ -1,10 +1,12 @@
 // Annotations with their values.
-ghost use Rattle.std.specs.Prelude.{◌≡◌, ◌≤◌, ◌++◌, length, filter, map, not, IfOk, OnOk};
+ghost use Rattle.std.specs.Prelude.{◌≡◌, ◌≤◌, ◌++◌, length, filter, map, not, slice_get, Some, option_map};
+ghost use Rattle.std.specs.Prelude.{IfOk, OnOk};
 ghost use Rattle.std.specs.Option.{option_to_list};
 ghost use Rattle.apt_base.specs.Limits.{max_children};
 ghost use Rattle.decl_elements.specs.Nodes.{children};
 ghost use Rattle.decl_elements.specs.Shown.{node_of};
-ghost use Rattle.element_table.specs.TypeTable.{IsTable};
+ghost use Rattle.decl_elements.specs.SimpleNames.{simple_name};
+ghost use Rattle.name_resolve.specs.Finds.{find_at};
 ghost use Rattle.name_resolve.specs.Placed.{IsPlaced};
 ghost use Rattle.name_resolve.specs.Shown.{find_of};
 ghost use Rattle.annotation_presence.specs.Shown.{carried_of, carried_in};
@@ -12,26 +14,27 @@ ghost use Rattle.annotation_values.specs.ElementValues as elements;
 ghost use Rattle.annotation_values.specs.Remembered.{ArePlacedAt};
 
 use crate::constants::default_at;
-use crate::elements::{located, values_of};
+use crate::elements::located;
 use crate::values::Values;
-use annotation_presence::{Carried, Presence};
+use annotation_presence::Carried;
 use apt_base::{ElementRef, List, Name, NoMemory};
 use decl_elements::{Place, place_at};
-use element_table::Table;
-use name_resolve::Found;
+use name_resolve::{Found, copied};
 use std::alloc::Global;
 use type_mirror::{Annotation, Value};
 
 // ---- mirrors
 
-fn mirrors_of<'a>(
+/// These annotations with the values that are written in them.
+pub(crate) fn mirrors_of<'a>(
     alloc: Global,
     values: &mut Values<'a>,
     list: &[Carried<'a>],
 ) -> Result<List<Annotation>, NoMemory>
     requires placed { ArePlacedAt values.old (carried_in list.now) }
-    ensures { IfOk result
+    ensures value { IfOk result
         (λ mirrors. mirrors ≡ map (elements.mirror_of values.old) (carried_in list.now)) }
+    ensures kept { values.new ≡ values.old }
 {
     let mut mirrors = List::new(alloc);
     for each in list {
@@ -41,35 +44,49 @@ fn mirrors_of<'a>(
     Ok(mirrors)
 }
 
-/// The annotations that are written on an element, in order, each with the values that are written in it. One
-/// that is written twice is there twice.
-#[tactic(auto, unfolding(crate::specs::ElementValues::mirrors))]
-pub fn mirrors(alloc: Global, table: &Table, at: &ElementRef) -> Result<List<Annotation>, NoMemory>
-    ensures { IfOk result (λ list. list ≡ elements.mirrors table.now at.now) }
-{
-    let mut presence = Presence::new(alloc, table)?;
-    let list = presence.directly_present(at)?;
-    let mut values = values_of(alloc, table, at);
-    mirrors_of(alloc, &mut values, list.as_slice())
-}
-
-/// The annotations that are written on an element, and then those that a class inherits, the nearest first,
-/// through 64 superclasses (JLS 9.6.4.3).
-#[tactic(auto, unfolding(crate::specs::ElementValues::all_mirrors))]
-pub fn all_mirrors(
-    alloc: Global,
-    table: &Table,
-    at: &ElementRef,
-) -> Result<List<Annotation>, NoMemory>
-    ensures { IfOk result (λ list. list ≡ elements.all_mirrors table.now at.now) }
-{
-    let mut presence = Presence::new(alloc, table)?;
-    let list = presence.present(at)?;
-    let mut values = values_of(alloc, table, at);
-    mirrors_of(alloc, &mut values, list.as_slice())
-}
-
 // ---- defaults
+
+// The child of this number.
+fn child_of<'a>(alloc: Global, of: &Found<'a>, number: u16) -> Result<Found<'a>, NoMemory>
+    ensures { IfOk result
+        (λ f. find_of f ≡ find_at of.now.part of.now.unit.now of.now.path.items number) }
+{
+    let mut child = copied(alloc, of)?;
+    child.path.push(number)?;
+    Ok(child)
+}
+
+// A value under this name.
+fn named(alloc: Global, name: &str, value: Option<Value>) -> Result<Option<(Name, Value)>, NoMemory>
+    ensures { IfOk result (λ named. named ≡ option_map (λ v. (name.now, v)) value) }
+{
+    let Some(value) = value else {
+        return Ok(None);
+    };
+    match Name::new(alloc, name) {
+        Ok(name) => Ok(Some((name, value))),
+        Err(fault) => {
+            drop(value);
+            Err(fault)
+        }
+    }
+}
+
+// The default that is written at this place, under its name.
+fn named_default<'a>(
+    alloc: Global,
+    values: &mut Values<'a>,
+    at: &Found<'a>,
+    place: Place<'a>,
+) -> Result<Option<(Name, Value)>, NoMemory>
+    requires placed { IsPlaced values.old (find_of at.now) }
+    ensures value { IfOk result (λ named. named ≡ option_map (λ v. (simple_name (node_of place.entry), v))
+        (elements.default_at values.old (find_of at.now) (Some (node_of place.entry)))) }
+    ensures kept { values.new ≡ values.old }
+{
+    let value = default_at(values, at, place)?;
+    named(alloc, place.simple_name(), value)
+}
 
 // The default of the child with this number, under its name.
 fn child_default<'a>(
@@ -84,20 +101,10 @@ fn child_default<'a>(
         ≡ elements.child_default values.old (find_of of.now) (number, node_of place.entry)) }
     ensures kept { values.new ≡ values.old }
 {
-    let mut path = Vec::from_slice(alloc, of.path.as_slice())?;
-    path.push(number)?;
-    let at = Found {
-        part: of.part,
-        unit: of.unit,
-        path,
-    };
-    match default_at(values, &at, place)? {
-        None => Ok(None),
-        Some(value) => {
-            let name = Name::new(alloc, place.simple_name())?;
-            Ok(Some((name, value)))
-        }
-    }
+    let at = child_of(alloc, of, number)?;
+    let given = named_default(alloc, values, &at, place);
+    drop(at);
+    given
 }
 
 fn add_default(list: &mut List<(Name, Value)>, named: Option<(Name, Value)>) -> Result<(), NoMemory>
@@ -118,8 +125,9 @@ fn node_defaults<'a>(
 ) -> Result<List<(Name, Value)>, NoMemory>
     requires placed { IsPlaced values.old (find_of of.now) }
     requires few { length (children (node_of place)) ≤ max_children }
-    ensures { IfOk result
+    ensures value { IfOk result
         (λ list. list ≡ elements.node_defaults values.old (find_of of.now) (node_of place.entry)) }
+    ensures kept { values.new ≡ values.old }
 {
     let mut list = List::new(alloc);
     for number in 0..place.children() {
@@ -136,21 +144,21 @@ fn node_defaults<'a>(
 #[tactic(auto, using(crate::proofs::ElementLemmas::element_defaults))]
 fn defaults(
     alloc: Global,
-    table: &Table,
+    values: &mut Values<'_>,
     of: &Option<ElementRef>,
 ) -> Result<List<(Name, Value)>, NoMemory>
-    ensures { IfOk result (λ list. list ≡ elements.defaults table.now of.now) }
+    ensures value { IfOk result (λ list. list ≡ elements.defaults values.old of.now) }
+    ensures kept { values.new ≡ values.old }
 {
     let Some(at) = of else {
         return Ok(List::new(alloc));
     };
-    match located(alloc, table, at)? {
+    match located(values, at)? {
         None => Ok(List::new(alloc)),
         Some(found) => match place_at(found.unit, found.path.as_slice()) {
             None => Ok(List::new(alloc)),
             Some(place) => {
-                let mut values = Values::new(alloc, table);
-                let list = node_defaults(alloc, &mut values, &found, place)?;
+                let list = node_defaults(alloc, values, &found, place)?;
                 Ok(list)
             }
         },
@@ -191,7 +199,9 @@ fn others(
 {
     let mut list = Vec::new(alloc);
     for each in all.into_vec() {
-        if !has_name(values, each.0.as_str()) {
+        if has_name(values, each.0.as_str()) {
+            drop(each);
+        } else {
             list.push(each)?;
         }
     }
@@ -211,41 +221,58 @@ fn with_others(
     Ok(List::from_vec(list))
 }
 
-fn with_defaults(
+// The values that are written in an annotation.
+fn written_values<'a>(
     alloc: Global,
-    table: &Table,
-    of: &Carried<'_>,
+    values: &mut Values<'a>,
+    of: &Carried<'a>,
 ) -> Result<List<(Name, Value)>, NoMemory>
-    requires table { IsTable table.now }
-    requires placed { IsPlaced table.now (find_of of.now.at) }
-    ensures { IfOk result (λ list. list ≡ elements.with_defaults table.now (carried_of of.now)) }
+    requires placed { IsPlaced values.old (find_of of.now.at) }
+    ensures value { IfOk result
+        (λ list. list ≡ elements.values_of (elements.mirror_of values.old (carried_of of.now))) }
+    ensures kept { values.new ≡ values.old }
 {
-    let mut values = Values::new(alloc, table);
     let mirror = values.written_annotation(&of.at, of.text)?;
-    let written = values_in(alloc, mirror)?;
-    let defaults = defaults(alloc, table, &of.annotation_type)?;
-    with_others(alloc, written, defaults)
+    values_in(alloc, mirror)
 }
 
-/// The values of the annotation of this number among those that `all_mirrors` gives, counted from 0: the
-/// written ones in order, and then the defaults of the elements for which none is written, in the order of
-/// their declaration. `None` where the element has no such annotation.
-#[tactic(auto, unfolding(crate::specs::ElementValues::values_with_defaults))]
-pub fn values_with_defaults(
+// The values of an annotation, and the defaults of its other elements.
+fn with_defaults<'a>(
     alloc: Global,
-    table: &Table,
-    at: &ElementRef,
+    values: &mut Values<'a>,
+    of: &Carried<'a>,
+) -> Result<List<(Name, Value)>, NoMemory>
+    requires placed { IsPlaced values.old (find_of of.now.at) }
+    ensures value { IfOk result
+        (λ list. list ≡ elements.with_defaults values.old (carried_of of.now)) }
+    ensures kept { values.new ≡ values.old }
+{
+    let written = written_values(alloc, values, of)?;
+    match defaults(alloc, values, &of.annotation_type) {
+        Ok(others) => with_others(alloc, written, others),
+        Err(fault) => {
+            drop(written);
+            Err(fault)
+        }
+    }
+}
+
+/// The same of the one of this number among these annotations.
+pub(crate) fn numbered_with_defaults<'a>(
+    alloc: Global,
+    values: &mut Values<'a>,
+    list: &[Carried<'a>],
     number: u16,
 ) -> Result<Option<List<(Name, Value)>>, NoMemory>
-    ensures { IfOk result (λ values. values ≡ elements.values_with_defaults table.now at.now number) }
+    requires placed { ArePlacedAt values.old (carried_in list.now) }
+    ensures value { IfOk result (λ given. given
+        ≡ option_map (elements.with_defaults values.old) (slice_get (carried_in list.now) number)) }
+    ensures kept { values.new ≡ values.old }
 {
-    let _unit = table.find(&at.unit);
-    let mut presence = Presence::new(alloc, table)?;
-    let list = presence.present(at)?;
-    match list.as_slice().get(number as usize) {
+    match list.get(number as usize) {
         None => Ok(None),
         Some(carried) => {
-            let all = with_defaults(alloc, table, carried)?;
+            let all = with_defaults(alloc, values, carried)?;
             Ok(Some(all))
         }
     }

@@ -1,7 +1,6 @@
 // Constants of fields, and defaults of methods.
 ghost use Rattle.std.specs.Prelude.{◌≡◌, Some, IfOk};
 ghost use Rattle.decl_elements.specs.Shown.{node_of};
-ghost use Rattle.element_table.specs.TypeTable.{IsTable};
 ghost use Rattle.name_resolve.specs.Meaning.{Within};
 ghost use Rattle.name_resolve.specs.Mirrors.{type_meaning};
 ghost use Rattle.name_resolve.specs.Placed.{IsPlaced};
@@ -18,10 +17,9 @@ use apt_base::{ElementRef, NoMemory};
 use decl_elements::{Place, place_at};
 use decl_tree::{FieldDecl, TypeText, ValueText};
 use element_table::Table;
-use name_resolve::{Found, copied};
+use name_resolve::Found;
 use std::alloc::Global;
 use type_mirror::{Around, BaseMirror, Mirror, Value};
-use type_resolve::mirror_at;
 use type_texts::text_of;
 
 // ---- kinds of values and types
@@ -81,72 +79,68 @@ fn is_constant_type(alloc: Global, table: &Table, of: &Mirror) -> Result<bool, N
 }
 
 // The same of a type as it is written there.
-fn has_constant_type(
-    alloc: Global,
-    table: &Table,
-    at: &Found<'_>,
+fn has_constant_type<'a>(
+    values: &mut Values<'a>,
+    at: &Found<'a>,
     of: &TypeText,
 ) -> Result<bool, NoMemory>
-    requires placed { IsPlaced table.now (find_of at.now) }
-    ensures { IfOk result (λ answer. answer
-        ≡ elements.is_constant_type table.now (type_meaning table.now (Within (find_of at.now)) of.now)) }
+    requires placed { IsPlaced values.old (find_of at.now) }
+    ensures value { IfOk result (λ answer. answer
+        ≡ elements.is_constant_type values.old (type_meaning values.old (Within (find_of at.now)) of.now)) }
+    ensures kept { values.new ≡ values.old }
 {
-    let found = copied(alloc, at)?;
-    let mirror = mirror_at(alloc, table, found, of)?;
-    let answer = is_constant_type(alloc, table, &mirror);
+    let mirror = values.written_type(at, of)?;
+    let answer = is_constant_type(values.alloc, values.table(), &mirror);
     drop(mirror);
     answer
 }
 
 // ---- constants
 
-fn constant_value(
-    alloc: Global,
-    table: &Table,
-    at: &Found<'_>,
+fn constant_value<'a>(
+    values: &mut Values<'a>,
+    at: &Found<'a>,
     form: &ValueText,
 ) -> Result<Option<Value>, NoMemory>
-    requires table { IsTable table.now }
-    requires placed { IsPlaced table.now (find_of at.now) }
-    ensures { IfOk result (λ v. v ≡ elements.constant_value table.now (find_of at.now) form.now) }
+    requires placed { IsPlaced values.old (find_of at.now) }
+    ensures value { IfOk result (λ v. v ≡ elements.constant_value values.old (find_of at.now) form.now) }
+    ensures kept { values.new ≡ values.old }
 {
-    let mut values = Values::new(alloc, table);
     let value = values.written_value(at, form)?;
     Ok(constant_or_none(value))
 }
 
-fn typed_constant(
-    alloc: Global,
-    table: &Table,
-    at: &Found<'_>,
+fn typed_constant<'a>(
+    values: &mut Values<'a>,
+    at: &Found<'a>,
     field: &FieldDecl,
 ) -> Result<Option<Value>, NoMemory>
-    requires table { IsTable table.now }
-    requires placed { IsPlaced table.now (find_of at.now) }
-    ensures { IfOk result (λ v. v ≡ elements.typed_constant table.now (find_of at.now) field.now) }
+    requires placed { IsPlaced values.old (find_of at.now) }
+    ensures value { IfOk result
+        (λ v. v ≡ elements.typed_constant values.old (find_of at.now) field.now) }
+    ensures kept { values.new ≡ values.old }
 {
-    if !has_constant_type(alloc, table, at, &field.of)? {
+    if !has_constant_type(values, at, &field.of)? {
         return Ok(None);
     }
     match &field.constant {
         None => Ok(None),
         Some(form) => {
-            let value = constant_value(alloc, table, at, form)?;
+            let value = constant_value(values, at, form)?;
             Ok(value)
         }
     }
 }
 
-fn constant_at(
-    alloc: Global,
-    table: &Table,
-    at: &Found<'_>,
-    place: Place<'_>,
+fn constant_at<'a>(
+    values: &mut Values<'a>,
+    at: &Found<'a>,
+    place: Place<'a>,
 ) -> Result<Option<Value>, NoMemory>
-    requires table { IsTable table.now }
-    requires placed { IsPlaced table.now (find_of at.now) }
-    ensures { IfOk result
-        (λ v. v ≡ elements.constant_at table.now (find_of at.now) (node_of place.entry)) }
+    requires placed { IsPlaced values.old (find_of at.now) }
+    ensures value { IfOk result
+        (λ v. v ≡ elements.constant_at values.old (find_of at.now) (node_of place.entry)) }
+    ensures kept { values.new ≡ values.old }
 {
     if !is_final(place) {
         return Ok(None);
@@ -154,26 +148,27 @@ fn constant_at(
     match place.field() {
         None => Ok(None),
         Some(field) => {
-            let value = typed_constant(alloc, table, at, field)?;
+            let value = typed_constant(values, at, field)?;
             Ok(value)
         }
     }
 }
 
-/// The value of a constant variable (JLS 4.12.4): of a field that is final, as written or implied, of a
-/// primitive type or a type that prints as `String` or `java.lang.String`, whose initialiser is a constant
-/// form with a value of a boolean, an integer, a character, a text or a floating-point literal. `None` for
-/// anything else. The value is that of the initialiser, not converted to the type.
+/// The value of a constant variable.
 #[tactic(auto, using(crate::proofs::ElementLemmas::constants))]
-pub fn constant_of(alloc: Global, table: &Table, at: &ElementRef) -> Result<Option<Value>, NoMemory>
-    ensures { IfOk result (λ value. value ≡ elements.constant_of table.now at.now) }
+pub(crate) fn constant_of(
+    values: &mut Values<'_>,
+    at: &ElementRef,
+) -> Result<Option<Value>, NoMemory>
+    ensures value { IfOk result (λ value. value ≡ elements.constant_of values.old at.now) }
+    ensures kept { values.new ≡ values.old }
 {
-    match located(alloc, table, at)? {
+    match located(values, at)? {
         None => Ok(None),
         Some(found) => match place_at(found.unit, found.path.as_slice()) {
             None => Ok(None),
             Some(place) => {
-                let value = constant_at(alloc, table, &found, place)?;
+                let value = constant_at(values, &found, place)?;
                 Ok(value)
             }
         },
@@ -202,18 +197,21 @@ pub(crate) fn default_at<'a>(
     }
 }
 
-/// The default of a method (JLS 9.6.2), or `None` where the element is no method with a default.
+/// The default of a method.
 #[tactic(auto, using(crate::proofs::ElementLemmas::method_defaults))]
-pub fn default_of(alloc: Global, table: &Table, at: &ElementRef) -> Result<Option<Value>, NoMemory>
-    ensures { IfOk result (λ value. value ≡ elements.default_of table.now at.now) }
+pub(crate) fn default_of(
+    values: &mut Values<'_>,
+    at: &ElementRef,
+) -> Result<Option<Value>, NoMemory>
+    ensures value { IfOk result (λ value. value ≡ elements.default_of values.old at.now) }
+    ensures kept { values.new ≡ values.old }
 {
-    match located(alloc, table, at)? {
+    match located(values, at)? {
         None => Ok(None),
         Some(found) => match place_at(found.unit, found.path.as_slice()) {
             None => Ok(None),
             Some(place) => {
-                let mut values = Values::new(alloc, table);
-                let value = default_at(&mut values, &found, place)?;
+                let value = default_at(values, &found, place)?;
                 Ok(value)
             }
         },

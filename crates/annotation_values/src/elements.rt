@@ -5,7 +5,7 @@ ghost use Rattle.name_resolve.specs.Shown.{find_of};
 ghost use Rattle.annotation_values.specs.Remembered.{StandsIn};
 
 use crate::values::Values;
-use apt_base::{ElementRef, NoMemory};
+use apt_base::{ElementRef, Name, NoMemory};
 use element_table::Table;
 use name_resolve::Found;
 use std::alloc::Global;
@@ -13,28 +13,28 @@ use type_resolve::found_in;
 
 /// What stands at an element, if the table has its unit.
 pub(crate) fn located<'a>(
-    alloc: Global,
-    table: &'a Table,
+    values: &Values<'a>,
     at: &ElementRef,
 ) -> Result<Option<Found<'a>>, NoMemory>
-    ensures stands { IfOk result (λ found. IfSome found (λ f. StandsIn table.now at.now (find_of f))) }
-    ensures free { IfOk result (λ found. IfNone found (unit_of table.now at.now.unit ≡ None)) }
-    ensures table { IfOk result (λ found. IsTable table.now) }
+    ensures stands { IfOk result (λ found. IfSome found (λ f. StandsIn values.now at.now (find_of f))) }
+    ensures free { IfOk result (λ found. IfNone found (unit_of values.now at.now.unit ≡ None)) }
 {
+    let table = values.table();
     match table.find(&at.unit) {
         None => Ok(None),
         Some(unit) => {
-            let found = found_in(alloc, table, unit, at)?;
+            let found = found_in(values.alloc, table, unit, at)?;
             Ok(Some(found))
         }
     }
 }
 
-/// The values of a table, of which nothing was asked yet.
-pub(crate) fn values_of<'a>(alloc: Global, table: &'a Table, at: &ElementRef) -> Values<'a>
-    ensures value { result ≡ table.now }
-    ensures table { IsTable table.now }
+/// The values over a table, of which nothing was asked yet.
+pub(crate) fn values_over<'a>(alloc: Global, table: &'a Table) -> Result<Values<'a>, NoMemory>
+    ensures value { IfOk result (λ values. values ≡ table.now) }
+    ensures table { IfOk result (λ values. IsTable table.now) }
 {
-    let _unit = table.find(&at.unit);
-    Values::new(alloc, table)
+    let object = Name::new(alloc, "java.lang.Object")?;
+    let _declared = table.find(&object);
+    Ok(Values::new(alloc, table))
 }

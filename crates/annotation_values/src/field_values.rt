@@ -5,6 +5,7 @@ ghost use Rattle.name_resolve.specs.Placed.{IsPlaced};
 ghost use Rattle.name_resolve.specs.Shown.{find_of};
 ghost use Rattle.annotation_values.specs.Remembered.{field_value, IsFieldValue, AreFieldValues};
 
+use crate::sizes::size;
 use apt_base::NoMemory;
 use decl_tree::ValueText;
 use element_table::unit_name;
@@ -14,7 +15,10 @@ use std::collections::BTreeMap;
 use type_mirror::Value;
 
 /// How many values are remembered at most.
-const MOST_FIELD_VALUES: usize = 65_536;
+const MOST_FIELD_VALUES: usize = 131_072;
+
+/// How many bytes of values are handed on to the next call at most.
+const MOST_BYTES_KEPT: usize = 67_108_864;
 
 /// A constant form, and the final field whose initialiser it is.
 #[derive(Drop)]
@@ -38,6 +42,8 @@ pub(crate) struct FieldValues<'a> {
     list: Vec<FieldValue<'a>>,
     // Where each stands in the list, by its key.
     places: BTreeMap<String, usize>,
+    // What all of them take.
+    bytes: usize,
 }
 
 // A text that no other field has with this number of names.
@@ -64,7 +70,16 @@ fn is_same_field(one: &Found<'_>, other: &Found<'_>) -> bool
     false
 }
 
+// What a value takes, in bytes.
+fn size_of(value: &Option<Value>) -> usize {
+    match value {
+        None => 0,
+        Some(value) => size(value),
+    }
+}
+
 impl<'a> FieldValues<'a> {
+    /// Nothing was valued yet. It takes no memory.
     pub fn new(alloc: Global) -> Self
         ensures { result.list.items ≡ [] }
     {
@@ -72,6 +87,7 @@ impl<'a> FieldValues<'a> {
             alloc,
             list: Vec::new(alloc),
             places: BTreeMap::new(alloc),
+            bytes: 0,
         }
     }
 
@@ -97,18 +113,49 @@ impl<'a> FieldValues<'a> {
         Ok(Some(value))
     }
 
-    /// Remembers a value. Out of memory beyond 65,536 of them.
-    pub fn add(&mut self, value: FieldValue<'a>) -> Result<(), NoMemory>
+    /// Makes room for the values of a call: where more than 65,536 are remembered, or more than 67,108,864 bytes
+    /// of them, all are forgotten.
+    pub fn make_room(&mut self)
+        ensures { (table : TypeTable) → AreFieldValues table self.old → AreFieldValues table self.new }
+    {
+        if self.list.len() > MOST_FIELD_VALUES / 2 || self.bytes > MOST_BYTES_KEPT {
+            self.list.clear();
+            self.places.clear();
+            self.bytes = 0;
+        }
+    }
+
+    // Remembers a value whose key is this text.
+    fn put(&mut self, key: String, value: FieldValue<'a>) -> Result<(), NoMemory>
         ensures { (table : TypeTable) → AreFieldValues table self.old → IsFieldValue table value.entry
             → AreFieldValues table self.new }
     {
         let place = self.list.len();
-        if place >= MOST_FIELD_VALUES {
-            return Err(NoMemory);
-        }
-        let key = field_key(self.alloc, value.names, &value.at)?;
+        self.bytes = self.bytes.saturating_add(size_of(&value.value));
         self.list.push(value)?;
         self.places.insert(key, place)?;
         Ok(())
+    }
+
+    // The key of a value, where there is room for one more.
+    fn free_key(&self, value: &FieldValue<'a>) -> Result<String, NoMemory> {
+        if self.list.len() >= MOST_FIELD_VALUES {
+            return Err(NoMemory);
+        }
+        field_key(self.alloc, value.names, &value.at)
+    }
+
+    /// Remembers a value. Out of memory beyond 131,072 of them.
+    pub fn add(&mut self, value: FieldValue<'a>) -> Result<(), NoMemory>
+        ensures { (table : TypeTable) → AreFieldValues table self.old → IsFieldValue table value.entry
+            → AreFieldValues table self.new }
+    {
+        match self.free_key(&value) {
+            Ok(key) => self.put(key, value),
+            Err(fault) => {
+                drop(value);
+                Err(fault)
+            }
+        }
     }
 }

@@ -186,7 +186,7 @@ impl<'a> Values<'a> {
             ValueText::Negated(text) => negated_value(self.alloc, text.as_str()),
             ValueText::Joined(items) => self.joined(names, at, items.as_slice()),
             ValueText::Class(of) => {
-                let mirror = self.class_type(at, of)?;
+                let mirror = self.written_type(at, of)?;
                 Ok(Value::Class(mirror))
             }
             ValueText::Chain(name) => self.named(names, at, name),

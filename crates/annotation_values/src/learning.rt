@@ -91,20 +91,42 @@ impl<'a> Values<'a> {
         }
     }
 
+    // The same, where it is not nested too deep.
+    fn shallow_value(
+        &mut self,
+        names: usize,
+        at: &Found<'a>,
+        form: &ValueText,
+    ) -> Result<Option<Value>, NoMemory>
+        requires placed { IsPlaced self.old (find_of at.now) }
+        ensures value { IfOk result (λ v. v
+            ≡ value_of_initialiser (meanings_within self.old names (find_of at.now)) form.now) }
+        ensures kept { self.new ≡ self.old }
+    {
+        let value = self.value_of_initialiser(names, at, form)?;
+        if is_too_deep(&value) {
+            drop(value);
+            return Err(NoMemory);
+        }
+        Ok(value)
+    }
+
     // Values an initialiser, and remembers that.
     fn remember(&mut self, names: usize, of: Initialiser<'a>) -> Result<(), NoMemory>
         requires is { IsInitialiser self.old of }
         ensures kept { self.new ≡ self.old }
     {
-        let value = self.value_of_initialiser(names, &of.at, of.form)?;
-        if is_too_deep(&value) {
-            return Err(NoMemory);
+        match self.shallow_value(names, &of.at, of.form) {
+            Ok(value) => self.known.add(FieldValue {
+                names,
+                at: of.at,
+                value,
+            }),
+            Err(fault) => {
+                drop(of);
+                Err(fault)
+            }
         }
-        self.known.add(FieldValue {
-            names,
-            at: of.at,
-            value,
-        })
     }
 
     // Learns what the field that a name means is worth through this many further names.

@@ -9,15 +9,22 @@
 //! Nothing is converted to the type that is wanted, access is not tested, and no value is computed but by
 //! joining texts. Where nothing stands at an element there is nothing to give.
 //!
-//! What the initialiser of a field is worth is learned once for each number of names that are left. Out of
-//! memory comes also beyond 65,536 such values, where a constant is nested deeper than 1,024, and where the
-//! joined texts and the copies of constants of one call would take more than 67,108,864 bytes.
+//! An `ElementValues` serves any number of calls over one table, and a free call is one over a new value. What
+//! names mean is remembered, and what the initialiser of a field is worth is learned once for each number of
+//! names that are left. Where a call finds more than 65,536 such values remembered, or more than 67,108,864
+//! bytes of them, they are forgotten and learned anew.
+//!
+//! Out of memory comes also beyond 131,072 such values, so that each call may learn 65,536 of its own, where a
+//! constant is nested deeper than 1,024, and where the joined texts and the copies of constants of one call
+//! would take more than 67,108,864 bytes.
 //!
 //! Not promised: that a value fits the element whose value it is, or that memory is there.
 #![tactic(auto)]
 
 mod annotations;
+mod calls;
 mod constants;
+mod element_values;
 mod elements;
 mod field_values;
 mod forms;
@@ -26,5 +33,5 @@ mod sizes;
 mod texts;
 mod values;
 
-pub use annotations::{all_mirrors, mirrors, values_with_defaults};
-pub use constants::{constant_of, default_of};
+pub use calls::{all_mirrors, constant_of, default_of, mirrors, values_with_defaults};
+pub use element_values::ElementValues;

@@ -26,6 +26,7 @@ use expression_names::Fields;
 use name_resolve::{Finds, Found, Looks, copied, split};
 use std::alloc::Global;
 use std::marker::Model;
+use std::mem;
 use type_mirror::{BaseMirror, DeclaredMirror, Mirror, Value};
 use type_resolve::{found_annotation, mirror_at, reference};
 
@@ -35,8 +36,8 @@ pub(crate) const MAX_NAMES: usize = 64;
 // What the values of one call may take, in bytes: of joined texts, and of constants that are copied.
 const MOST_BYTES: usize = 67_108_864;
 
-/// The values over one table, with what was remembered of the initialisers of fields. Contracts see the table
-/// alone.
+/// The values that are written in elements of one table, with what was learned of the initialisers of fields.
+/// Contracts see the table alone.
 #[derive(Drop)]
 pub(crate) struct Values<'a> {
     pub alloc: Global,
@@ -111,6 +112,36 @@ impl<'a> Values<'a> {
         }
     }
 
+    /// The table. It takes no memory.
+    pub fn table(&self) -> &'a Table
+        ensures { result.now ≡ self.now }
+    {
+        self.table
+    }
+
+    // ---- from call to call
+
+    // Makes the look-ups anew where many questions are remembered.
+    fn renew_looks(&mut self)
+        ensures { self.new ≡ self.old }
+    {
+        if self.looks.are_few() {
+            return;
+        }
+        let none = Looks::new(self.alloc, self.table);
+        let many = mem::replace(&mut self.looks, none);
+        drop(many);
+    }
+
+    /// Makes room for one call: of what is remembered all is forgotten that is much, and bytes are counted anew.
+    pub fn make_room(&mut self)
+        ensures { self.new ≡ self.old }
+    {
+        self.renew_looks();
+        self.known.make_room();
+        self.effort = Effort::new(MOST_BYTES);
+    }
+
     // ---- names
 
     /// What a name means as a value there.
@@ -125,8 +156,8 @@ impl<'a> Values<'a> {
         Ok(finds)
     }
 
-    /// The type that a class literal names there.
-    pub fn class_type(&mut self, at: &Found<'a>, of: &TypeText) -> Result<Mirror, NoMemory>
+    /// The type that is written there.
+    pub fn written_type(&mut self, at: &Found<'a>, of: &TypeText) -> Result<Mirror, NoMemory>
         requires placed { IsPlaced self.old (find_of at.now) }
         ensures value { IfOk result (λ m. m ≡ type_meaning self.old (Within (find_of at.now)) of.now) }
         ensures kept { self.new ≡ self.old }

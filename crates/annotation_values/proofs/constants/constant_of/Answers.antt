@@ -6,7 +6,7 @@ use Rattle.annotation_values.proofs.constants.constant_of.Goals as goal
 
 pub returns-in-None-place_at : goal.returns-in-None-place_at
 returns-in-None-place_at c =
-    let table = c.args.table.now in
+    let table = c.args.values.now in
     let at = c.args.at.now in
     let f = find_of c.in-Some.found in
     let stands : StandsIn table at f = rw c.in-Some.is at c.in_ok-located.ensures.stands in
