@@ -88,21 +88,21 @@ then_fronts sent_a sent_b (Err stopped) go more = fronts_same stopped.sent
 module _ (d : Discovered) (r : Round) where
   acted_fronts : (p : Progress) (number : ℕ) (a : Act) → IsFront (sent_at p number) (sent_of a) → AreFronts p.sent (sent_by sent_in_step (after_act d r p number a))
   acted_fronts p number (Answered sent filings printed claimed) front = fronts_set p.sent number sent front
-  acted_fronts p number (Broken sent filings) front = fronts_set p.sent number sent front
+  acted_fronts p number (Broken sent filings breach) front = fronts_set p.sent number sent front
   acted_fronts p number (Overasked sent filings) front = fronts_set p.sent number sent front
   acted_fronts p number (Differed sent filings said) front = fronts_set p.sent number sent front
 
   -- it was sent the first of what its act sends
   acted_some : (p : Progress) (number : ℕ) (frames : Frames) (a : Act) → IsFront frames (sent_of a) → AreFronts (set p.sent number frames) (sent_by sent_in_step (after_act d r p number a))
   acted_some p number frames (Answered sent filings printed claimed) front = fronts_at p.sent number frames sent front
-  acted_some p number frames (Broken sent filings) front = fronts_at p.sent number frames sent front
+  acted_some p number frames (Broken sent filings breach) front = fronts_at p.sent number frames sent front
   acted_some p number frames (Overasked sent filings) front = fronts_at p.sent number frames sent front
   acted_some p number frames (Differed sent filings said) front = fronts_at p.sent number frames sent front
 
   acted_but_one : (name : List ℕ) (processors : List Try) (p : Progress) (number : ℕ) → IsSomeAnd (slice_get processors number) (λ (q : Try). q.0 ≡ name) → (frames : Frames) (a : Act)
       → FrontsButOne name processors (set p.sent number frames) (sent_by sent_in_step (after_act d r p number a))
   acted_but_one name processors p number named frames (Answered sent filings printed claimed) = others_fronts name processors number named p.sent frames sent
-  acted_but_one name processors p number named frames (Broken sent filings) = others_fronts name processors number named p.sent frames sent
+  acted_but_one name processors p number named frames (Broken sent filings breach) = others_fronts name processors number named p.sent frames sent
   acted_but_one name processors p number named frames (Overasked sent filings) = others_fronts name processors number named p.sent frames sent
   acted_but_one name processors p number named frames (Differed sent filings said) = others_fronts name processors number named p.sent frames sent
 

@@ -32,14 +32,14 @@ stop-requires g c =
     let child = c.in-Ok.begun.0 in
     subst (λ live. Contains live child) (sym c.in-Ok.ensures.live.0) (Contains-append_right k0.live (child ∷ []) child (0, omega arith, refl))
 
-pub returns-in-Err-supported_in-clause-live : goal.returns-in-Err-supported_in-clause-live
-returns-in-Err-supported_in-clause-live g c =
+pub returns-clause-live : goal.returns-clause-live
+returns-clause-live g c =
     let k0 = g.C.Children.state c.args.children.now in
     let child = c.in-Ok.begun.0 in
     c.stop.ensures.live ∙ ap (without child) c.in-Ok.ensures.live.0 ∙ without_last child k0.live c.in-Ok.ensures.live.1
 
-pub returns-in-Err-supported_in-clause-begins : goal.returns-in-Err-supported_in-clause-begins
-returns-in-Err-supported_in-clause-begins g c = λ told.
+pub returns-clause-begins : goal.returns-clause-begins
+returns-clause-begins g c = λ told.
     let C = g.C.Children in
     let plan = plan_of c.args.key.now in
     let processor = c.args.processor.now in
@@ -102,8 +102,8 @@ returns-in-Err-clause-starts g c =
 pub returns-in-Err-clause-hello : goal.returns-in-Err-clause-hello
 returns-in-Err-clause-hello g c = hello_err c.in_ok-name.name c.in-Err.fault (stop_of c.refusal_by.result) c.in-Err.ensures.refused (inl c.refusal_by.ensures.is)
 
-pub returns-in-Err-supported_in-clause-starts : goal.returns-in-Err-supported_in-clause-starts
-returns-in-Err-supported_in-clause-starts g c =
+pub returns-clause-starts : goal.returns-clause-starts
+returns-clause-starts g c =
     let C = g.C.Children in
     starts_one stop.Memory (C.state c.args.children.now) (C.state c.stop.new.self) refl (c.stop.ensures.starts ∙ c.in-Ok.ensures.starts)
 
@@ -127,11 +127,11 @@ returns-in-Err-clause-counted g c = λ told.
     let C = g.C.Children in
     stops_counted (plan_of c.args.key.now) (try_of c.args.processor.now) (stop_of c.refusal_by.result) (C.state c.args.children.now) (C.state c.begin.new.children) (returns-in-Err-clause-begins g c told)
 
-pub returns-in-Err-supported_in-clause-counted : goal.returns-in-Err-supported_in-clause-counted
-returns-in-Err-supported_in-clause-counted g c = λ told.
+pub returns-clause-counted : goal.returns-clause-counted
+returns-clause-counted g c = λ told.
     let C = g.C.Children in
     stops_counted (plan_of c.args.key.now) (try_of c.args.processor.now) stop.Memory (C.state c.args.children.now) (C.state c.stop.new.self)
-    (returns-in-Err-supported_in-clause-begins g c told)
+    (returns-clause-begins g c told)
 
 pub returns-in-Ok-supported_in-clause-counted : goal.returns-in-Ok-supported_in-clause-counted
 returns-in-Ok-supported_in-clause-counted g c = λ told.
