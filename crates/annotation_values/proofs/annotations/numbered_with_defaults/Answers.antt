@@ -16,8 +16,8 @@ with_defaults-requires c =
           (placed-item table list c.args.number c.in-Some.carried.now found.3.0 c.requires.placed);
     }
 
-pub returns-clause-value : goal.returns-clause-value
-returns-clause-value c =
+pub returns-in_ok-all-in-Some-clause-value : goal.returns-in_ok-all-in-Some-clause-value
+returns-in_ok-all-in-Some-clause-value c =
     let table = c.args.values.now in
     let list = c.args.list.now in
     let found = c.in-Some.ensures.lookup in

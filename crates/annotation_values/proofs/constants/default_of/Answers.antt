@@ -4,8 +4,8 @@ use Rattle.annotation_values.specs.Remembered.{StandsIn}
 use Rattle.annotation_values.proofs.ElementLemmas.{default-none}
 use Rattle.annotation_values.proofs.constants.default_of.Goals as goal
 
-pub returns-in-None-place_at : goal.returns-in-None-place_at
-returns-in-None-place_at c =
+pub returns-in-None-place_at-clause-value : goal.returns-in-None-place_at-clause-value
+returns-in-None-place_at-clause-value c =
     let table = c.args.values.now in
     let at = c.args.at.now in
     let f = find_of c.in-Some.found in
