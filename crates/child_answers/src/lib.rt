@@ -1,0 +1,25 @@
+//! The replies of the host to a child's questions, over one table and the roots of one round.
+//!
+//! `specs/Replies` has the reply to each question, as a function of the table, the roots and the question: the first of
+//! NoSuch, WrongKind, TooDeep and TooLarge that stands against it, and else the frame that its row names. The table of
+//! questions is `frame_forms/specs/QuestionTable`, what a row wants of its arguments says `child_questions`, and what a
+//! question means the crates of elements (`element_facts`, `element_table`), types (`type_relations`, `type_subtypes`,
+//! `type_members`, `type_overriding`, `type_listing`), values (`annotation_values`) and rounds (`round_env`).
+//!
+//! `specs/ReplyLaws` says what holds of every reply.
+//!
+//! Not promised: that memory is there. Each crate says where it is out of memory by a budget.
+#![tactic(auto)]
+
+mod annotated;
+mod answers;
+mod comparing;
+mod elements;
+mod laws;
+mod lists;
+mod mirrors;
+mod names;
+mod replies;
+
+pub use laws::{replies_agree_with_calls, replies_are_of_their_frames, replies_fit};
+pub use replies::answer;
