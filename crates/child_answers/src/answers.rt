@@ -1,7 +1,5 @@
 // The answers to all questions.
 ghost use Rattle.std.specs.Prelude.{◌≡◌, true, map, IfOk};
-ghost use Rattle.apt_base.specs.Limits.{max_type_steps};
-ghost use Rattle.type_members.specs.MemberOf as members;
 ghost use Rattle.type_queries.specs.Verdicts.{Gives};
 ghost use Rattle.child_questions.specs.WantedKinds.{is_admitted};
 ghost use Rattle.child_answers.specs.Replies as replies;
@@ -19,34 +17,12 @@ use child_questions::{Stop, stop_of};
 use element_table::Table;
 use round_env::RoundEnv;
 use std::alloc::Global;
-use type_members::member_of;
 use type_mirror::Mirror;
-use type_numbers::Types;
-use type_queries::QueryFault;
+use type_queries::{QueryFault, type_of_member};
 use type_relations::class_type;
 use wire_frames::{Question, Reply};
 
 // ---- rows with a form of their own
-
-// The type of a member, by the numbers of the types on the way.
-fn type_of_member(
-    alloc: Global,
-    table: &Table,
-    container: &Mirror,
-    at: &ElementRef,
-) -> Result<Option<Mirror>, NoMemory>
-    ensures { IfOk result (λ m. m ≡ members.member_of table.now max_type_steps container.now at.now) }
-{
-    let mut types = Types::new(alloc);
-    let number = types.add(container)?;
-    match member_of(alloc, table, &mut types, number, at)? {
-        None => Ok(None),
-        Some(seen) => {
-            let mirror = types.mirror(seen)?;
-            Ok(Some(mirror))
-        }
-    }
-}
 
 /// The type of a member as a member of a type.
 #[tactic(auto, unfolding(crate::specs::Replies::member_answer))]

@@ -24,7 +24,7 @@ pub use comparing::{contains, is_assignable, is_subsignature, is_subtype};
 pub use fault::QueryFault;
 pub use kinds::{is_executable, is_package, is_type};
 pub use member_lists::all_members;
-pub use member_type::{as_member_of, is_member_of};
+pub use member_type::{as_member_of, is_member_of, type_of_member};
 pub use overriding::overrides;
 pub use questions::Questions;
 pub use there::{all_there, are_there, each_is_there};

@@ -74,8 +74,10 @@ pub fn is_member_of(
 
 // ---- the question
 
-// The type of the member, by the numbers of the types on the way.
-fn type_of_member(
+/// The type of a member as a member of a class type (JLS 4.5.2, 4.8), where the member is of it (`is_member_of`):
+/// nothing where the supertype that declares it is not within 64 steps, or where an erasure has no end within them.
+/// `as_member_of` says it with what stands against the question.
+pub fn type_of_member(
     alloc: Global,
     table: &Table,
     container: &Mirror,
