@@ -70,6 +70,9 @@ found_by finds parts enclosing arguments = found_mirror finds (parts_spelled par
 abbrev pub whole_in : Scope → List (List ℕ) → List NamedPart → Option Mirror → Option (List Mirror) → Mirror
 whole_in s names parts enclosing arguments = whole_mirror (look_in s) names (parts_spelled parts) enclosing arguments
 
+abbrev pub front_in : Scope → List (List ℕ) → List NamedPart → Option Mirror → Option (List Mirror) → Mirror
+front_in s names parts enclosing arguments = front_mirror (look_in s) names (parts_spelled parts) enclosing arguments
+
 abbrev pub enclosing_in : Scope → List (List ℕ) → List NamedPart → Option Mirror → Option (List Mirror) → Option Mirror
 enclosing_in s names parts enclosing arguments = next_enclosing (look_in s) names (parts_spelled parts) enclosing arguments
 

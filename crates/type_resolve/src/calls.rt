@@ -15,6 +15,7 @@ ghost use Rattle.type_resolve.specs.Scopes.{find_in, package_part, package_at, s
 use crate::annotations::reference;
 use crate::mirrors::{class_type, element_type, mirror};
 use crate::packages::Bare;
+use crate::pairs::{appended, both};
 use crate::resolver::Resolver;
 use crate::scopes::{Scope, found_bare, found_in};
 use apt_base::{ElementRef, List, Name, NoMemory};
@@ -105,11 +106,17 @@ fn implied(
 ) -> Result<Mirror, NoMemory>
     ensures { IfOk result (λ m. m ≡ implied_in scope.now name.now arguments) }
 {
-    let name = Name::new(alloc, name)?;
+    let (arguments, name) = both(arguments, Name::new(alloc, name))?;
     match top_level(alloc, scope.table, scope.at.part, &name) {
         Finds::One(find) => element_type(alloc, &find, None, arguments),
-        Finds::Nothing => Ok(Mirror::plain(alloc, BaseMirror::Error(name))),
-        Finds::Several => Ok(Mirror::plain(alloc, BaseMirror::Error(name))),
+        Finds::Nothing => {
+            drop(arguments);
+            Ok(Mirror::plain(alloc, BaseMirror::Error(name)))
+        }
+        Finds::Several => {
+            drop(arguments);
+            Ok(Mirror::plain(alloc, BaseMirror::Error(name)))
+        }
     }
 }
 
@@ -118,10 +125,8 @@ fn itself(alloc: Global, of: &Found<'_>) -> Result<List<Mirror>, NoMemory>
     ensures { IfOk result (λ list. list ≡ class_mirror (ref_of (find_of of.now)) None [] ∷ []) }
 {
     let element = reference(alloc, of)?;
-    let own = class_type(alloc, element, None, List::new(alloc))?;
-    let mut list = List::new(alloc);
-    list.push(own)?;
-    Ok(list)
+    let own = class_type(alloc, element, None, List::new(alloc));
+    appended(List::new(alloc), own)
 }
 
 // The mirror of a supertype in the header of its type.
@@ -187,8 +192,7 @@ fn all_supertypes<'a>(
 {
     let mut mirrors = List::new(alloc);
     for each in list {
-        let one = supertype(alloc, looks, scope, *each)?;
-        mirrors.push(one)?;
+        mirrors = appended(mirrors, supertype(alloc, looks, scope, *each))?;
     }
     Ok(mirrors)
 }

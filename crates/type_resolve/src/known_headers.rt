@@ -4,6 +4,7 @@ ghost use Rattle.element_table.specs.TypeTable.{TypeTable};
 ghost use Rattle.type_resolve.specs.Remembered.{IsHeader, AreHeaders};
 
 use crate::known_texts::add_element;
+use crate::pairs::appended;
 use apt_base::{ElementRef, List, NoMemory};
 use std::alloc::Global;
 use std::collections::BTreeMap;
@@ -35,8 +36,7 @@ pub(crate) fn copied(alloc: Global, types: &[Mirror]) -> Result<List<Mirror>, No
 {
     let mut copies = List::new(alloc);
     for each in types {
-        let copy = each.copy(alloc)?;
-        copies.push(copy)?;
+        copies = appended(copies, each.copy(alloc))?;
     }
     Ok(copies)
 }

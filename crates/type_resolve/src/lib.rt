@@ -13,6 +13,7 @@ mod known_headers;
 mod known_texts;
 mod mirrors;
 mod packages;
+mod pairs;
 mod resolver;
 mod scopes;
 mod spelling;

@@ -7,12 +7,14 @@ ghost use Rattle.name_resolve.specs.Meaning.{meaning, qualifier_meaning};
 ghost use Rattle.name_resolve.specs.Mirrors.{found_mirror, class_mirror, primitive_base, ref_of, or_none};
 ghost use Rattle.name_resolve.specs.Parts.{lent};
 ghost use Rattle.name_resolve.specs.Shown.{find_of, finds_of, Gives};
-ghost use Rattle.type_resolve.specs.MirrorParts.{IsScope, look_in, type_mirror_in, base_mirror_in, class_mirror_in, arguments_in, found_by, whole_in, enclosing_in};
+ghost use Rattle.type_resolve.specs.MirrorParts.{IsScope, look_in, type_mirror_in, base_mirror_in, class_mirror_in, arguments_in, found_by, whole_in, front_in, enclosing_in};
+ghost use Rattle.type_resolve.specs.Spelling.{parts_spelled};
 
 use crate::annotations::reference;
+use crate::pairs::{appended, both, boxed};
 use crate::scopes::Scope;
 use crate::spelling::spelled;
-use apt_base::{Boxed, ElementRef, List, Name, NoMemory};
+use apt_base::{ElementRef, List, Name, NoMemory};
 use decl_tree::{BaseType, NamedPart, PrimitiveKind, TypeText};
 use name_resolve::{Finds, Found, Looks, type_at};
 use std::alloc::Global;
@@ -43,25 +45,13 @@ pub(crate) fn class_type(
 ) -> Result<Mirror, NoMemory>
     ensures { IfOk result (λ m. m ≡ class_mirror element enclosing arguments) }
 {
-    match enclosing {
-        None => {
-            let declared = DeclaredMirror {
-                element,
-                enclosing: None,
-                arguments,
-            };
-            Ok(Mirror::plain(alloc, BaseMirror::Declared(declared)))
-        }
-        Some(mirror) => {
-            let around = Boxed::new(alloc, mirror)?;
-            let declared = DeclaredMirror {
-                element,
-                enclosing: Some(around),
-                arguments,
-            };
-            Ok(Mirror::plain(alloc, BaseMirror::Declared(declared)))
-        }
-    }
+    let ((element, arguments), enclosing) = both((element, arguments), boxed(alloc, enclosing))?;
+    let declared = DeclaredMirror {
+        element,
+        enclosing,
+        arguments,
+    };
+    Ok(Mirror::plain(alloc, BaseMirror::Declared(declared)))
 }
 
 /// The class type or the type variable of what was found.
@@ -73,9 +63,12 @@ pub(crate) fn element_type(
 ) -> Result<Mirror, NoMemory>
     ensures { IfOk result (λ m. m ≡ found_mirror (One (find_of find.now)) [] enclosing arguments) }
 {
-    let element = reference(alloc, find)?;
+    let ((enclosing, arguments), element) = both((enclosing, arguments), reference(alloc, find))?;
     match type_at(find) {
-        None => Ok(Mirror::plain(alloc, BaseMirror::Variable(element))),
+        None => {
+            drop((enclosing, arguments));
+            Ok(Mirror::plain(alloc, BaseMirror::Variable(element)))
+        }
         Some(_) => class_type(alloc, element, enclosing, arguments),
     }
 }
@@ -85,6 +78,14 @@ fn error_type(alloc: Global, text: String) -> Mirror
     ensures { result ≡ plain (Error (string_bytes text)) }
 {
     Mirror::plain(alloc, BaseMirror::Error(Name::from_string(alloc, text)))
+}
+
+// The error type with the text of these parts.
+fn error_of_parts(alloc: Global, parts: &[NamedPart]) -> Result<Mirror, NoMemory>
+    ensures { IfOk result (λ m. m ≡ plain (Error (parts_spelled parts.now))) }
+{
+    let text = spelled(alloc, parts)?;
+    Ok(error_type(alloc, text))
 }
 
 // What was found for the names of these parts.
@@ -100,12 +101,12 @@ fn found_type(
     match finds {
         Finds::One(find) => element_type(alloc, find, enclosing, arguments),
         Finds::Nothing => {
-            let text = spelled(alloc, parts)?;
-            Ok(error_type(alloc, text))
+            drop((enclosing, arguments));
+            error_of_parts(alloc, parts)
         }
         Finds::Several => {
-            let text = spelled(alloc, parts)?;
-            Ok(error_type(alloc, text))
+            drop((enclosing, arguments));
+            error_of_parts(alloc, parts)
         }
     }
 }
@@ -161,8 +162,31 @@ fn whole_type<'a>(
     ensures value { IfOk result (λ m. m ≡ whole_in scope.now (lent names.now) parts.now enclosing arguments) }
     ensures kept { looks.new ≡ looks.old }
 {
-    let finds = whole(looks, scope, names)?;
-    found_type(alloc, &finds, parts, enclosing, or_none(alloc, arguments))
+    let finds = whole(looks, scope, names);
+    let ((enclosing, arguments), finds) = both((enclosing, arguments), finds)?;
+    let arguments = or_none(alloc, arguments);
+    found_type(alloc, &finds, parts, enclosing, arguments)
+}
+
+// What the first names of a class type mean.
+fn front_type<'a>(
+    alloc: Global,
+    looks: &mut Looks<'a>,
+    scope: &Scope<'a>,
+    names: &[&str],
+    parts: &[NamedPart],
+    enclosing: Option<Mirror>,
+    arguments: Option<List<Mirror>>,
+) -> Result<Mirror, NoMemory>
+    requires scope { IsScope scope.now }
+    requires table { looks.old ≡ scope.now.table.now }
+    ensures value { IfOk result (λ m. m ≡ front_in scope.now (lent names.now) parts.now enclosing arguments) }
+    ensures kept { looks.new ≡ looks.old }
+{
+    let finds = front(looks, scope, names);
+    let ((enclosing, arguments), finds) = both((enclosing, arguments), finds)?;
+    let arguments = or_none(alloc, arguments);
+    found_type(alloc, &finds, parts, enclosing, arguments)
 }
 
 // What encloses the next name: what the names so far mean, where arguments are written on one of them.
@@ -181,10 +205,10 @@ fn next_enclosing<'a>(
     ensures kept { looks.new ≡ looks.old }
 {
     if enclosing.is_some() || arguments.is_some() {
-        let finds = front(looks, scope, names)?;
-        let here = found_type(alloc, &finds, parts, enclosing, or_none(alloc, arguments))?;
+        let here = front_type(alloc, looks, scope, names, parts, enclosing, arguments)?;
         return Ok(Some(here));
     }
+    drop((enclosing, arguments));
     Ok(None)
 }
 
@@ -243,7 +267,8 @@ fn named_type<'a>(
     let mut enclosing = None;
     for part in parts {
         names.push(part.name.as_str())?;
-        let arguments = arguments_of(alloc, looks, scope, part)?;
+        let arguments = arguments_of(alloc, looks, scope, part);
+        let (outer, arguments) = both(enclosing, arguments)?;
         let here = &parts[..names.len()];
         if names.len() == parts.len() {
             return whole_type(
@@ -252,13 +277,14 @@ fn named_type<'a>(
                 scope,
                 names.as_slice(),
                 here,
-                enclosing,
+                outer,
                 arguments,
             );
         }
         let front = names.as_slice();
-        enclosing = next_enclosing(alloc, looks, scope, front, here, enclosing, arguments)?;
+        enclosing = next_enclosing(alloc, looks, scope, front, here, outer, arguments)?;
     }
+    drop(enclosing);
     Ok(error_type(alloc, String::new(alloc)))
 }
 
@@ -299,8 +325,7 @@ fn mirrors<'a>(
 {
     let mut list = List::new(alloc);
     for each in texts {
-        let one = mirror(alloc, looks, scope, each)?;
-        list.push(one)?;
+        list = appended(list, mirror(alloc, looks, scope, each))?;
     }
     Ok(list)
 }

@@ -8,6 +8,7 @@ ghost use Rattle.type_resolve.specs.Scopes.{find_in, scope_in, IsElement, IsType
 use crate::calls::{header_of, interfaces_in, mirror_in_bare, mirror_with, superclass_in};
 use crate::known_headers::{KnownHeader, KnownHeaders, copied};
 use crate::known_texts::{KnownText, KnownTexts};
+use crate::pairs::both;
 use crate::scopes::{bare_at, found_in};
 use apt_base::{ElementRef, List, NoMemory};
 use decl_tree::TypeText;
@@ -220,8 +221,9 @@ impl<'a> Resolver<'a> {
         ensures kept { self.new ≡ self.old }
     {
         let superclass = self.superclass_of(at)?;
-        let interfaces = self.interfaces_of(at)?;
-        let at = at.copy(self.alloc)?;
+        let (superclass, interfaces) = both(superclass, self.interfaces_of(at))?;
+        let types = (superclass, interfaces);
+        let ((superclass, interfaces), at) = both(types, at.copy(self.alloc))?;
         Ok(KnownHeader {
             at,
             superclass,

@@ -1,4 +1,5 @@
 use Rattle.std.proofs.Common.{◌≡◌, ◌+◌, ◌<◌, ◌≤◌, length, take, drop, List, map, Some, Option, option_map, sym, ap, ◌∙◌, arith, rules}
+use Rattle.std.proofs.lemmas.Result.{IfOk-at_ok}
 use Rattle.decl_tree.specs.declared.type_text.TypeText.{TypeText}
 use Rattle.type_mirror.specs.declared.mirror.Mirror.{Mirror}
 use Rattle.name_resolve.specs.Mirrors.{meant, part_meant}
@@ -32,9 +33,11 @@ named_type-returns-then-len-parts-clause-value t c =
     let size : c.len.result ≡ i + 1 = front ∙ many in
     let last : i + 1 ≡ length parts = omega (arith, many, tested, c.if-len-parts.true) in
     let slice : lent c.as_slice.result.now ≡ map part_name (take (i + 1) parts) = ap lent c.as_slice.ensures.value ∙ names in
-    let arguments : c.in_ok-arguments.arguments ≡ (part_meant look part).arguments = c.in_ok-arguments.ensures.value in
+    let outer : c.in_ok-outer.outer ≡ c.loop-part.enclosing = c.in_ok-outer.ensures.one in
+    let arguments : c.in_ok-outer.arguments ≡ (part_meant look part).arguments =
+    IfOk-at_ok (λ (a : Option (List Mirror)). a ≡ (part_meant look part).arguments) c.in_ok-outer.ensures.other c.arguments_of-arguments.ensures.value in
     gives_as c.whole_type.result _ _
-    ((λ k. whole_mirror look (slice k) (parts_spelled (take (size k) parts)) c.loop-part.enclosing (arguments k)) ∙ sym (class-last look parts i part within c.part-item.is c.loop-part.enclosing last)
+    ((λ k. whole_mirror look (slice k) (parts_spelled (take (size k) parts)) (outer k) (arguments k)) ∙ sym (class-last look parts i part within c.part-item.is c.loop-part.enclosing last)
     ∙ c.loop-part.invariant.1)
     c.whole_type.ensures.value
 
@@ -55,11 +58,13 @@ named_type-loop-part-preserved t c =
     let size : c.len.result ≡ i + 1 = front ∙ many in
     let more : i + 1 < length parts = omega (arith, within, many, tested, c.if-len-parts.false) in
     let slice : lent c.as_slice-front.result.now ≡ map part_name (take (i + 1) parts) = ap lent c.as_slice-front.ensures.value ∙ names in
-    let arguments : c.in_ok-arguments.arguments ≡ (part_meant look part).arguments = c.in_ok-arguments.ensures.value in
+    let outer : c.in_ok-outer.outer ≡ c.loop-part.enclosing = c.in_ok-outer.ensures.one in
+    let arguments : c.in_ok-outer.arguments ≡ (part_meant look part).arguments =
+    IfOk-at_ok (λ (a : Option (List Mirror)). a ≡ (part_meant look part).arguments) c.in_ok-outer.ensures.other c.arguments_of-arguments.ensures.value in
     let enclosing : c.in_ok-enclosing.enclosing ≡ next_enclosing look (map part_name (take (i + 1) parts)) (parts_spelled (take (i + 1) parts)) c.loop-part.enclosing (part_meant look part).arguments =
-    c.in_ok-enclosing.ensures.value ∙ (λ k. next_enclosing look (slice k) (parts_spelled (take (size k) parts)) c.loop-part.enclosing (arguments k)) in (
+    c.in_ok-enclosing.ensures.value ∙ (λ k. next_enclosing look (slice k) (parts_spelled (take (size k) parts)) (outer k) (arguments k)) in (
       names,
       ap (λ (o : Option Mirror). class_from look (map part_name (take (i + 1) parts)) (fronts_text (take (i + 1) parts)) o (map (part_meant look) (drop (i + 1) parts))) enclosing
           ∙ sym (class-next look parts i part within c.part-item.is c.loop-part.enclosing more) ∙ c.loop-part.invariant.1,
-      cc (c.in_ok-enclosing.ensures.kept, c.in_ok-arguments.ensures.kept, c.loop-part.invariant.2),
+      cc (c.in_ok-enclosing.ensures.kept, c.arguments_of-arguments.ensures.kept, c.loop-part.invariant.2),
     )
