@@ -4,7 +4,7 @@ ghost use Rattle.element_table.specs.TypeTable.{TypeTable};
 ghost use Rattle.type_resolve.specs.Remembered.{IsHeader, AreHeaders};
 
 use crate::known_texts::add_element;
-use crate::pairs::appended;
+use crate::pairs::{appended, both};
 use apt_base::{ElementRef, List, NoMemory};
 use std::alloc::Global;
 use std::collections::BTreeMap;
@@ -86,9 +86,11 @@ impl KnownHeaders {
     {
         let place = self.list.len();
         if place >= MOST_HEADERS {
+            drop(known);
             return Ok(());
         }
-        let key = key_of(self.alloc, &known.at)?;
+        let key = key_of(self.alloc, &known.at);
+        let (known, key) = both(known, key)?;
         self.list.push(known)?;
         self.places.insert(key, place)?;
         Ok(())

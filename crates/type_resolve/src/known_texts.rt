@@ -3,6 +3,7 @@ ghost use Rattle.std.specs.Prelude.{◌≡◌, [], IfOk, IfSome};
 ghost use Rattle.element_table.specs.TypeTable.{TypeTable};
 ghost use Rattle.type_resolve.specs.Remembered.{IsText, AreTexts};
 
+use crate::pairs::both;
 use crate::spelling::spelled_type;
 use apt_base::{ElementRef, NoMemory};
 use decl_tree::TypeText;
@@ -100,7 +101,8 @@ impl KnownTexts {
             → AreTexts table self.new }
     {
         let place = self.list.len();
-        let key = key_of(self.alloc, &known.at, &known.text)?;
+        let key = key_of(self.alloc, &known.at, &known.text);
+        let (known, key) = both(known, key)?;
         self.list.push(known)?;
         self.places.insert(key, place)?;
         Ok(())

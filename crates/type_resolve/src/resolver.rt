@@ -112,7 +112,8 @@ impl<'a> Resolver<'a> {
             Some(unit) => {
                 let at = found_in(alloc, table, unit, scope)?;
                 let mut looks = self.take_looks();
-                let meant = mirror_with(alloc, &mut looks, table, at, text)?;
+                let meant = mirror_with(alloc, &mut looks, table, at, text);
+                let (looks, meant) = both(looks, meant)?;
                 self.keep_looks(looks);
                 Ok(meant)
             }
@@ -152,8 +153,8 @@ impl<'a> Resolver<'a> {
             return Ok(());
         }
         let at = scope.copy(self.alloc)?;
-        let text = text.copy(self.alloc)?;
-        let meant = meant.copy(self.alloc)?;
+        let (at, text) = both(at, text.copy(self.alloc))?;
+        let ((at, text), meant) = both((at, text), meant.copy(self.alloc))?;
         self.texts.add(KnownText { at, text, meant })
     }
 
@@ -167,7 +168,8 @@ impl<'a> Resolver<'a> {
             Some(known) => Ok(known),
             None => {
                 let meant = self.meaning(scope, text)?;
-                self.remember_text(scope, text, &meant)?;
+                let remembered = self.remember_text(scope, text, &meant);
+                let (meant, ()) = both(meant, remembered)?;
                 Ok(meant)
             }
         }
@@ -186,7 +188,9 @@ impl<'a> Resolver<'a> {
             Some(unit) => {
                 let header = header_of(alloc, table, unit, at)?;
                 let mut looks = self.take_looks();
-                let meant = superclass_in(alloc, &mut looks, &header)?;
+                let meant = superclass_in(alloc, &mut looks, &header);
+                drop(header);
+                let (looks, meant) = both(looks, meant)?;
                 self.keep_looks(looks);
                 Ok(meant)
             }
@@ -205,7 +209,9 @@ impl<'a> Resolver<'a> {
             Some(unit) => {
                 let header = header_of(alloc, table, unit, at)?;
                 let mut looks = self.take_looks();
-                let list = interfaces_in(alloc, &mut looks, &header)?;
+                let list = interfaces_in(alloc, &mut looks, &header);
+                drop(header);
+                let (looks, list) = both(looks, list)?;
                 self.keep_looks(looks);
                 Ok(list)
             }
@@ -276,8 +282,10 @@ impl<'a> Resolver<'a> {
             Some(known) => Ok(known),
             None => {
                 let header = self.found_header(at)?;
-                let superclass = header.superclass.copy(self.alloc)?;
-                self.remember_header(header)?;
+                let superclass = header.superclass.copy(self.alloc);
+                let (header, superclass) = both(header, superclass)?;
+                let remembered = self.remember_header(header);
+                let (superclass, ()) = both(superclass, remembered)?;
                 Ok(superclass)
             }
         }
@@ -293,8 +301,10 @@ impl<'a> Resolver<'a> {
             Some(known) => Ok(known),
             None => {
                 let header = self.found_header(at)?;
-                let interfaces = copied(self.alloc, header.interfaces.as_slice())?;
-                self.remember_header(header)?;
+                let interfaces = copied(self.alloc, header.interfaces.as_slice());
+                let (header, interfaces) = both(header, interfaces)?;
+                let remembered = self.remember_header(header);
+                let (interfaces, ()) = both(interfaces, remembered)?;
                 Ok(interfaces)
             }
         }
