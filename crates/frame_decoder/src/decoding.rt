@@ -9,26 +9,42 @@ ghost use Rattle.frame_decoder.specs.Decodings.{reply_of, ask_of, tagged_next, f
 
 use crate::host_reading::{read_init, read_round};
 use crate::question_reading::read_question;
+use crate::quota::Quota;
 use crate::reply_reading::read_reply;
 use apt_base::{FieldReader, FormFault, NoMemory, read_byte};
 use std::alloc::Global;
 use wire_frames::{Frame, read_child_fields, tags};
 
-fn reply(alloc: Global, tag: u8, reader: &mut FieldReader<'_>) -> Result<Frame, FormFault>
+fn reply(
+    alloc: Global,
+    tag: u8,
+    reader: &mut FieldReader<'_>,
+    quota: &mut Quota,
+) -> Result<Frame, FormFault>
     ensures { Gives result (mapped reply_of (reply_next tag) reader.old) reader.new }
 {
-    let reply = read_reply(alloc, tag, reader)?;
+    let reply = read_reply(alloc, tag, reader, quota)?;
     Ok(Frame::Reply(reply))
 }
 
-fn question(alloc: Global, tag: u8, reader: &mut FieldReader<'_>) -> Result<Frame, FormFault>
+fn question(
+    alloc: Global,
+    tag: u8,
+    reader: &mut FieldReader<'_>,
+    quota: &mut Quota,
+) -> Result<Frame, FormFault>
     ensures { Gives result (mapped ask_of (question_next tag) reader.old) reader.new }
 {
-    let question = read_question(alloc, tag, reader)?;
+    let question = read_question(alloc, tag, reader, quota)?;
     Ok(Frame::Ask(question))
 }
 
-fn tagged(alloc: Global, tag: u8, reader: &mut FieldReader<'_>) -> Result<Frame, FormFault>
+fn tagged(
+    alloc: Global,
+    tag: u8,
+    reader: &mut FieldReader<'_>,
+    quota: &mut Quota,
+) -> Result<Frame, FormFault>
     ensures { Gives result (tagged_next tag reader.old) reader.new }
 {
     if tag == tags::INIT {
@@ -38,20 +54,20 @@ fn tagged(alloc: Global, tag: u8, reader: &mut FieldReader<'_>) -> Result<Frame,
         return read_round(alloc, reader);
     }
     if tag < tags::HELLO {
-        return reply(alloc, tag, reader);
+        return reply(alloc, tag, reader, quota);
     }
     if tag < tags::FIRST_QUESTION {
         return read_child_fields(alloc, tag, reader);
     }
-    question(alloc, tag, reader)
+    question(alloc, tag, reader, quota)
 }
 
 #[tactic(auto, unfolding(crate::specs::Decodings::frame_next))]
-fn frame(alloc: Global, reader: &mut FieldReader<'_>) -> Result<Frame, FormFault>
+fn frame(alloc: Global, reader: &mut FieldReader<'_>, quota: &mut Quota) -> Result<Frame, FormFault>
     ensures { Gives result (frame_next reader.old) reader.new }
 {
     let tag = read_byte(reader)?;
-    tagged(alloc, tag, reader)
+    tagged(alloc, tag, reader, quota)
 }
 
 #[tactic(auto, unfolding(crate::specs::Decodings::decoded))]
@@ -59,7 +75,8 @@ fn frame_of(alloc: Global, bytes: &[u8]) -> Result<Frame, FormFault>
     ensures { GivesAll result (decoded bytes.now) }
 {
     let mut reader = FieldReader::new(bytes);
-    let frame = frame(alloc, &mut reader)?;
+    let mut quota = Quota::of_frame(bytes.len());
+    let frame = frame(alloc, &mut reader, &mut quota)?;
     if reader.left() == 0 {
         return Ok(frame);
     }

@@ -7,10 +7,12 @@
 //! Not promised: that a name that a frame holds is one of the language, or that an element is there.
 #![tactic(auto)]
 
+mod counted_reading;
 mod decoding;
 mod host_reading;
 mod mirror_reading;
 mod question_reading;
+mod quota;
 mod reply_reading;
 mod value_reading;
 

@@ -7,12 +7,12 @@ ghost use Rattle.frame_forms.specs.Forms as forms;
 ghost use Rattle.frame_forms.specs.MirrorForms.{primitives};
 ghost use Rattle.frame_decoder.specs.PartReadings.{exactly_next, around_next, bounded_next, unbounded_next, wildcard_next, variant_around, mirror_at, mirror_in, mirror_next};
 
-use apt_base::{
-    Boxed, FieldReader, FormFault, List, NoMemory, read_byte, read_count, read_text, read_truth,
-};
+use crate::counted_reading::{read_counted_element, read_counted_elements, read_counted_text};
+use crate::quota::{OF_BLOCK, Quota, boxed, list_with_room};
+use apt_base::{Boxed, FieldReader, FormFault, List, NoMemory, read_byte, read_count, read_truth};
 use std::alloc::Global;
+use std::mem::size_of;
 use type_mirror::{Around, BaseMirror, DeclaredMirror, ExecutableMirror, Mirror, PrimitiveKind};
-use wire_frames::{read_element, read_elements};
 
 #[tactic(auto, unfolding(crate::specs::PartReadings::exactly_next))]
 fn exactly(only: u8, reader: &mut FieldReader<'_>) -> Result<(), FormFault>
@@ -34,9 +34,14 @@ fn based(around: List<Around>, base: BaseMirror) -> Mirror
 }
 
 // One thing more that stands around a mirror, further in than the others.
-fn further_in(around: List<Around>, next: Around) -> Result<List<Around>, NoMemory>
+fn further_in(
+    around: List<Around>,
+    next: Around,
+    quota: &mut Quota,
+) -> Result<List<Around>, NoMemory>
     ensures { IfOk result (λ all. all ≡ around ++ next ∷ []) }
 {
+    quota.take(OF_BLOCK)?;
     let mut all = around;
     all.push(next)?;
     Ok(all)
@@ -74,12 +79,13 @@ fn bounded(
     around: List<Around>,
     side: Around,
     reader: &mut FieldReader<'_>,
+    quota: &mut Quota,
 ) -> Result<Mirror, FormFault>
     ensures { Gives result (around_next around (bounded_next side (mirror_next room)) reader.old) reader.new }
 {
     exactly(1, reader)?;
-    let around = further_in(around, side)?;
-    around_mirror(alloc, room, around, reader)
+    let around = further_in(around, side, quota)?;
+    around_mirror(alloc, room, around, reader, quota)
 }
 
 #[cycle(read_mirror)]
@@ -89,13 +95,14 @@ fn wildcard(
     room: u16,
     around: List<Around>,
     reader: &mut FieldReader<'_>,
+    quota: &mut Quota,
 ) -> Result<Mirror, FormFault>
     ensures { Gives result (around_next around (wildcard_next (mirror_next room)) reader.old) reader.new }
 {
     match read_byte(reader)? {
         0 => unbounded(around, reader),
-        1 => bounded(alloc, room, around, Around::Extends, reader),
-        2 => bounded(alloc, room, around, Around::Super, reader),
+        1 => bounded(alloc, room, around, Around::Extends, reader, quota),
+        2 => bounded(alloc, room, around, Around::Super, reader, quota),
         _ => Err(FormFault::Bad),
     }
 }
@@ -106,12 +113,13 @@ fn declared(
     room: u16,
     around: List<Around>,
     reader: &mut FieldReader<'_>,
+    quota: &mut Quota,
 ) -> Result<Mirror, FormFault>
     ensures { Gives result (variant_around around (mirror_next room) forms.declared reader.old) reader.new }
 {
-    let element = read_element(alloc, reader)?;
-    let enclosing = optional_mirror(alloc, room, reader)?;
-    let arguments = read_mirrors(alloc, room, reader)?;
+    let element = read_counted_element(alloc, reader, quota)?;
+    let enclosing = optional_mirror(alloc, room, reader, quota)?;
+    let arguments = read_mirrors(alloc, room, reader, quota)?;
     let declared = DeclaredMirror {
         element,
         enclosing,
@@ -126,12 +134,13 @@ fn optional_mirror(
     alloc: Global,
     room: u16,
     reader: &mut FieldReader<'_>,
+    quota: &mut Quota,
 ) -> Result<Option<Boxed<Mirror>>, FormFault>
     ensures { Gives result (opt_next (mirror_next room) reader.old) reader.new }
 {
     if read_truth(reader)? {
-        let mirror = read_mirror(alloc, room, reader)?;
-        Ok(Some(Boxed::new(alloc, mirror)?))
+        let mirror = read_mirror(alloc, room, reader, quota)?;
+        Ok(Some(boxed(alloc, mirror, size_of::<Mirror>(), quota)?))
     } else {
         Ok(None)
     }
@@ -144,13 +153,14 @@ pub(crate) fn read_mirrors(
     alloc: Global,
     room: u16,
     reader: &mut FieldReader<'_>,
+    quota: &mut Quota,
 ) -> Result<List<Mirror>, FormFault>
     ensures { Gives result (list_next (mirror_next room) reader.old) reader.new }
 {
     let count = read_count(reader)?;
-    let mut items = List::new(alloc);
+    let mut items = list_with_room(alloc, count, reader.left(), size_of::<Mirror>(), quota)?;
     for _ in 0..count {
-        let item = read_mirror(alloc, room, reader)?;
+        let item = read_mirror(alloc, room, reader, quota)?;
         items.push(item)?;
     }
     Ok(items)
@@ -162,17 +172,18 @@ fn executable(
     room: u16,
     around: List<Around>,
     reader: &mut FieldReader<'_>,
+    quota: &mut Quota,
 ) -> Result<Mirror, FormFault>
     ensures { Gives result (variant_around around (mirror_next room) forms.executable reader.old) reader.new }
 {
-    let variables = read_elements(alloc, reader)?;
-    let parameters = read_mirrors(alloc, room, reader)?;
-    let outcome = read_mirror(alloc, room, reader)?;
-    let thrown = read_mirrors(alloc, room, reader)?;
+    let variables = read_counted_elements(alloc, reader, quota)?;
+    let parameters = read_mirrors(alloc, room, reader, quota)?;
+    let outcome = read_mirror(alloc, room, reader, quota)?;
+    let thrown = read_mirrors(alloc, room, reader, quota)?;
     let executable = ExecutableMirror {
         variables,
         parameters,
-        result: Boxed::new(alloc, outcome)?,
+        result: boxed(alloc, outcome, size_of::<Mirror>(), quota)?,
         thrown,
     };
     Ok(based(around, BaseMirror::Executable(executable)))
@@ -189,10 +200,11 @@ fn error(
     alloc: Global,
     around: List<Around>,
     reader: &mut FieldReader<'_>,
+    quota: &mut Quota,
 ) -> Result<Mirror, FormFault>
     ensures { Gives result (variant_around around none_next forms.error reader.old) reader.new }
 {
-    let text = read_text(alloc, reader)?;
+    let text = read_counted_text(alloc, reader, quota)?;
     Ok(based(around, BaseMirror::Error(text)))
 }
 
@@ -200,10 +212,11 @@ fn variable(
     alloc: Global,
     around: List<Around>,
     reader: &mut FieldReader<'_>,
+    quota: &mut Quota,
 ) -> Result<Mirror, FormFault>
     ensures { Gives result (variant_around around none_next forms.variable reader.old) reader.new }
 {
-    let element = read_element(alloc, reader)?;
+    let element = read_counted_element(alloc, reader, quota)?;
     Ok(based(around, BaseMirror::Variable(element)))
 }
 
@@ -211,10 +224,11 @@ fn package(
     alloc: Global,
     around: List<Around>,
     reader: &mut FieldReader<'_>,
+    quota: &mut Quota,
 ) -> Result<Mirror, FormFault>
     ensures { Gives result (variant_around around none_next forms.package_mirror reader.old) reader.new }
 {
-    let name = read_text(alloc, reader)?;
+    let name = read_counted_text(alloc, reader, quota)?;
     Ok(based(around, BaseMirror::Package(name)))
 }
 
@@ -224,11 +238,12 @@ fn array(
     room: u16,
     around: List<Around>,
     reader: &mut FieldReader<'_>,
+    quota: &mut Quota,
 ) -> Result<Mirror, FormFault>
     ensures { Gives result (variant_around around (mirror_next room) forms.array reader.old) reader.new }
 {
-    let around = further_in(around, Around::Array)?;
-    around_mirror(alloc, room, around, reader)
+    let around = further_in(around, Around::Array, quota)?;
+    around_mirror(alloc, room, around, reader, quota)
 }
 
 // The mirror with this number, and what stands around it.
@@ -239,21 +254,22 @@ fn mirror_of(
     around: List<Around>,
     number: u8,
     reader: &mut FieldReader<'_>,
+    quota: &mut Quota,
 ) -> Result<Mirror, FormFault>
     ensures { Gives result (around_next around (mirror_at number (mirror_next room)) reader.old) reader.new }
 {
     match number {
         0 => primitive(around, reader),
-        1 => declared(alloc, room, around, reader),
-        2 => error(alloc, around, reader),
-        3 => variable(alloc, around, reader),
-        4 => array(alloc, room, around, reader),
-        5 => wildcard(alloc, room, around, reader),
-        6 => executable(alloc, room, around, reader),
+        1 => declared(alloc, room, around, reader, quota),
+        2 => error(alloc, around, reader, quota),
+        3 => variable(alloc, around, reader, quota),
+        4 => array(alloc, room, around, reader, quota),
+        5 => wildcard(alloc, room, around, reader, quota),
+        6 => executable(alloc, room, around, reader, quota),
         7 => Ok(based(around, BaseMirror::Nothing)),
         8 => Ok(based(around, BaseMirror::Void)),
         9 => Ok(based(around, BaseMirror::Null)),
-        10 => package(alloc, around, reader),
+        10 => package(alloc, around, reader, quota),
         _ => Err(FormFault::Bad),
     }
 }
@@ -266,11 +282,12 @@ fn mirror_in(
     room: u16,
     around: List<Around>,
     reader: &mut FieldReader<'_>,
+    quota: &mut Quota,
 ) -> Result<Mirror, FormFault>
     ensures { Gives result (around_next around (mirror_in (mirror_next room)) reader.old) reader.new }
 {
     let number = read_byte(reader)?;
-    mirror_of(alloc, room, around, number, reader)
+    mirror_of(alloc, room, around, number, reader, quota)
 }
 
 // A mirror that is nested at most `room` deep, and what stands around it. So no mirror is copied for each array or wildcard around it.
@@ -280,13 +297,14 @@ fn around_mirror(
     room: u16,
     around: List<Around>,
     reader: &mut FieldReader<'_>,
+    quota: &mut Quota,
 ) -> Result<Mirror, FormFault>
     ensures { Gives result (around_next around (mirror_next room) reader.old) reader.new }
 {
     if room == 0 {
         return Err(FormFault::Bad);
     }
-    mirror_in(alloc, room - 1, around, reader)
+    mirror_in(alloc, room - 1, around, reader, quota)
 }
 
 /// A mirror that is nested at most `room` deep.
@@ -295,8 +313,9 @@ pub(crate) fn read_mirror(
     alloc: Global,
     room: u16,
     reader: &mut FieldReader<'_>,
+    quota: &mut Quota,
 ) -> Result<Mirror, FormFault>
     ensures { Gives result (mirror_next room reader.old) reader.new }
 {
-    around_mirror(alloc, room, List::new(alloc), reader)
+    around_mirror(alloc, room, List::new(alloc), reader, quota)
 }

@@ -4,6 +4,7 @@ ghost use Rattle.frame_forms.specs.declared.question_row.QuestionRow.TheVariants
 ghost use Rattle.frame_decoder.specs.QuestionReadings.{arguments_next, question_next};
 
 use crate::mirror_reading::{read_mirror, read_mirrors};
+use crate::quota::Quota;
 use apt_base::{FieldReader, FormFault, read_text};
 use frame_forms::{
     ElementQuestion, MOST_NESTED, MirrorQuestion, MirrorsQuestion, NameQuestion, QuestionRow,
@@ -39,10 +40,11 @@ fn about_mirror(
     alloc: Global,
     question: MirrorQuestion,
     reader: &mut FieldReader<'_>,
+    quota: &mut Quota,
 ) -> Result<Question, FormFault>
     ensures { Gives result (arguments_next (rows.Mirror question) reader.old) reader.new }
 {
-    let mirror = read_mirror(alloc, MOST_NESTED, reader)?;
+    let mirror = read_mirror(alloc, MOST_NESTED, reader, quota)?;
     Ok(Question::Mirror(question, mirror))
 }
 
@@ -50,11 +52,12 @@ fn about_mirrors(
     alloc: Global,
     question: MirrorsQuestion,
     reader: &mut FieldReader<'_>,
+    quota: &mut Quota,
 ) -> Result<Question, FormFault>
     ensures { Gives result (arguments_next (rows.Mirrors question) reader.old) reader.new }
 {
-    let one = read_mirror(alloc, MOST_NESTED, reader)?;
-    match read_mirror(alloc, MOST_NESTED, reader) {
+    let one = read_mirror(alloc, MOST_NESTED, reader, quota)?;
+    match read_mirror(alloc, MOST_NESTED, reader, quota) {
         Ok(other) => Ok(Question::Mirrors(question, one, other)),
         Err(fault) => {
             drop(one);
@@ -89,10 +92,14 @@ fn overrides(alloc: Global, reader: &mut FieldReader<'_>) -> Result<Question, Fo
     })
 }
 
-fn member_type(alloc: Global, reader: &mut FieldReader<'_>) -> Result<Question, FormFault>
+fn member_type(
+    alloc: Global,
+    reader: &mut FieldReader<'_>,
+    quota: &mut Quota,
+) -> Result<Question, FormFault>
     ensures { Gives result (arguments_next rows.MemberType reader.old) reader.new }
 {
-    let container = read_mirror(alloc, MOST_NESTED, reader)?;
+    let container = read_mirror(alloc, MOST_NESTED, reader, quota)?;
     match read_element(alloc, reader) {
         Ok(element) => Ok(Question::MemberType { container, element }),
         Err(fault) => {
@@ -102,11 +109,15 @@ fn member_type(alloc: Global, reader: &mut FieldReader<'_>) -> Result<Question, 
     }
 }
 
-fn declared_type(alloc: Global, reader: &mut FieldReader<'_>) -> Result<Question, FormFault>
+fn declared_type(
+    alloc: Global,
+    reader: &mut FieldReader<'_>,
+    quota: &mut Quota,
+) -> Result<Question, FormFault>
     ensures { Gives result (arguments_next rows.DeclaredType reader.old) reader.new }
 {
     let element = read_element(alloc, reader)?;
-    let arguments = read_mirrors(alloc, MOST_NESTED, reader)?;
+    let arguments = read_mirrors(alloc, MOST_NESTED, reader, quota)?;
     Ok(Question::DeclaredType { element, arguments })
 }
 
@@ -116,18 +127,19 @@ fn arguments(
     alloc: Global,
     row: QuestionRow,
     reader: &mut FieldReader<'_>,
+    quota: &mut Quota,
 ) -> Result<Question, FormFault>
     ensures { Gives result (arguments_next row reader.old) reader.new }
 {
     match row {
         QuestionRow::Name(question) => about_name(alloc, question, reader),
         QuestionRow::Element(question) => about_element(alloc, question, reader),
-        QuestionRow::Mirror(question) => about_mirror(alloc, question, reader),
-        QuestionRow::Mirrors(question) => about_mirrors(alloc, question, reader),
+        QuestionRow::Mirror(question) => about_mirror(alloc, question, reader, quota),
+        QuestionRow::Mirrors(question) => about_mirrors(alloc, question, reader, quota),
         QuestionRow::ValuesWithDefaults => values_with_defaults(alloc, reader),
         QuestionRow::Overrides => overrides(alloc, reader),
-        QuestionRow::MemberType => member_type(alloc, reader),
-        QuestionRow::DeclaredType => declared_type(alloc, reader),
+        QuestionRow::MemberType => member_type(alloc, reader, quota),
+        QuestionRow::DeclaredType => declared_type(alloc, reader, quota),
         QuestionRow::Roots => Ok(Question::Roots),
     }
 }
@@ -138,11 +150,12 @@ pub(crate) fn read_question(
     alloc: Global,
     tag: u8,
     reader: &mut FieldReader<'_>,
+    quota: &mut Quota,
 ) -> Result<Question, FormFault>
     ensures { Gives result (question_next tag reader.old) reader.new }
 {
     match QuestionRow::at(tag) {
         None => Err(FormFault::Bad),
-        Some(row) => arguments(alloc, row, reader),
+        Some(row) => arguments(alloc, row, reader, quota),
     }
 }

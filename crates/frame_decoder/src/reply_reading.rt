@@ -5,13 +5,16 @@ ghost use Rattle.apt_base.specs.Forms.{numbered, list_next};
 ghost use Rattle.apt_base.specs.Readings.{Gives};
 ghost use Rattle.frame_decoder.specs.HostReadings.{info_next, entry_next, annotation_next, all_created, all_refused, reply_next};
 
+use crate::counted_reading::read_counted_text;
 use crate::mirror_reading::read_mirrors;
+use crate::quota::{Quota, list_with_room};
 use crate::value_reading::{read_annotation, read_value};
 use apt_base::{
     FieldReader, FormFault, List, Name, read_byte, read_count, read_text, read_texts, read_truth,
 };
 use frame_forms::MOST_NESTED;
 use std::alloc::Global;
+use std::mem::size_of;
 use type_mirror::{Annotation, Value};
 use wire_frames::{Created, Info, Refused, Reply, read_below, read_elements, read_step, tags};
 
@@ -34,20 +37,28 @@ fn info(alloc: Global, reader: &mut FieldReader<'_>) -> Result<Reply, FormFault>
 }
 
 #[tactic(auto, unfolding(crate::specs::HostReadings::annotation_next))]
-fn annotation(alloc: Global, reader: &mut FieldReader<'_>) -> Result<Annotation, FormFault>
+fn annotation(
+    alloc: Global,
+    reader: &mut FieldReader<'_>,
+    quota: &mut Quota,
+) -> Result<Annotation, FormFault>
     ensures { Gives result (annotation_next MOST_NESTED reader.old) reader.new }
 {
-    read_annotation(alloc, MOST_NESTED, reader)
+    read_annotation(alloc, MOST_NESTED, reader, quota)
 }
 
 #[tactic(auto, unfolding(apt_base::specs::Forms::list_next))]
-fn annotations(alloc: Global, reader: &mut FieldReader<'_>) -> Result<List<Annotation>, FormFault>
+fn annotations(
+    alloc: Global,
+    reader: &mut FieldReader<'_>,
+    quota: &mut Quota,
+) -> Result<List<Annotation>, FormFault>
     ensures { Gives result (list_next (annotation_next MOST_NESTED) reader.old) reader.new }
 {
     let count = read_count(reader)?;
-    let mut items = List::new(alloc);
+    let mut items = list_with_room(alloc, count, reader.left(), size_of::<Annotation>(), quota)?;
     for _ in 0..count {
-        let item = annotation(alloc, reader)?;
+        let item = annotation(alloc, reader, quota)?;
         items.push(item)?;
     }
     Ok(items)
@@ -55,22 +66,36 @@ fn annotations(alloc: Global, reader: &mut FieldReader<'_>) -> Result<List<Annot
 
 // A value with a name.
 #[tactic(auto, unfolding(crate::specs::HostReadings::entry_next))]
-fn entry(alloc: Global, reader: &mut FieldReader<'_>) -> Result<(Name, Value), FormFault>
+fn entry(
+    alloc: Global,
+    reader: &mut FieldReader<'_>,
+    quota: &mut Quota,
+) -> Result<(Name, Value), FormFault>
     ensures { Gives result (entry_next MOST_NESTED reader.old) reader.new }
 {
-    let name = read_text(alloc, reader)?;
-    let value = read_value(alloc, MOST_NESTED, reader)?;
+    let name = read_counted_text(alloc, reader, quota)?;
+    let value = read_value(alloc, MOST_NESTED, reader, quota)?;
     Ok((name, value))
 }
 
 #[tactic(auto, unfolding(apt_base::specs::Forms::list_next))]
-fn entries(alloc: Global, reader: &mut FieldReader<'_>) -> Result<List<(Name, Value)>, FormFault>
+fn entries(
+    alloc: Global,
+    reader: &mut FieldReader<'_>,
+    quota: &mut Quota,
+) -> Result<List<(Name, Value)>, FormFault>
     ensures { Gives result (list_next (entry_next MOST_NESTED) reader.old) reader.new }
 {
     let count = read_count(reader)?;
-    let mut items = List::new(alloc);
+    let mut items = list_with_room(
+        alloc,
+        count,
+        reader.left(),
+        size_of::<(Name, Value)>(),
+        quota,
+    )?;
     for _ in 0..count {
-        let item = entry(alloc, reader)?;
+        let item = entry(alloc, reader, quota)?;
         items.push(item)?;
     }
     Ok(items)
@@ -115,24 +140,36 @@ fn texts_reply(alloc: Global, reader: &mut FieldReader<'_>) -> Result<Reply, For
     Ok(Reply::Texts(texts))
 }
 
-fn annotations_reply(alloc: Global, reader: &mut FieldReader<'_>) -> Result<Reply, FormFault>
+fn annotations_reply(
+    alloc: Global,
+    reader: &mut FieldReader<'_>,
+    quota: &mut Quota,
+) -> Result<Reply, FormFault>
     ensures { Gives result (reply_next 19 reader.old) reader.new }
 {
-    let annotations = annotations(alloc, reader)?;
+    let annotations = annotations(alloc, reader, quota)?;
     Ok(Reply::Annotations(annotations))
 }
 
-fn values_reply(alloc: Global, reader: &mut FieldReader<'_>) -> Result<Reply, FormFault>
+fn values_reply(
+    alloc: Global,
+    reader: &mut FieldReader<'_>,
+    quota: &mut Quota,
+) -> Result<Reply, FormFault>
     ensures { Gives result (reply_next 20 reader.old) reader.new }
 {
-    let values = entries(alloc, reader)?;
+    let values = entries(alloc, reader, quota)?;
     Ok(Reply::Values(values))
 }
 
-fn mirrors_reply(alloc: Global, reader: &mut FieldReader<'_>) -> Result<Reply, FormFault>
+fn mirrors_reply(
+    alloc: Global,
+    reader: &mut FieldReader<'_>,
+    quota: &mut Quota,
+) -> Result<Reply, FormFault>
     ensures { Gives result (reply_next 21 reader.old) reader.new }
 {
-    let mirrors = read_mirrors(alloc, MOST_NESTED, reader)?;
+    let mirrors = read_mirrors(alloc, MOST_NESTED, reader, quota)?;
     Ok(Reply::Mirrors(mirrors))
 }
 
@@ -162,6 +199,7 @@ pub(crate) fn read_reply(
     alloc: Global,
     tag: u8,
     reader: &mut FieldReader<'_>,
+    quota: &mut Quota,
 ) -> Result<Reply, FormFault>
     ensures { Gives result (reply_next tag reader.old) reader.new }
 {
@@ -169,9 +207,9 @@ pub(crate) fn read_reply(
         tags::ELEMENTS => elements_reply(alloc, reader),
         tags::INFO => info(alloc, reader),
         tags::TEXTS => texts_reply(alloc, reader),
-        tags::ANNOTATIONS => annotations_reply(alloc, reader),
-        tags::VALUES => values_reply(alloc, reader),
-        tags::MIRRORS => mirrors_reply(alloc, reader),
+        tags::ANNOTATIONS => annotations_reply(alloc, reader, quota),
+        tags::VALUES => values_reply(alloc, reader, quota),
+        tags::MIRRORS => mirrors_reply(alloc, reader, quota),
         tags::TRUTH => truth_reply(reader),
         tags::CREATED => created_reply(reader),
         tags::NOTED => Ok(Reply::Noted),

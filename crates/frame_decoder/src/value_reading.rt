@@ -7,11 +7,13 @@ ghost use Rattle.frame_forms.specs.MirrorForms.{whole_kinds, value_made};
 ghost use Rattle.wire_frames.specs.Readings.{element_next};
 ghost use Rattle.frame_decoder.specs.PartReadings.{mirror_next, named_in, annotation_in, array_next, nested_next, whole_next, value_at, value_in, value_next};
 
+use crate::counted_reading::{read_counted_element, read_counted_text};
 use crate::mirror_reading::read_mirror;
-use apt_base::{FieldReader, FormFault, List, read_byte, read_count, read_text, read_truth};
+use crate::quota::{Quota, list_with_room};
+use apt_base::{FieldReader, FormFault, List, read_byte, read_count, read_truth};
 use std::alloc::Global;
+use std::mem::size_of;
 use type_mirror::{Annotation, NamedValue, Value, WholeKind};
-use wire_frames::read_element;
 
 fn whole_kind(reader: &mut FieldReader<'_>) -> Result<WholeKind, FormFault>
     ensures { Gives result (numbered whole_kinds.at reader.old) reader.new }
@@ -54,68 +56,96 @@ fn truth(reader: &mut FieldReader<'_>) -> Result<Value, FormFault>
     Ok(Value::Truth(truth))
 }
 
-fn text(alloc: Global, reader: &mut FieldReader<'_>) -> Result<Value, FormFault>
+fn text(alloc: Global, reader: &mut FieldReader<'_>, quota: &mut Quota) -> Result<Value, FormFault>
     ensures { Gives result (mapped (value_made forms.text_value) text_next reader.old) reader.new }
 {
-    let text = read_text(alloc, reader)?;
+    let text = read_counted_text(alloc, reader, quota)?;
     Ok(Value::Text(text))
 }
 
-fn other(alloc: Global, reader: &mut FieldReader<'_>) -> Result<Value, FormFault>
+fn other(alloc: Global, reader: &mut FieldReader<'_>, quota: &mut Quota) -> Result<Value, FormFault>
     ensures { Gives result (mapped (value_made forms.other) text_next reader.old) reader.new }
 {
-    let text = read_text(alloc, reader)?;
+    let text = read_counted_text(alloc, reader, quota)?;
     Ok(Value::Other(text))
 }
 
-fn floating(alloc: Global, reader: &mut FieldReader<'_>) -> Result<Value, FormFault>
+fn floating(
+    alloc: Global,
+    reader: &mut FieldReader<'_>,
+    quota: &mut Quota,
+) -> Result<Value, FormFault>
     ensures { Gives result (mapped (value_made forms.floating) text_next reader.old) reader.new }
 {
-    let text = read_text(alloc, reader)?;
+    let text = read_counted_text(alloc, reader, quota)?;
     Ok(Value::Floating(text))
 }
 
-fn constant(alloc: Global, reader: &mut FieldReader<'_>) -> Result<Value, FormFault>
+fn constant(
+    alloc: Global,
+    reader: &mut FieldReader<'_>,
+    quota: &mut Quota,
+) -> Result<Value, FormFault>
     ensures { Gives result (mapped (value_made forms.constant) element_next reader.old) reader.new }
 {
-    let element = read_element(alloc, reader)?;
+    let element = read_counted_element(alloc, reader, quota)?;
     Ok(Value::Constant(element))
 }
 
-fn class(alloc: Global, room: u16, reader: &mut FieldReader<'_>) -> Result<Value, FormFault>
+fn class(
+    alloc: Global,
+    room: u16,
+    reader: &mut FieldReader<'_>,
+    quota: &mut Quota,
+) -> Result<Value, FormFault>
     ensures { Gives result (mapped (value_made forms.class_value) (mirror_next room) reader.old) reader.new }
 {
-    let of = read_mirror(alloc, room, reader)?;
+    let of = read_mirror(alloc, room, reader, quota)?;
     Ok(Value::Class(of))
 }
 
 #[cycle(read_value)]
-fn array_value(alloc: Global, room: u16, reader: &mut FieldReader<'_>) -> Result<Value, FormFault>
+fn array_value(
+    alloc: Global,
+    room: u16,
+    reader: &mut FieldReader<'_>,
+    quota: &mut Quota,
+) -> Result<Value, FormFault>
     ensures { Gives result (array_next (value_next room) reader.old) reader.new }
 {
-    let items = values(alloc, room, reader)?;
+    let items = values(alloc, room, reader, quota)?;
     Ok(Value::Array(items))
 }
 
 #[cycle(read_value)]
 #[tactic(auto, unfolding(apt_base::specs::Forms::list_next))]
-fn values(alloc: Global, room: u16, reader: &mut FieldReader<'_>) -> Result<List<Value>, FormFault>
+fn values(
+    alloc: Global,
+    room: u16,
+    reader: &mut FieldReader<'_>,
+    quota: &mut Quota,
+) -> Result<List<Value>, FormFault>
     ensures { Gives result (list_next (value_next room) reader.old) reader.new }
 {
     let count = read_count(reader)?;
-    let mut items = List::new(alloc);
+    let mut items = list_with_room(alloc, count, reader.left(), size_of::<Value>(), quota)?;
     for _ in 0..count {
-        let item = read_value(alloc, room, reader)?;
+        let item = read_value(alloc, room, reader, quota)?;
         items.push(item)?;
     }
     Ok(items)
 }
 
 #[cycle(read_value)]
-fn nested(alloc: Global, room: u16, reader: &mut FieldReader<'_>) -> Result<Value, FormFault>
+fn nested(
+    alloc: Global,
+    room: u16,
+    reader: &mut FieldReader<'_>,
+    quota: &mut Quota,
+) -> Result<Value, FormFault>
     ensures { Gives result (nested_next (mirror_next room) (value_next room) reader.old) reader.new }
 {
-    let annotation = read_annotation(alloc, room, reader)?;
+    let annotation = read_annotation(alloc, room, reader, quota)?;
     Ok(Value::Nested(annotation))
 }
 
@@ -126,11 +156,12 @@ pub(crate) fn read_annotation(
     alloc: Global,
     room: u16,
     reader: &mut FieldReader<'_>,
+    quota: &mut Quota,
 ) -> Result<Annotation, FormFault>
     ensures { Gives result (annotation_in (mirror_next room) (value_next room) reader.old) reader.new }
 {
-    let annotation_type = read_mirror(alloc, room, reader)?;
-    let values = named_values(alloc, room, reader)?;
+    let annotation_type = read_mirror(alloc, room, reader, quota)?;
+    let values = named_values(alloc, room, reader, quota)?;
     Ok(Annotation {
         annotation_type,
         values,
@@ -143,13 +174,14 @@ fn named_values(
     alloc: Global,
     room: u16,
     reader: &mut FieldReader<'_>,
+    quota: &mut Quota,
 ) -> Result<List<NamedValue>, FormFault>
     ensures { Gives result (list_next (named_in (value_next room)) reader.old) reader.new }
 {
     let count = read_count(reader)?;
-    let mut items = List::new(alloc);
+    let mut items = list_with_room(alloc, count, reader.left(), size_of::<NamedValue>(), quota)?;
     for _ in 0..count {
-        let item = named_value(alloc, room, reader)?;
+        let item = named_value(alloc, room, reader, quota)?;
         items.push(item)?;
     }
     Ok(items)
@@ -161,11 +193,12 @@ fn named_value(
     alloc: Global,
     room: u16,
     reader: &mut FieldReader<'_>,
+    quota: &mut Quota,
 ) -> Result<NamedValue, FormFault>
     ensures { Gives result (named_in (value_next room) reader.old) reader.new }
 {
-    let name = read_text(alloc, reader)?;
-    let value = read_value(alloc, room, reader)?;
+    let name = read_counted_text(alloc, reader, quota)?;
+    let value = read_value(alloc, room, reader, quota)?;
     Ok(NamedValue { name, value })
 }
 
@@ -175,6 +208,7 @@ fn value_of(
     room: u16,
     number: u8,
     reader: &mut FieldReader<'_>,
+    quota: &mut Quota,
 ) -> Result<Value, FormFault>
     ensures { Gives result (value_at number (mirror_next room) (value_next room) reader.old) reader.new }
 {
@@ -182,13 +216,13 @@ fn value_of(
         0 => truth(reader),
         1 => whole(reader),
         2 => character(reader),
-        3 => text(alloc, reader),
-        4 => class(alloc, room, reader),
-        5 => constant(alloc, reader),
-        6 => array_value(alloc, room, reader),
-        7 => nested(alloc, room, reader),
-        8 => other(alloc, reader),
-        9 => floating(alloc, reader),
+        3 => text(alloc, reader, quota),
+        4 => class(alloc, room, reader, quota),
+        5 => constant(alloc, reader, quota),
+        6 => array_value(alloc, room, reader, quota),
+        7 => nested(alloc, room, reader, quota),
+        8 => other(alloc, reader, quota),
+        9 => floating(alloc, reader, quota),
         _ => Err(FormFault::Bad),
     }
 }
@@ -196,11 +230,16 @@ fn value_of(
 // A value in which mirrors and values are nested at most `room` deep.
 #[cycle(read_value)]
 #[tactic(auto, unfolding(crate::specs::PartReadings::value_in))]
-fn value_in(alloc: Global, room: u16, reader: &mut FieldReader<'_>) -> Result<Value, FormFault>
+fn value_in(
+    alloc: Global,
+    room: u16,
+    reader: &mut FieldReader<'_>,
+    quota: &mut Quota,
+) -> Result<Value, FormFault>
     ensures { Gives result (value_in (mirror_next room) (value_next room) reader.old) reader.new }
 {
     let number = read_byte(reader)?;
-    value_of(alloc, room, number, reader)
+    value_of(alloc, room, number, reader, quota)
 }
 
 /// A value that is nested at most `room` deep.
@@ -209,11 +248,12 @@ pub(crate) fn read_value(
     alloc: Global,
     room: u16,
     reader: &mut FieldReader<'_>,
+    quota: &mut Quota,
 ) -> Result<Value, FormFault>
     ensures { Gives result (value_next room reader.old) reader.new }
 {
     if room == 0 {
         return Err(FormFault::Bad);
     }
-    value_in(alloc, room - 1, reader)
+    value_in(alloc, room - 1, reader, quota)
 }
