@@ -283,7 +283,8 @@ impl FieldsReader {
         Ok(())
     }
 
-    fn forget_texts(&mut self)
+    /// Lets the texts of a list go.
+    pub(crate) fn forget_texts(&mut self)
         ensures { self.new ≡ record self.old { earlier = fin.empty; last = None } }
     {
         self.earlier = Names::new(self.alloc);

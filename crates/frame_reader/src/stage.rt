@@ -73,6 +73,8 @@ fn in_fields(
                 return Ok(Stage::Fields(end));
             }
             if fields.is_done() {
+                // Its value takes memory next.
+                fields.forget_texts();
                 return Ok(Stage::Whole);
             }
             Ok(Stage::Bad(place, BadKind::Field))

@@ -1,7 +1,7 @@
 // Reads the frames of a child.
-ghost use Rattle.std.specs.Prelude.{◌≡◌, IfOk};
+ghost use Rattle.std.specs.Prelude.{◌≡◌, [], IfOk};
 ghost use Rattle.std.specs.List.{list_all};
-ghost use Rattle.apt_base.specs.Fields.{u16_next, bytes_next};
+ghost use Rattle.apt_base.specs.Fields.{u16_next, bytes_next, text_next};
 ghost use Rattle.apt_base.specs.Forms.{mapped, opt_next, list_next};
 ghost use Rattle.apt_base.specs.Identifiers.{is_pattern};
 ghost use Rattle.apt_base.specs.Readings.{Gives};
@@ -11,7 +11,7 @@ use crate::frame::{Creation, Frame, Hello, Message};
 use crate::tags;
 use apt_base::{
     Claim, ElementRef, FieldReader, FormFault, List, Name, NoMemory, is_pattern, read_byte,
-    read_count, read_text, read_texts, read_truth,
+    read_count, read_text, read_truth,
 };
 use std::alloc::Global;
 use std::collections::BTreeSet;
@@ -25,11 +25,34 @@ fn are_distinct(alloc: Global, texts: &[Name]) -> Result<bool, NoMemory>
     Ok(set.len() == texts.len())
 }
 
+// An empty list that has room for this many texts, but for no more than so many bytes may spell, each of them four and
+// more.
+fn list_of_texts(alloc: Global, count: u32, bytes: usize) -> Result<List<Name>, NoMemory>
+    ensures { IfOk result (λ texts. texts ≡ []) }
+{
+    let room = (count as usize).min(bytes / 4);
+    Ok(List::from_vec(Vec::with_capacity(alloc, room)?))
+}
+
+// Texts behind their number.
+#[tactic(auto, unfolding(apt_base::specs::Forms::list_next))]
+fn any_texts(alloc: Global, reader: &mut FieldReader<'_>) -> Result<List<Name>, FormFault>
+    ensures { Gives result (list_next text_next reader.old) reader.new }
+{
+    let count = read_count(reader)?;
+    let mut items = list_of_texts(alloc, count, reader.left())?;
+    for _ in 0..count {
+        let item = read_text(alloc, reader)?;
+        items.push(item)?;
+    }
+    Ok(items)
+}
+
 #[tactic(auto, unfolding(crate::specs::Readings::distinct_next))]
 fn distinct_texts(alloc: Global, reader: &mut FieldReader<'_>) -> Result<List<Name>, FormFault>
     ensures { Gives result (distinct_next reader.old) reader.new }
 {
-    let texts = read_texts(alloc, reader)?;
+    let texts = any_texts(alloc, reader)?;
     if are_distinct(alloc, texts.as_slice())? {
         Ok(texts)
     } else {
