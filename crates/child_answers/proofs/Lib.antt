@@ -1,5 +1,6 @@
 pub mod AgreeingAnswers
 pub mod FramesOfReplies
 pub mod JudgedAnswers
+pub mod RememberedAnswers
 pub mod ToldReplies
 pub mod TypesOfKind

@@ -1,5 +1,5 @@
 -- What a child is told of what was given, and of a reply by its size.
-use Rattle.std.proofs.Common.{◌≡◌, Bool, true, false, Option, None, Some, Err, refl, sym, ap, ◌∙◌, if◌then◌else◌}
+use Rattle.std.proofs.Common.{◌≡◌, ℕ, Bool, true, false, List, Option, None, Some, Ok, Err, sym, ap, ◌∙◌, if◌then◌else◌}
 use Rattle.type_queries.specs.Verdicts.{Given, Gives}
 use Rattle.type_queries.specs.declared.fault.QueryFault.{QueryFault}
 use Rattle.type_queries.specs.declared.fault.QueryFault.TheVariants as fault
@@ -8,7 +8,10 @@ use Rattle.wire_frames.specs.declared.frame.Frame.TheVariants as frames
 use Rattle.wire_frames.specs.declared.reply.Refused.TheVariants as refused
 use Rattle.wire_frames.specs.declared.reply.Reply.{Reply}
 use Rattle.wire_frames.specs.declared.reply.Reply.TheVariants as reply
+use Rattle.wire_frames.specs.declared.writing.FrameFault.TheVariants as frame_fault
+use Rattle.wire_frames.specs.Frames.{spelling}
 use Rattle.wire_frames.specs.Limits.{is_too_large}
+use Rattle.wire_frames.proofs.LimitsLemmas.{is_sent}
 use Rattle.child_answers.specs.Replies.{Answer, refusal_of, reply_by, unless_too_large}
 
 -- ---- what was given
@@ -47,3 +50,18 @@ small-told r told e same =
     first ∙ second
 
 pub ruleset sizes = (large-refused, small-told)
+
+-- ---- its bytes
+
+pub spelled-small : (r : Reply) (bytes : List ℕ) → bytes ≡ spelling (frames.Reply r)
+    → (is_too_large (frames.Reply r) ≡ true → Ok bytes ≡ Err frame_fault.TooLarge) → bytes ≡ spelling (frames.Reply (unless_too_large r))
+spelled-small r bytes e past =
+    let small : is_too_large (frames.Reply r) ≡ false = is_sent (is_too_large (frames.Reply r)) bytes frame_fault.TooLarge past in
+    let same : r ≡ unless_too_large r = sym (ap (λ (large : Bool). if large then reply.Refused refused.TooLarge else r) small) in
+    e ∙ ap (λ (x : Reply). spelling (frames.Reply x)) same
+
+pub spelled-large : (r : Reply) (bytes : List ℕ) → bytes ≡ spelling (frames.Reply (reply.Refused refused.TooLarge))
+    → is_too_large (frames.Reply r) ≡ true → bytes ≡ spelling (frames.Reply (unless_too_large r))
+spelled-large r bytes e large = e ∙ ap (λ (x : Reply). spelling (frames.Reply x)) (large-refused r large)
+
+pub ruleset spelled = (spelled-small, spelled-large)

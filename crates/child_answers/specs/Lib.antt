@@ -1,2 +1,3 @@
 pub mod Replies
 pub mod ReplyLaws
+pub mod Remembered

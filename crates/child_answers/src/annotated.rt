@@ -39,8 +39,8 @@ pub(crate) fn all_annotations(
     Ok(Reply::Annotations(list))
 }
 
-// A value under the empty name, or none.
-fn unnamed(alloc: Global, value: Option<Value>) -> Result<List<(Name, Value)>, NoMemory>
+/// A value under the empty name, or none.
+pub(crate) fn unnamed(alloc: Global, value: Option<Value>) -> Result<List<(Name, Value)>, NoMemory>
     ensures { IfOk result (λ list. list ≡ map unnamed (option_to_list value)) }
 {
     match value {

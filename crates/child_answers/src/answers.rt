@@ -94,7 +94,7 @@ pub(crate) fn all_roots(alloc: Global, env: &RoundEnv) -> Result<Reply, QueryFau
 
 /// The answer to a question whose arguments are what is wanted.
 #[tactic(auto, unfolding(crate::specs::Replies::answer_to, child_questions::specs::WantedKinds::is_admitted))]
-fn admitted(
+pub(crate) fn admitted(
     alloc: Global,
     table: &Table,
     env: &RoundEnv,

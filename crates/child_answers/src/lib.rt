@@ -6,12 +6,14 @@
 //! question means the crates of elements (`element_facts`, `element_table`), types (`type_relations`, `type_subtypes`,
 //! `type_members`, `type_overriding`, `type_listing`), values (`annotation_values`) and rounds (`round_env`).
 //!
-//! `specs/ReplyLaws` says what holds of every reply.
+//! `answer` remembers nothing. An `Answering` remembers what it found out for earlier questions over its table
+//! (`specs/Remembered`), and its replies are those of `answer`. `specs/ReplyLaws` says what holds of every reply.
 //!
 //! Not promised: that memory is there. Each crate says where it is out of memory by a budget.
 #![tactic(auto)]
 
 mod annotated;
+mod answering;
 mod answers;
 mod comparing;
 mod elements;
@@ -19,7 +21,10 @@ mod laws;
 mod lists;
 mod mirrors;
 mod names;
+mod relations;
 mod replies;
 
+pub use answering::Answering;
 pub use laws::{replies_agree_with_calls, replies_are_of_their_frames, replies_fit};
+pub use relations::MOST_TYPES;
 pub use replies::answer;

@@ -1,16 +1,19 @@
 // The reply to a question.
 ghost use Rattle.std.specs.Prelude.{◌≡◌, Some, IfOk, IfSome};
 ghost use Rattle.wire_frames.specs.declared.frame.Frame.TheVariants as frames;
+ghost use Rattle.wire_frames.specs.declared.reply.Refused.TheVariants as refused;
+ghost use Rattle.wire_frames.specs.declared.reply.Reply.TheVariants as reply;
+ghost use Rattle.wire_frames.specs.Frames.{spelling};
 ghost use Rattle.child_answers.specs.Replies as replies;
 ghost use Rattle.child_answers.specs.Replies.{judged_answer, refusal_of, reply_of};
 
 use crate::answers::judged;
-use apt_base::NoMemory;
+use apt_base::{List, NoMemory};
 use element_table::Table;
 use round_env::RoundEnv;
 use std::alloc::Global;
 use type_queries::QueryFault;
-use wire_frames::{Frame, Question, Refused, Reply, is_too_large};
+use wire_frames::{Frame, FrameFault, Question, Refused, Reply, encode, is_too_large};
 
 // ---- what a child is told
 
@@ -74,6 +77,39 @@ pub(crate) fn unless_too_large(reply: Reply) -> Result<Reply, NoMemory>
     match reply_in(frame) {
         Some(reply) => Ok(reply),
         None => Err(NoMemory),
+    }
+}
+
+// The bytes of the refusal of a reply that is too large, which is not too large itself.
+fn framed_refusal(alloc: Global) -> Result<List<u8>, NoMemory>
+    ensures { IfOk result
+        (λ bytes. bytes ≡ spelling (frames.Reply (reply.Refused refused.TooLarge))) }
+{
+    let frame = Frame::Reply(Reply::Refused(Refused::TooLarge));
+    let bytes = encode(alloc, &frame);
+    drop(frame);
+    match bytes {
+        Ok(bytes) => Ok(bytes),
+        Err(_) => Err(NoMemory),
+    }
+}
+
+/// The bytes of the frame of a reply, unless no frame holds it.
+#[tactic(auto, using(crate::proofs::ToldReplies::spelled))]
+pub(crate) fn framed(alloc: Global, reply: Reply) -> Result<List<u8>, NoMemory>
+    ensures { IfOk result
+        (λ bytes. bytes ≡ spelling (frames.Reply (replies.unless_too_large reply))) }
+{
+    let frame = Frame::Reply(reply);
+    let bytes = encode(alloc, &frame);
+    drop(frame);
+    match bytes {
+        Ok(bytes) => Ok(bytes),
+        Err(FrameFault::TooLarge) => {
+            let refusal = framed_refusal(alloc)?;
+            Ok(refusal)
+        }
+        Err(FrameFault::Memory) => Err(NoMemory),
     }
 }
 
