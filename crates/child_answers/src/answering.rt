@@ -74,6 +74,13 @@ impl<'a> Answering<'a> {
         })
     }
 
+    /// The table over which it answers.
+    pub fn table(&self) -> &'a Table
+        ensures { result.now ≡ self.now }
+    {
+        self.table
+    }
+
     // Forgets all.
     fn forget(&mut self) -> Result<(), NoMemory>
         ensures { self.new ≡ self.old }
