@@ -1,8 +1,8 @@
 -- What becomes of a creation (JSR 269, `Filer`): its path, and the answer of a filer that has accepted others before.
-use Rattle.std.specs.Prelude.{ℕ, ◌+◌, Bool, true, false, not, ◌||◌, ◌==◌, nat_lt, if◌then◌else◌, List, [], ◌∷◌, ◌++◌, length, map, filter_map, sum_by, codes, Option, None, Some}
-use Rattle.std.specs.List.{list_any}
+use Rattle.std.specs.Prelude.{ℕ, ◌+◌, Bool, true, false, not, ◌||◌, ◌==◌, nat_lt, if◌then◌else◌, List, [], ◌∷◌, ◌++◌, length, map, codes, Option, None, Some}
 use Rattle.std.specs.Option.{option_map_or}
-use Rattle.std.specs.Str.{bytes_eq}
+use Rattle.std.specs.FinMap as fin
+use Rattle.apt_base.specs.Names.{NameSet, with_name, with_names}
 use Rattle.wire_frames.specs.declared.frame.Creation.{Creation}
 use Rattle.wire_frames.specs.declared.frame.Creation.TheVariants.{Source, Resource, Class}
 use Rattle.wire_frames.specs.declared.reply.Created.{Created}
@@ -39,22 +39,12 @@ path_of (Source name content origins) = source_path name
 path_of (Resource location «package» relative content origins) = resource_path location «package» relative
 path_of (Class name content origins) = []
 
--- ---- sizes
+-- ---- what the tests read of a file
 
 abbrev pub content_of : Creation → List ℕ
 content_of (Source name content origins) = content
 content_of (Resource location «package» relative content origins) = content
 content_of (Class name content origins) = content
-
--- the bytes of its content and of its path
-abbrev pub size_of : Creation → ℕ
-size_of creation = length (content_of creation) + length (path_of creation)
-
--- those of all creations together
-abbrev pub total_of : List Creation → ℕ
-total_of made = sum_by size_of made
-
--- ---- the answer
 
 -- the name of a source's type
 abbrev pub type_name_of : Creation → Option (List ℕ)
@@ -67,41 +57,77 @@ is_class (Source name content origins) = false
 is_class (Resource location «package» relative content origins) = false
 is_class (Class name content origins) = true
 
--- a creation of this path was accepted before
-abbrev pub has_path : List Creation → List ℕ → Bool
-has_path made path = list_any (bytes_eq path) (map path_of made)
+-- a file: its path, the name of its type if it is a source, and how many bytes it holds
+pub record Item : Type 0 where
+  pub path : List ℕ
+  pub type_name : Option (List ℕ)
+  pub bytes : ℕ
 
--- the name is that of an initial unit or a stub, or of a source that was accepted before
-abbrev pub has_type : List (List ℕ) → List Creation → List ℕ → Bool
-has_type initial made name = list_any (bytes_eq name) (initial ++ filter_map type_name_of made)
+abbrev pub item_of : Creation → Item
+item_of creation = record { path = path_of creation; type_name = type_name_of creation; bytes = length (content_of creation) }
+
+-- the bytes that it holds, and those of its path
+abbrev pub size_of : Item → ℕ
+size_of item = item.bytes + length item.path
+
+-- ---- what is taken
+
+-- the names of the types that are there, the paths that are taken, and how many bytes the files and their paths have together
+pub record Taken : Type 0 where
+  pub types : NameSet
+  pub paths : NameSet
+  pub total : ℕ
+
+-- before the first file the names of the initial units and of the stubs are taken
+abbrev pub taken_at_first : List (List ℕ) → Taken
+taken_at_first initial = record { types = with_names fin.empty initial; paths = fin.empty; total = 0 }
+
+abbrev pub with_type : NameSet → Option (List ℕ) → NameSet
+with_type types None = types
+with_type types (Some name) = with_name types name
+
+-- one file more
+abbrev pub with_item : Taken → Item → Taken
+with_item taken item = record { types = with_type taken.types item.type_name; paths = with_name taken.paths item.path; total = taken.total + size_of item }
+
+-- ---- the answer
 
 -- the path is taken, or, for a source, the name of its type
-unfoldable pub is_there : List (List ℕ) → List Creation → Creation → Bool
-is_there initial made creation = has_path made (path_of creation) || option_map_or (has_type initial made) (type_name_of creation) false
+unfoldable pub is_there : Taken → Item → Bool
+is_there taken item = fin.contains_key taken.paths item.path || option_map_or (λ name. fin.contains_key taken.types name) item.type_name false
 
--- its content, or all contents and paths with it, are longer than they may be
-unfoldable pub is_too_large : List Creation → Creation → Bool
-is_too_large made creation = nat_lt 8388608 (length (content_of creation)) || nat_lt 67108864 (total_of made + size_of creation)
+-- it is longer than a file may be, or all files and paths with it are
+unfoldable pub is_too_large : Taken → Item → Bool
+is_too_large taken item = nat_lt 8388608 item.bytes || nat_lt 67108864 (taken.total + size_of item)
 
--- what a filer answers that has these initial units and stubs, and accepted these creations before: the first test that holds
-unfoldable pub answer_to : List (List ℕ) → List Creation → Creation → Created
-answer_to initial made creation =
+-- what is answered for a file, where this is taken
+unfoldable pub item_answer : Taken → Item → Created
+item_answer taken item =
+    if is_there taken item then Exists
+    else if is_too_large taken item then TooLarge
+    else Accepted
+
+-- what is answered for a creation: the first test that holds
+unfoldable pub answer_to : Taken → Creation → Created
+answer_to taken creation =
     if is_class creation then Unsupported
     else if not (is_well_named creation) then BadName
-    else if is_there initial made creation then Exists
-    else if is_too_large made creation then TooLarge
-    else Accepted
+    else item_answer taken (item_of creation)
 
 -- ---- a filer
 
--- the names of the initial units and the stubs, and what was accepted, in order
+-- what is taken, and what was created and accepted, in order
 pub record Filings : Type 0 where
-  pub initial : List (List ℕ)
+  pub taken : Taken
   pub made : List Creation
 
--- a creation that is accepted stands at the end, and another changes nothing
+-- one creation more that was accepted
+abbrev pub with_file : Filings → Creation → Filings
+with_file filings creation = record { taken = with_item filings.taken (item_of creation); made = filings.made ++ creation ∷ [] }
+
+-- a creation that is accepted is one more, and another changes nothing
 abbrev pub filed : Filings → Creation → Created → Filings
-filed filings creation Accepted = record { initial = filings.initial; made = filings.made ++ creation ∷ [] }
+filed filings creation Accepted = with_file filings creation
 filed filings creation Exists = filings
 filed filings creation Unsupported = filings
 filed filings creation BadName = filings

@@ -1,3 +1,4 @@
 pub mod Names
 pub mod Filing
-pub mod Index
+pub mod Held
+pub mod Origins

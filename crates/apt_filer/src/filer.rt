@@ -1,8 +1,8 @@
 // The filer.
-ghost use Rattle.std.specs.Prelude.{◌≡◌, ◌+◌, ◌≤◌, nat_le, false, [], IfOk, OnOk, OnErr};
-ghost use Rattle.apt_filer.specs.Filing.{Filings, path_of, content_of, size_of, total_of, has_path, is_class, is_there, is_too_large, answer_to, filed};
-ghost use Rattle.apt_filer.specs.Index.{HasExactly};
-ghost use Rattle.wire_frames.specs.declared.reply.Created.TheVariants.{Accepted};
+ghost use Rattle.std.specs.Prelude.{◌≡◌, ◌+◌, ◌≤◌, nat_le, false, [], length, IfOk, OnOk, OnErr};
+ghost use Rattle.std.specs.FinMap as fin;
+ghost use Rattle.apt_base.specs.Names.{with_name, with_names};
+ghost use Rattle.apt_filer.specs.Filing.{taken_at_first, path_of, content_of, type_name_of, item_of, size_of, with_type, with_file, is_class, is_there, is_too_large, item_answer, answer_to, filed};
 
 use crate::names::is_well_named;
 use crate::paths::path_of;
@@ -19,34 +19,37 @@ pub const MAX_TOTAL: usize = 67_108_864;
 
 /// What was created, beside the initial units and the stubs (JSR 269, `Filer`).
 ///
-/// Contracts see the names of the initial units and the stubs, and what was accepted, in order.
+/// Contracts see what is taken, as names of types, paths and a number of bytes, and what was accepted,
+/// in order.
 #[derive(Drop)]
 pub struct Filer {
     alloc: Global,
-    initial: List<Name>,
-    made: List<Creation>,
-    // The names of `initial`, the paths of `made`, and how many bytes its contents and paths have.
-    names: Names,
+    types: Names,
     paths: Names,
     total: usize,
+    made: Vec<Creation>,
 }
 
 impl Model for Filer {
+    ghost use Rattle.std.specs.Prelude.{◌≤◌};
     ghost use Rattle.apt_filer.specs.Filing.{Filings};
-    ghost use Rattle.apt_filer.specs.Index.{IsIndex};
+    ghost use Rattle.apt_filer.specs.Held.{filings_code};
 
     ghost Value = { Filings };
 
-    ghost view = { λ a. record { initial = a.initial; made = a.made } };
+    ghost coded = { filings_code };
 
-    ghost invariant = { λ a. IsIndex a.initial a.made a.names a.paths a.total };
+    ghost view = { λ a. record { taken = record { types = a.types; paths = a.paths; total = a.total }; made = a.made.items } };
+
+    ghost invariant = { λ a. a.total ≤ 67108864 };
 }
 
-fn set_of(alloc: Global, names: &List<Name>) -> Result<Names, NoMemory>
-    ensures { IfOk result (λ set. HasExactly set names.now) }
+// The names as a set.
+fn set_of(alloc: Global, names: &[Name]) -> Result<Names, NoMemory>
+    ensures { IfOk result (λ set. set ≡ with_names fin.empty names.now) }
 {
     let mut set = Names::new(alloc);
-    for name in names.as_slice() {
+    for name in names {
         set.insert(name.as_str())?;
     }
     Ok(set)
@@ -71,25 +74,50 @@ fn is_class(creation: &Creation) -> bool
     }
 }
 
+/// Adds the path of a creation, and for a source the name of its type, to those that are taken. Where
+/// memory is out, neither is added.
+fn take_names(
+    types: &mut Names,
+    paths: &mut Names,
+    creation: &Creation,
+    path: &Name,
+) -> Result<(), NoMemory>
+    requires absent { fin.contains_key paths.old path.now ≡ false }
+    ensures types { OnOk result (types.new ≡ with_type types.old (type_name_of creation.now)) }
+    ensures paths { OnOk result (paths.new ≡ with_name paths.old path.now) }
+    ensures types_err { OnErr result (types.new ≡ types.old) }
+    ensures paths_err { OnErr result (paths.new ≡ paths.old) }
+{
+    paths.insert(path.as_str())?;
+    match creation {
+        Creation::Source { name, .. } => match types.insert(name.as_str()) {
+            Ok(()) => Ok(()),
+            Err(fault) => {
+                paths.remove(path.as_str());
+                Err(fault)
+            }
+        },
+        _ => Ok(()),
+    }
+}
+
 impl Filer {
-    /// A filer that has accepted nothing yet. `initial`, which it takes over, names the initial units
-    /// and the stubs. It fails only when memory runs out.
-    pub fn new(alloc: Global, initial: List<Name>) -> Result<Filer, NoMemory>
-        ensures { IfOk result (λ filer. filer ≡ record { initial = initial; made = [] }) }
+    /// A filer that has accepted nothing yet. `initial` names the initial units and the stubs. It fails
+    /// only when memory runs out.
+    pub fn new(alloc: Global, initial: &[Name]) -> Result<Filer, NoMemory>
+        ensures { IfOk result (λ filer. filer ≡ record { taken = taken_at_first initial.now; made = [] }) }
     {
-        let names = set_of(alloc, &initial)?;
         Ok(Filer {
             alloc,
-            initial,
-            made: List::new(alloc),
-            names,
+            types: set_of(alloc, initial)?,
             paths: Names::new(alloc),
             total: 0,
+            made: Vec::new(alloc),
         })
     }
 
     /// What was accepted, in order.
-    pub fn made(&self) -> &List<Creation>
+    pub fn made(&self) -> &[Creation]
         ensures { result.now ≡ self.now.made }
     {
         &self.made
@@ -99,26 +127,26 @@ impl Filer {
     pub fn into_made(self) -> List<Creation>
         ensures { result ≡ self.made }
     {
-        self.made
+        List::from_vec(self.made)
     }
 
-    // Two sources of one name have one path, so of the names only the initial ones are looked up.
+    #[tactic(auto, unfolding(crate::specs::Filing::is_there))]
     fn is_there(&self, creation: &Creation, path: &Name) -> bool
         requires { path.now ≡ path_of creation.now }
-        ensures { result ≡ is_there self.now.initial self.now.made creation.now }
+        ensures { result ≡ is_there self.now.taken (item_of creation.now) }
     {
         if self.paths.contains(path.as_str()) {
             return true;
         }
         match creation {
-            Creation::Source { name, .. } => self.names.contains(name.as_str()),
+            Creation::Source { name, .. } => self.types.contains(name.as_str()),
             _ => false,
         }
     }
 
     // Whether a content and a path of these lengths fit beside those of the others.
     fn has_room(&self, content: usize, path: usize) -> bool
-        ensures { result ≡ nat_le (total_of self.now.made + (content + path)) MAX_TOTAL }
+        ensures { result ≡ nat_le (self.now.taken.total + (content + path)) MAX_TOTAL }
     {
         let room = MAX_TOTAL - self.total;
         content <= room && path <= room - content
@@ -127,44 +155,18 @@ impl Filer {
     #[tactic(auto, unfolding(crate::specs::Filing::is_too_large))]
     fn is_too_large(&self, creation: &Creation, path: &Name) -> bool
         requires { path.now ≡ path_of creation.now }
-        ensures { result ≡ is_too_large self.now.made creation.now }
+        ensures { result ≡ is_too_large self.now.taken (item_of creation.now) }
     {
         let content = content_of(creation).len();
         content > MAX_CONTENT || !self.has_room(content, path.as_str().len())
     }
 
-    fn keep(&mut self, creation: Creation, path: &Name) -> Result<(), NoMemory>
-        requires path { path.now ≡ path_of creation }
-        requires absent { has_path self.old.made path.now ≡ false }
-        requires room { total_of self.old.made + size_of creation ≤ MAX_TOTAL }
-        ensures ok { OnOk result (self.new ≡ filed self.old creation Accepted) }
-        ensures err { OnErr result (self.new ≡ self.old) }
-    {
-        let size = content_of(&creation).len() + path.as_str().len();
-        self.paths.insert(path.as_str())?;
-        match self.made.push(creation) {
-            Ok(()) => {
-                self.total += size;
-                Ok(())
-            }
-            Err(fault) => {
-                self.paths.remove(path.as_str());
-                Err(fault)
-            }
-        }
-    }
-
-    #[tactic(auto, unfolding(crate::specs::Filing::answer_to))]
-    fn answer_to(&self, creation: &Creation, path: &Name) -> Created
+    // What the tests answer that look at what is taken.
+    #[tactic(auto, unfolding(crate::specs::Filing::item_answer))]
+    fn item_answer(&self, creation: &Creation, path: &Name) -> Created
         requires { path.now ≡ path_of creation.now }
-        ensures { result ≡ answer_to self.now.initial self.now.made creation.now }
+        ensures { result ≡ item_answer self.now.taken (item_of creation.now) }
     {
-        if is_class(creation) {
-            return Created::Unsupported;
-        }
-        if !is_well_named(creation) {
-            return Created::BadName;
-        }
         if self.is_there(creation, path) {
             return Created::Exists;
         }
@@ -174,22 +176,55 @@ impl Filer {
         Created::Accepted
     }
 
+    #[tactic(auto, unfolding(crate::specs::Filing::answer_to))]
+    fn answer_to(&self, creation: &Creation, path: &Name) -> Created
+        requires { path.now ≡ path_of creation.now }
+        ensures { result ≡ answer_to self.now.taken creation.now }
+    {
+        if is_class(creation) {
+            return Created::Unsupported;
+        }
+        if !is_well_named(creation) {
+            return Created::BadName;
+        }
+        self.item_answer(creation, path)
+    }
+
+    // The room for the creation is made first, so that nothing is taken back but a path.
+    fn keep(&mut self, creation: Creation, path: &Name) -> Result<(), NoMemory>
+        requires path { path.now ≡ path_of creation }
+        requires absent { fin.contains_key self.old.taken.paths path.now ≡ false }
+        requires room { self.old.taken.total + size_of (item_of creation) ≤ MAX_TOTAL }
+        ensures ok { OnOk result (self.new ≡ with_file self.old creation) }
+        ensures err { OnErr result (self.new ≡ self.old) }
+    {
+        let size = content_of(&creation).len() + path.as_str().len();
+        self.made.reserve(1)?;
+        take_names(&mut self.types, &mut self.paths, &creation, path)?;
+        match self.made.push(creation) {
+            Ok(()) => {
+                self.total += size;
+                Ok(())
+            }
+            Err(_) => unreachable!(),
+        }
+    }
+
     /// Takes a creation, and answers what became of it. The first of these holds:
     ///
     /// - `Unsupported`: it is a class file, which is not created here.
     /// - `BadName`: the name of its type, or its package or its relative name, is off the grammar
     ///   (`is_type_name`, `is_package_name`, `is_relative_name`), or its location is above 2.
-    /// - `Exists`: a creation of its path was accepted before, or, for a source, its name is that of
-    ///   a source accepted before, of an initial unit or of a stub.
+    /// - `Exists`: its path is taken, or, for a source, the name of its type.
     /// - `TooLarge`: its content has more than `MAX_CONTENT` bytes, or the contents and paths of all
     ///   creations, this one among them, more than `MAX_TOTAL`.
-    /// - `Accepted`: it is the last of `made` from now on.
+    /// - `Accepted`: it is the last of `made` from now on, and its path is taken, and the name of its
+    ///   type.
     ///
     /// Only `Accepted` changes the filer. It fails only when memory runs out, and the filer is then as
-    /// it was.
+    /// it was. It takes logarithmic time in what was accepted before.
     pub fn create(&mut self, creation: Creation) -> Result<Created, NoMemory>
-        ensures answer { IfOk result
-            (λ answer. answer ≡ answer_to self.old.initial self.old.made creation) }
+        ensures answer { IfOk result (λ answer. answer ≡ answer_to self.old.taken creation) }
         ensures filed { IfOk result (λ answer. self.new ≡ filed self.old creation answer) }
         ensures err { OnErr result (self.new ≡ self.old) }
     {
