@@ -5,4 +5,4 @@ use Rattle.apt_filer.proofs.filer.set_of.Given as goal
 
 -- the set has the names so far
 abbrev pub invariant-loop-name : goal.invariant-loop-name
-invariant-loop-name l = l.set ≡ with_names fin.empty (take l.name-index l.name-items)
+invariant-loop-name l = l.set ≡ with_names fin.empty (take l.name-index l.names)
