@@ -1,8 +1,13 @@
 pub mod FramesInFront
 pub mod Taking
 pub mod Answering
-pub mod FrontsOfActs
 pub mod Feeding
-pub mod Rounds
-pub mod Serving
 pub mod BeginningLemmas
+pub mod DoneExchanges
+pub mod ActsInTurn
+pub mod RoundsUnderway
+pub mod NotesLemmas
+pub mod ServedRequests
+pub mod ShortReplies
+pub mod LastTurns
+pub mod FreeActs

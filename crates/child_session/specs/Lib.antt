@@ -1,6 +1,11 @@
 pub mod Faults
 pub mod Talk
 pub mod Beginning
+pub mod Requests
+pub mod Replies
+pub mod Acts
+pub mod Sessions
+pub mod FreeLaws
+pub mod Notes
 pub mod Round
-pub mod Served
 pub mod Moments

@@ -4,9 +4,11 @@ use Rattle.apt_outside.specs.declared.children.Children as children
 use Rattle.apt_outside.specs.Count.{Told}
 use Rattle.apt_outside.specs.Child.{Try, State}
 use Rattle.wire_frames.specs.declared.frame.Hello.{Hello}
+use Rattle.element_table.specs.TypeTable.{TypeTable}
 use Rattle.apt_filer.specs.Filing.{Filings}
 use Rattle.child_session.specs.declared.fault.SessionFault.{SessionFault}
 use Rattle.child_session.specs.Beginning as beginning
+use Rattle.child_session.specs.Talk.{WasAnswered}
 use Rattle.child_session.specs.Round as round
 use Rattle.child_session.specs.declared.round.Showing.{Showing}
 use Rattle.child_session.specs.declared.round.Answer.{Answer}
@@ -24,5 +26,6 @@ abbrev pub Begins : {C : Type 0} → children.Ghosts C → Try → List ℕ → 
 Begins c call init old new result = Told c.tells (beginning.Begins call init (c.state old) (c.state new) result)
 
 -- a round was shown to the child
-abbrev pub Shows : {C : Type 0} → children.Ghosts C → ℕ → Showing → C → C → Filings → Filings → Result Answer SessionFault → Type 0
-Shows c child showing old new filings filings' result = Told c.tells (round.Shows child showing (c.state old) (c.state new) filings filings' result)
+abbrev pub Shows : {C : Type 0} → children.Ghosts C → ℕ → TypeTable → Showing → C → C → Filings → Filings → Result Answer SessionFault → Type 0
+Shows c child table showing old new filings filings' result =
+    Told c.tells (WasAnswered child (c.state old) (c.state new) (round.Shows (c.state old).says table showing filings filings' result))

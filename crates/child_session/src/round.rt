@@ -1,190 +1,80 @@
 // Shows a round to a child.
-ghost use Rattle.std.specs.Prelude.{◌≡◌, false, Contains, IfOk, OnOk, OnErr};
+ghost use Rattle.std.specs.Prelude.{◌≡◌, Contains, IfOk, OnOk};
 ghost use Rattle.apt_outside.specs.Count.{Told};
-ghost use Rattle.wire_frames.specs.Frames.{spelling};
-ghost use Rattle.wire_frames.specs.Limits.{is_too_large};
-ghost use Rattle.wire_frames.specs.declared.frame.Frame.TheVariants as frames;
-ghost use Rattle.child_session.specs.Faults.{HasReason, IsFree};
 ghost use Rattle.apt_outside.specs.Child.{Attends};
-ghost use Rattle.child_session.specs.Round.{IsDue, keeps, done_with, has_no_origins, turn_by_origins, turn_by_element, turn_at, end_of, reply_to, filed_after, printed_after, Replies, MayReply};
-ghost use Rattle.child_session.specs.Served.{Served, AllServed};
+ghost use Rattle.child_session.specs.Acts.{end_of, claimed_by};
+ghost use Rattle.child_session.specs.Faults.{HasReason, IsFree};
 ghost use Rattle.child_session.specs.Moments.{Gives, Answers, Shows};
+ghost use Rattle.child_session.specs.Notes.{answer_from, noted_with};
+ghost use Rattle.child_session.specs.Replies.{shown_of, round_frame, filed_after};
+ghost use Rattle.child_session.specs.Round.{IsDue, IsOrMemory, AllServed, Served, exchange_with, Replies, MayReply};
 
 use crate::SessionFault;
+use crate::noted::Noted;
 use crate::receiving::exchange;
-use apt_base::{Claim, List, NoMemory};
+use crate::request::{Request, Turn, turn_of};
+use crate::serving::serve;
+use apt_base::{Claim, List, Name, NoMemory};
 use apt_filer::Filer;
 use apt_outside::Children;
-use frame_breaches::{Breach, stray};
+use child_answers::Answering;
+use frame_breaches::Breach;
+use round_env::RoundEnv;
 use std::alloc::Global;
-use wire_frames::{Creation, Frame, FrameFault, Message, Reply, encode};
+use wire_frames::{Frame, Message, encode};
 
-/// What a child is shown of a round.
+/// What a child is shown of a round, beside the table of types.
 #[derive(Drop)]
 pub struct Showing {
     /// How often it may ask.
     pub limit: u32,
     /// What its processor declared of its claims.
     pub claim: Claim,
-    /// The round's frame.
-    pub round: List<u8>,
+    /// The round's number and flags, the names that are offered, and the roots that are shown.
+    pub env: RoundEnv,
 }
 
-/// What a child did in a round, beside what it created.
+/// What a child did in a round, beside what it created: those files are the last that the filer has.
 #[derive(Drop)]
 pub struct Answer {
     /// What it printed, in order.
     pub messages: List<Message>,
     /// Whether its processor claims what it was offered.
     pub claimed: bool,
+    /// Whether a creation was answered with another answer than `Accepted`.
+    pub refused: bool,
+    /// The units that its questions named, ascending, those of refused questions included: of `TypeElement` the text
+    /// and its prefixes, unless a stub has that name.
+    pub asked: List<Name>,
+    /// Whether it asked for a package by its name, or for the types of one.
+    pub wide: bool,
+    /// Whether it asked for the roots, or for the elements of an annotation that it was not offered.
+    pub gathered: bool,
 }
 
-/// What a child asks of the host in a round.
-#[derive(Drop)]
-pub enum Request {
-    /// A file is to be created.
-    Create(Creation),
-    /// A message is to be printed.
-    Print(Message),
-}
-
-/// What a child's frame means in a round.
-#[derive(Drop)]
-pub enum Turn {
-    /// The child is done with the round.
-    Ends {
-        /// Whether its processor claims what it was offered.
-        claimed: bool,
-    },
-    /// It is done, and says another thing of the claim than its processor declared.
-    Differs {
-        /// What it says.
-        said: bool,
-    },
-    /// It asks, and is answered.
-    Asks(Request),
-    /// It leaves the protocol.
-    Leaves(Breach),
-}
-
-// Whether an answer keeps what the processor declared of its claims.
-fn keeps(declared: Claim, said: bool) -> bool
-    ensures { result ≡ keeps declared said }
+// The frame that begins a round. One that is longer than a frame may be is out of memory too.
+fn round_bytes(alloc: Global, env: &RoundEnv) -> Result<List<u8>, NoMemory>
+    ensures { IfOk result (λ bytes. bytes ≡ round_frame env.now) }
 {
-    match declared {
-        Claim::Always => said,
-        Claim::Never => !said,
-        Claim::Varies => true,
-    }
-}
-
-fn done_with(declared: Claim, said: bool) -> Turn
-    ensures { result ≡ done_with declared said }
-{
-    if keeps(declared, said) {
-        Turn::Ends { claimed: said }
-    } else {
-        Turn::Differs { said }
-    }
-}
-
-fn has_no_origins(creation: &Creation) -> bool
-    ensures { result ≡ has_no_origins creation.now }
-{
-    match creation {
-        Creation::Source { origins, .. } => origins.is_empty(),
-        Creation::Resource { origins, .. } => origins.is_empty(),
-        Creation::Class { origins, .. } => origins.is_empty(),
-    }
-}
-
-// Today's rounds have no originating elements.
-fn creation_turn(creation: Creation) -> Turn
-    ensures { result ≡ turn_by_origins (has_no_origins creation) creation }
-{
-    if has_no_origins(&creation) {
-        Turn::Asks(Request::Create(creation))
-    } else {
-        let frame = Frame::Create(creation);
-        let breach = stray(&frame);
-        drop(frame);
-        Turn::Leaves(breach)
-    }
-}
-
-// Today's rounds have no messages at an element.
-fn message_turn(message: Message) -> Turn
-    ensures { result ≡ turn_by_element message.element message }
-{
-    if message.element.is_some() {
-        let frame = Frame::Message(message);
-        let breach = stray(&frame);
-        drop(frame);
-        Turn::Leaves(breach)
-    } else {
-        Turn::Asks(Request::Print(message))
-    }
-}
-
-/// What a child's answer means in a round, where its processor declared this of its claims. A frame of the table that
-/// no round has today leaves the protocol: a creation with originating elements, a message at an element, a question,
-/// a frame of the host's.
-fn turn_of(declared: Claim, answer: Result<Frame, Breach>) -> Turn
-    ensures { result ≡ turn_at declared answer }
-{
-    match answer {
-        Ok(Frame::Done { claimed }) => {
-            drop(answer);
-            done_with(declared, claimed)
-        }
-        Ok(Frame::Create(creation)) => creation_turn(creation),
-        Ok(Frame::Message(message)) => message_turn(message),
-        Ok(other) => {
-            let breach = stray(&other);
-            drop(other);
-            Turn::Leaves(breach)
-        }
-        Err(breach) => Turn::Leaves(breach),
-    }
-}
-
-// The bytes of a reply that is not too large to be sent.
-fn reply_bytes(alloc: Global, reply: Reply) -> Result<List<u8>, NoMemory>
-    requires fits { is_too_large (frames.Reply reply) ≡ false }
-    ensures { IfOk result (λ bytes. bytes ≡ spelling (frames.Reply reply)) }
-{
-    let frame = Frame::Reply(reply);
+    let RoundEnv {
+        number,
+        over,
+        error,
+        offered,
+        roots,
+    } = env.copy(alloc)?;
+    let frame = Frame::Round {
+        number,
+        over,
+        error,
+        offered,
+        roots,
+    };
     let encoded = encode(alloc, &frame);
     drop(frame);
     match encoded {
         Ok(bytes) => Ok(bytes),
-        Err(FrameFault::TooLarge) => unreachable!(),
-        Err(FrameFault::Memory) => Err(NoMemory),
-    }
-}
-
-/// Does what a child asks for, and gives the reply. Out of memory leaves the filer as it was.
-#[tactic(auto, using(wire_frames::proofs::LimitsLemmas::short_replies))]
-fn serve(
-    filer: &mut Filer,
-    printed: &mut List<Message>,
-    request: Request,
-) -> Result<Reply, NoMemory>
-    ensures reply { IfOk result (λ reply. reply ≡ reply_to filer.old request) }
-    ensures fits { IfOk result (λ reply. is_too_large (frames.Reply reply) ≡ false) }
-    ensures filed { OnOk result (filer.new ≡ filed_after filer.old request) }
-    ensures unfiled { OnErr result (filer.new ≡ filer.old) }
-    ensures printed { OnOk result (printed.new ≡ printed_after printed.old request) }
-{
-    match request {
-        Request::Create(creation) => {
-            let created = filer.create(creation)?;
-            Ok(Reply::Created(created))
-        }
-        Request::Print(message) => {
-            printed.push(message)?;
-            Ok(Reply::Noted)
-        }
+        Err(_) => Err(NoMemory),
     }
 }
 
@@ -193,25 +83,54 @@ fn take_turn<C: Children>(
     alloc: Global,
     children: &mut C,
     child: u32,
+    answering: &mut Answering<'_>,
+    env: &RoundEnv,
     request: Request,
     filer: &mut Filer,
-    printed: &mut List<Message>,
+    noted: &mut Noted,
 ) -> Result<Result<Frame, Breach>, SessionFault>
     requires lives { Contains (C.state children.old).live child }
     ensures reason { HasReason (C.faults children.old) (C.faults children.new) result }
     ensures starts { (C.state children.new).starts ≡ (C.state children.old).starts }
     ensures live { (C.state children.new).live ≡ (C.state children.old).live }
     ensures attends { Told C.tells (Attends child (C.state children.old) (C.state children.new)) }
-    ensures served { Served request filer.old filer.new }
-    ensures filed { OnOk result (filer.new ≡ filed_after filer.old request) }
-    ensures printed { OnOk result (printed.new ≡ printed_after printed.old request) }
+    ensures kept { answering.new ≡ answering.old }
+    ensures served { Served (exchange_with (shown_of answering.old env.now) filer.old request) filer.old filer.new }
+    ensures filed { OnOk result
+        (filer.new ≡ filed_after filer.old (exchange_with (shown_of answering.old env.now) filer.old request)) }
+    ensures noted { OnOk result (noted.new ≡ noted_with (shown_of answering.old env.now) noted.old
+        (exchange_with (shown_of answering.old env.now) filer.old request)) }
     ensures free { IsFree result }
-    ensures sent { Answers C.Children children.old children.new result (MayReply child filer.old request) }
-    ensures answer { Gives C.Children children.old children.new result (Replies child filer.old request) }
+    ensures sent { Answers C.Children children.old children.new result
+        (MayReply child (exchange_with (shown_of answering.old env.now) filer.old request)) }
+    ensures answer { Gives C.Children children.old children.new result
+        (Replies child (exchange_with (shown_of answering.old env.now) filer.old request)) }
 {
-    let reply = serve(filer, printed, request)?;
-    let frame = reply_bytes(alloc, reply)?;
+    let frame = serve(alloc, answering, env, request, filer, noted)?;
     Ok(exchange(alloc, children, child, frame.as_slice())?)
+}
+
+// The answer of a round of which this was noted.
+fn answer_of(noted: Noted, claimed: bool) -> Result<Answer, NoMemory>
+    ensures { IfOk result (λ answer. answer ≡ answer_from noted claimed) }
+{
+    let Noted {
+        messages,
+        refused,
+        asked,
+        wide,
+        gathered,
+    } = noted;
+    let names = asked.list()?;
+    drop(asked);
+    Ok(Answer {
+        messages,
+        claimed,
+        refused,
+        asked: names,
+        wide,
+        gathered,
+    })
 }
 
 // The result of a turn where no further question is allowed: a Done ends the round, and a question is one too many.
@@ -219,30 +138,36 @@ fn end_of(
     declared: Claim,
     limit: u32,
     turn: Turn,
-    messages: List<Message>,
+    noted: Noted,
 ) -> Result<Answer, SessionFault>
-    ensures { result ≡ end_of declared limit turn messages }
+    ensures { IsOrMemory result (end_of declared limit turn (answer_from noted (claimed_by turn))) }
 {
     match turn {
-        Turn::Ends { claimed } => Ok(Answer { messages, claimed }),
+        Turn::Ends { claimed } => Ok(answer_of(noted, claimed)?),
         Turn::Differs { said } => Err(SessionFault::ClaimBroken { declared, said }),
-        Turn::Asks(_) => Err(SessionFault::TooManyQuestions { limit }),
+        Turn::Asks(request) => {
+            drop(request);
+            Err(SessionFault::TooManyQuestions { limit })
+        }
         Turn::Leaves(breach) => Err(SessionFault::Breach(breach)),
     }
 }
 
-/// Shows a round to a child, and gives what it prints and whether its processor claims. What it creates is added to
-/// the files that were made before.
+/// Shows a round to a child, and answers what it asks, until it is done or is refused. What it creates is added to the
+/// files that were made before.
 ///
+/// A creation or a message that names an element which is not there is answered `Refused(NoSuch)`, and nothing is done.
 /// Where the children tell what they say, `Breach` comes exactly where the child's bytes leave the protocol, and says
-/// where, `TooManyQuestions` exactly where it asks once more than it may, and `ClaimBroken` exactly where it is done and says another
-/// thing than its processor declared with `Always` or `Never` (JSR 269, `Processor.process`). `Failed` is a fault of the
-/// children, and `Memory` out of memory. After each the filer has what was accepted up to then, and after each but `Failed` the
-/// child was sent the first of the frames that the round sends it and nothing else.
+/// where, `TooManyQuestions` exactly where it asks once more than it may, and `ClaimBroken` exactly where it is done and
+/// says another thing than its processor declared with `Always` or `Never` (JSR 269, `Processor.process`). `Failed` is a
+/// fault of the children, and `Memory` out of memory, also where the round's frame is longer than a frame may be. After
+/// each the filer has what was accepted up to then, and after each but `Failed` the child was sent the first of the
+/// frames that the round sends it and nothing else.
 pub fn show_round<C: Children>(
     alloc: Global,
     children: &mut C,
     child: u32,
+    answering: &mut Answering<'_>,
     showing: &Showing,
     filer: &mut Filer,
 ) -> Result<Answer, SessionFault>
@@ -251,21 +176,32 @@ pub fn show_round<C: Children>(
     ensures starts { (C.state children.new).starts ≡ (C.state children.old).starts }
     ensures live { (C.state children.new).live ≡ (C.state children.old).live }
     ensures attends { Told C.tells (Attends child (C.state children.old) (C.state children.new)) }
+    ensures kept { answering.new ≡ answering.old }
     ensures due { IsDue showing.now result }
-    ensures served { AllServed showing.now.limit filer.old filer.new }
-    ensures shown { Shows C.Children child showing.now children.old children.new filer.old filer.new result }
+    ensures served { AllServed (shown_of answering.old showing.now.env) showing.now.limit filer.old filer.new }
+    ensures shown { Shows C.Children child answering.old showing.now children.old children.new filer.old filer.new result }
 {
     let limit = showing.limit;
     let declared = showing.claim;
-    let mut messages = List::new(alloc);
-    let mut answer = exchange(alloc, children, child, showing.round.as_slice())?;
+    let mut noted = Noted::new(alloc);
+    let frame = round_bytes(alloc, &showing.env)?;
+    let mut answer = exchange(alloc, children, child, frame.as_slice())?;
     for count in 0..limit {
         match turn_of(declared, answer) {
             Turn::Asks(request) => {
-                answer = take_turn(alloc, children, child, request, filer, &mut messages)?;
+                answer = take_turn(
+                    alloc,
+                    children,
+                    child,
+                    answering,
+                    &showing.env,
+                    request,
+                    filer,
+                    &mut noted,
+                )?;
             }
-            turn => return end_of(declared, limit, turn, messages),
+            turn => return end_of(declared, limit, turn, noted),
         }
     }
-    end_of(declared, limit, turn_of(declared, answer), messages)
+    end_of(declared, limit, turn_of(declared, answer), noted)
 }

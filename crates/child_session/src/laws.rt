@@ -1,0 +1,8 @@
+// What holds of every round.
+ghost use Rattle.child_session.specs.FreeLaws.{FreeActs};
+
+/// A round is the free one, in which each creation whose elements are there is accepted, where each file of that one is
+/// accepted, and where no file was refused.
+pub fn free_acts_hold()
+    ensures { FreeActs }
+{}
