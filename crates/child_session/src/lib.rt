@@ -21,4 +21,5 @@ pub use beginning::begin;
 pub use fault::SessionFault;
 pub use laws::free_acts_hold;
 pub use receiving::exchange;
+pub use request::{Request, Turn};
 pub use round::{Answer, Showing, show_round};

@@ -9,8 +9,8 @@ use apt_base::{List, Name, NoMemory};
 use std::alloc::Global;
 use wire_frames::{Frame, FrameFault, Init, copy_options, encode};
 
-/// A frame's bytes. A frame past the limit of a frame is answered as out of memory.
-pub fn bytes_of(alloc: Global, frame: &Frame) -> Result<List<u8>, NoMemory>
+// A frame's bytes. A frame past the limit of a frame is answered as out of memory.
+fn bytes_of(alloc: Global, frame: &Frame) -> Result<List<u8>, NoMemory>
     ensures { IfOk result (λ bytes. bytes ≡ spelling frame.now) }
 {
     match encode(alloc, frame) {

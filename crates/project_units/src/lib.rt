@@ -20,7 +20,7 @@ mod units;
 
 pub use entering::{enter_all, enter_units};
 pub use files::Files;
-pub use frames::{bytes_of, init_bytes, inits_fit};
+pub use frames::{init_bytes, inits_fit};
 pub use limits::limit_of;
 pub use project::{Key, KeyProcessor, Project};
 pub use refusal::Refusal;

@@ -6,7 +6,10 @@ use Rattle.apt_filer.specs.Filing.{Filings}
 use Rattle.child_session.specs.declared.fault.SessionFault.{SessionFault}
 use Rattle.child_session.specs.declared.fault.SessionFault.TheVariants as fault
 use Rattle.child_session.specs.declared.round.Answer.{Answer}
+use Rattle.child_session.specs.Talk.{WasAnswered}
 use Rattle.child_session.specs.Round as session
+use Rattle.element_table.specs.TypeTable.{TypeTable}
+use Rattle.round_env.specs.declared.environment.RoundEnv.{RoundEnv}
 use Rattle.round_engine.specs.declared.beginning.Discovered as code_discovered
 use Rattle.round_engine.specs.declared.progress.Progress as code_progress
 use Rattle.project_units.specs.declared.refusal.Refusal as declared
@@ -15,11 +18,11 @@ use Rattle.project_units.specs.Refusals as stop
 use Rattle.project_units.specs.Refusals.{exempt_by}
 use Rattle.project_units.specs.Faults.{stop_of}
 use Rattle.round_engine.specs.Faults.{of_session}
-use Rattle.round_engine.specs.Run.{Frames, Course, Discovered, Progress, Finished, claim_at, showing, place, show, round_of, rounds_from}
+use Rattle.round_engine.specs.Run.{Frames, Course, Discovered, Progress, Finished, claim_at, showing, place, show, ask, round_of, rounds_from}
 use Rattle.round_engine.specs.Fronts.{AreFronts, FrontsBut}
 use Rattle.round_engine.specs.Shown.{EachOf, IsOf, Serves, Stands, AttendsAll, Goes, StopsAs, sent_by, sent_in_step, sent_in_progress, sent_in_finished, all_sent, standing, shown_discovered}
 use Rattle.round_engine.proofs.ChildrenOfARun.{outside-get, each-weaker}
-use Rattle.round_engine.proofs.FrontsOfFrames.{fronts_exact, named_at, show_fronts, show_some, show_but_one, round_fronts, rounds_fronts}
+use Rattle.round_engine.proofs.FrontsOfFrames.{fronts_exact, named_at, show_fronts, show_some, show_but_one, ask_fronts, round_fronts, rounds_fronts}
 use Rattle.round_engine.proofs.ActsInARun.{name_is, after, sent_after, show_ok, show_err, some_sent, all_shown, stands_so, ready_after, same_after}
 
 -- ---- what is left as it was
@@ -66,55 +69,55 @@ module _ (d : code_discovered.Discovered) (processors : List Try) (k : State) (s
   abbrev at_first : Discovered
   at_first = shown_discovered k.says processors d
 
-  pub step_unbegun : {T : Type 0} (r : Round) (number : ℕ) (offered : List (List ℕ)) (means : T → Progress × Bool) → Goes sent_in_step d processors (show at_first r (standing d.group p k) number offered) means (Err refusal) k
-  step_unbegun r number offered means = goes_memory sent_in_step d processors (show at_first r (standing d.group p k) number offered) means refusal k (still_theirs d processors k stands) memory
-      (show_fronts at_first r (standing d.group p k) number offered)
+  pub step_unbegun : {T : Type 0} (table : TypeTable) (env : RoundEnv) (number : ℕ) (means : T → Progress × Bool) → Goes sent_in_step d processors (show at_first table env (standing d.group p k) number) means (Err refusal) k
+  step_unbegun table env number means = goes_memory sent_in_step d processors (show at_first table env (standing d.group p k) number) means refusal k (still_theirs d processors k stands) memory
+      (show_fronts at_first table env (standing d.group p k) number)
 
-  pub round_unbegun : {T : Type 0} (r : Round) (means : T → Progress) → Goes sent_in_progress d processors (round_of at_first r (standing d.group p k)) means (Err refusal) k
-  round_unbegun r means = goes_memory sent_in_progress d processors (round_of at_first r (standing d.group p k)) means refusal k (still_theirs d processors k stands) memory
-      (round_fronts at_first r (standing d.group p k))
+  pub round_unbegun : {T : Type 0} (r : Round) (means : T → Progress) → Goes sent_in_progress d processors (round_of ask at_first r (standing d.group p k)) means (Err refusal) k
+  round_unbegun r means = goes_memory sent_in_progress d processors (round_of ask at_first r (standing d.group p k)) means refusal k (still_theirs d processors k stands) memory
+      (round_fronts ask at_first (ask_fronts at_first) r (standing d.group p k))
 
-  pub rounds_unbegun : {T : Type 0} (left : ℕ) (r : Round) (means : T → Finished) → Goes sent_in_finished d processors (rounds_from at_first left r (standing d.group p k)) means (Err refusal) k
-  rounds_unbegun left r means = goes_memory sent_in_finished d processors (rounds_from at_first left r (standing d.group p k)) means refusal k (still_theirs d processors k stands) memory
-      (rounds_fronts at_first left r (standing d.group p k))
+  pub rounds_unbegun : {T : Type 0} (left : ℕ) (r : Round) (means : T → Finished) → Goes sent_in_finished d processors (rounds_from ask at_first left r (standing d.group p k)) means (Err refusal) k
+  rounds_unbegun left r means = goes_memory sent_in_finished d processors (rounds_from ask at_first left r (standing d.group p k)) means refusal k (still_theirs d processors k stands) memory
+      (rounds_fronts ask at_first (ask_fronts at_first) left r (standing d.group p k))
 
--- ---- one processor is asked
+-- ---- one processor is shown a round
 
-module _ (d : code_discovered.Discovered) (k0 k1 : State) (number : ℕ) (lt : number < length d.group) (r : Round) (offered : List (List ℕ)) (p : code_progress.Progress) (filings' : Filings)
+module _ (d : code_discovered.Discovered) (k0 k1 : State) (number : ℕ) (lt : number < length d.group) (table : TypeTable) (env : RoundEnv) (p : code_progress.Progress) (filings' : Filings)
     (attends : Attends (get_or d.group number 0) k0 k1) (processors : List Try) (stands : Stands d processors k0) where
   abbrev run : Discovered
   run = shown_discovered k0.says processors d
 
   abbrev Showed : Result Answer SessionFault → Type 0
-  Showed result = session.Shows (get_or d.group number 0) (showing r offered (claim_at run number)) k0 k1 p.filer filings' result
+  Showed result = WasAnswered (get_or d.group number 0) k0 k1 (session.Shows k0.says table (showing env (claim_at run number)) p.filer filings' result)
 
   abbrev Asked_so : {T : Type 0} → (T → Progress × Bool) → Result T declared.Refusal → Type 0
-  Asked_so means result = Goes sent_in_step d processors (show run r (standing d.group p k0) number offered) means result k1
+  Asked_so means result = Goes sent_in_step d processors (show run table env (standing d.group p k0) number) means result k1
 
   abbrev step : Course (Progress × Bool)
-  step = show run r (standing d.group p k0) number offered
+  step = show run table env (standing d.group p k0) number
 
   module _ (result : Result Answer SessionFault) (shows : Showed result) where
     abbrev sent_to : Frames
-    sent_to = (after d processors k0 k1 number stands lt r offered p filings' result shows attends.change.others).0.sent
+    sent_to = (after d processors k0 k1 number stands lt table env p filings' result shows attends.change.others).0.sent
 
     -- what all were sent
     sent_is : all_sent k1.known d.group ≡ set (all_sent k0.known d.group) number sent_to
-    sent_is = sent_after d processors k0 k1 number stands lt r offered p filings' result shows attends.change.others
+    sent_is = sent_after d processors k0 k1 number stands lt table env p filings' result shows attends.change.others
 
     -- a fault of the children came: the others were sent what they are sent
     others_so : FrontsBut (Some (get_or processors number ([], [])).0) processors (all_sent k1.known d.group) (sent_by sent_in_step step)
     others_so = subst (λ sent. FrontsBut (Some (get_or processors number ([], [])).0) processors sent (sent_by sent_in_step step)) (sym sent_is)
-        (show_but_one run r (get_or processors number ([], [])).0 processors (standing d.group p k0) number (named_at processors number (get_or processors number ([], [])).0 (omega (arith, lt, stands.count)) refl) offered sent_to)
+        (show_but_one run table env (standing d.group p k0) number (get_or processors number ([], [])).0 processors (named_at processors number (get_or processors number ([], [])).0 (omega (arith, lt, stands.count)) refl) sent_to)
 
     -- memory ran out before it was done
     some_so : result ≡ Err fault.Memory → AreFronts (all_sent k1.known d.group) (sent_by sent_in_step step)
     some_so is = subst (λ sent. AreFronts sent (sent_by sent_in_step step)) (sym sent_is)
-        (show_some run r (standing d.group p k0) number offered sent_to (some_sent d processors k0 k1 number stands lt r offered p filings' result shows attends.change.others is))
+        (show_some run table env (standing d.group p k0) number sent_to (some_sent d processors k0 k1 number stands lt table env p filings' result shows attends.change.others is))
 
     -- it was done
     all_so : (answer : Answer) → result ≡ Ok answer → AreFronts (all_sent k1.known d.group) (sent_by sent_in_step step)
-    all_so answer is = fronts_exact (all_sent k1.known d.group) (sent_by sent_in_step step) (all_shown d processors k0 k1 number stands lt r offered p filings' result shows attends.change.others answer is)
+    all_so answer is = fronts_exact (all_sent k1.known d.group) (sent_by sent_in_step step) (all_shown d processors k0 k1 number stands lt table env p filings' result shows attends.change.others answer is)
 
   -- what all were sent by a session's fault
   fault_so : (f : SessionFault) → Showed (Err f) → StopsAs step (all_sent k1.known d.group) (of_session (get_or processors number ([], [])).0 f)
@@ -130,10 +133,10 @@ module _ (d : code_discovered.Discovered) (k0 k1 : State) (number : ℕ) (lt : n
   asks_err means f refusal shows due_as =
       let due : stop_of refusal ≡ of_session (get_or processors number ([], [])).0 f = due_as ∙ ap (λ name. of_session name f) (name_is d processors k0 k1 number stands lt) in
       let comes : StopsAs step (all_sent k1.known d.group) (of_session (get_or processors number ([], [])).0 f) =
-      show_err d processors k0 k1 number stands lt r offered p filings' (Err f) shows attends.change.others f (of_session (get_or processors number ([], [])).0 f) refl refl in
+      show_err d processors k0 k1 number stands lt table env p filings' (Err f) shows attends.change.others f (of_session (get_or processors number ([], [])).0 f) refl refl in
       record {
         comes = subst (StopsAs step (all_sent k1.known d.group)) (sym due) comes;
-        same = same_after d processors k0 k1 number stands lt r offered p filings' (Err f) shows attends.change.others;
+        same = same_after d processors k0 k1 number stands lt table env p filings' (Err f) shows attends.change.others;
         ready = tt;
         fronts = subst (λ s. FrontsBut (exempt_by s) processors (all_sent k1.known d.group) (sent_by sent_in_step step)) (sym due) (fault_so f shows comes);
       }
@@ -141,16 +144,16 @@ module _ (d : code_discovered.Discovered) (k0 k1 : State) (number : ℕ) (lt : n
   -- it was done, but memory was wanted for what it printed
   pub asks_memory : (means : Bool → Progress × Bool) (answer : Answer) (refusal : declared.Refusal) → Showed (Ok answer) → stop_of refusal ≡ stop.Memory → Asked_so means (Err refusal)
   asks_memory means answer refusal shows memory =
-      goes_memory sent_in_step d processors (show run r (standing d.group p k0) number offered) means refusal k1
-      (same_after d processors k0 k1 number stands lt r offered p filings' (Ok answer) shows attends.change.others) memory (all_so (Ok answer) shows answer refl)
+      goes_memory sent_in_step d processors (show run table env (standing d.group p k0) number) means refusal k1
+      (same_after d processors k0 k1 number stands lt table env p filings' (Ok answer) shows attends.change.others) memory (all_so (Ok answer) shows answer refl)
 
   -- it was done
-  pub asks_ok : (p' : code_progress.Progress) (answer : Answer) → Showed (Ok answer) → p'.contributed.items ≡ set p.contributed.items number true → p'.filer ≡ filings' → p'.messages ≡ p.messages ++ place r.number number 0 answer.messages
+  pub asks_ok : (p' : code_progress.Progress) (answer : Answer) → Showed (Ok answer) → p'.contributed.items ≡ set p.contributed.items number true → p'.filer ≡ filings' → p'.messages ≡ p.messages ++ place env.number number 0 answer.messages
       → Asked_so (λ claimed. (standing d.group p' k1, claimed)) (Ok answer.claimed)
   asks_ok p' answer shows contributed filed messages = record {
-    comes = show_ok d processors k0 k1 number stands lt r offered p filings' (Ok answer) shows attends.change.others answer refl
-        ∙ ap (λ q. Ok (q, answer.claimed)) (stands_so d processors k0 k1 number stands lt r offered p filings' (Ok answer) shows attends.change.others p' answer.messages contributed filed messages);
-    same = same_after d processors k0 k1 number stands lt r offered p filings' (Ok answer) shows attends.change.others;
-    ready = ready_after d processors k0 k1 number stands lt r offered p filings' (Ok answer) shows attends.change.others answer refl attends.same_says;
+    comes = show_ok d processors k0 k1 number stands lt table env p filings' (Ok answer) shows attends.change.others answer refl
+        ∙ ap (λ q. Ok (q, answer.claimed)) (stands_so d processors k0 k1 number stands lt table env p filings' (Ok answer) shows attends.change.others answer refl p' contributed filed messages);
+    same = same_after d processors k0 k1 number stands lt table env p filings' (Ok answer) shows attends.change.others;
+    ready = ready_after d processors k0 k1 number stands lt table env p filings' (Ok answer) shows attends.change.others answer refl attends.same_says;
     fronts = all_so (Ok answer) shows answer refl;
   }

@@ -23,7 +23,7 @@ use Rattle.project_units.specs.Faults.{stop_of, exempt_in}
 use Rattle.project_units.proofs.CreationLemmas.{unread_none}
 use Rattle.project_units.specs.Units.{all_of}
 use Rattle.project_units.specs.Plans.{Plan, try_of, tries_in, name_of, names_in, plan_of}
-use Rattle.round_engine.specs.Run.{Frames, Progress, Run, first_sent, hellos_from, discovered, start, new_filings, next_of, rounds_before_last, rounds_from, asks_from, run_of, frames_of, ◌>>=◌}
+use Rattle.round_engine.specs.Run.{Frames, Progress, Run, first_sent, hellos_from, discovered, start, new_filings, ask, next_of, rounds_before_last, rounds_from, asks_from, run_of, frames_of, ◌>>=◌}
 use Rattle.project_units.specs.Creations.{unread_among}
 use Rattle.round_engine.specs.Clean.{Has, Closes, ShowsWhole, Cleans, Talked}
 use Rattle.round_engine.specs.Fronts.{FrontsBut}
@@ -109,7 +109,7 @@ stopped_whole whole sent stop.Memory is = tt
 
 -- at a Hello
 hello_stops : (says : Says) (plan : Plan) (table : TypeTable) (sent : List Frames) (s : Stop) → StopsAs (hellos_from says plan [] plan.processors) sent s → StopsAs (run_of says plan table) sent s
-hello_stops says plan table sent (stop.Refused refusal) is = ap (λ o. o >>= (λ supported. rounds_from (discovered says plan supported) rounds_before_last (next_of 1 (all_of table)) (start plan table))) is
+hello_stops says plan table sent (stop.Refused refusal) is = ap (λ o. o >>= (λ supported. rounds_from ask (discovered says plan supported) rounds_before_last (next_of 1 (all_of table)) (start plan table))) is
 hello_stops says plan table sent (stop.Failed object) is = tt
 hello_stops says plan table sent stop.Memory is = tt
 
@@ -178,10 +178,10 @@ module _ (key : Key) (table : TypeTable) (d : code_discovered.Discovered) (p : c
       ∙ ap (λ ms. progress_of (all_sent k1.known d.group) p.contributed.items p.filer ms) (sym printed)
 
   abbrev rounds_of : Says → Progress → Run
-  rounds_of says before = rounds_from (shown_discovered says processors d) rounds_before_last (next_of 1 (all_of table)) before
+  rounds_of says before = rounds_from ask (shown_discovered says processors d) rounds_before_last (next_of 1 (all_of table)) before
 
   whole_is : whole ≡ rounds_of k1.says (standing d.group p k1)
-  whole_is = ap (λ o. o >>= (λ supported. rounds_from (discovered k0.says plan supported) rounds_before_last (next_of 1 (all_of table)) (start plan table))) begins.hellos
+  whole_is = ap (λ o. o >>= (λ supported. rounds_from ask (discovered k0.says plan supported) rounds_before_last (next_of 1 (all_of table)) (start plan table))) begins.hellos
       ∙ ap (rounds_of k0.says) standing_is ∙ ap (λ says. rounds_of says (standing d.group p k1)) (sym said)
 
   goes : Goes sent_in_finished d processors whole (λ rounds. shown_rounds d.group rounds k2) result k2

@@ -5,10 +5,11 @@ use Rattle.child_session.specs.declared.fault.SessionFault.TheVariants as fault
 use Rattle.child_session.specs.declared.round.Answer.{Answer}
 use Rattle.child_session.specs.declared.round.Showing.{Showing}
 use Rattle.child_session.specs.Round.{IsDue}
+use Rattle.round_env.specs.declared.environment.RoundEnv.{RoundEnv}
 use Rattle.project_units.specs.Refusals as stop
 use Rattle.project_units.specs.Refusals.{Stop, named_by}
 use Rattle.round_engine.specs.Faults.{of_session}
-use Rattle.round_engine.specs.Run.{limit}
+use Rattle.round_engine.specs.Run.{most_questions}
 use Rattle.round_engine.specs.Shown.{IsDueStop}
 
 -- a refusal that names no processor is neither of the two
@@ -32,12 +33,12 @@ due_unnamed stop.Memory is = tt
 abbrev fault_of : SessionFault → Result Answer SessionFault
 fault_of f = Err f
 
--- a session's fault, in a round with these roots
-module _ (processor : List ℕ) (shown : Showing) (roots : List (List ℕ)) (limit_is : shown.limit ≡ limit roots) where
+-- a session's fault, in a round that is shown so
+module _ (processor : List ℕ) (shown : Showing) (env : RoundEnv) (limit_is : shown.limit ≡ most_questions env) where
   due_of : (f : SessionFault) → IsDue shown (fault_of f) → IsDueStop (of_session processor f)
   due_of fault.Failed is = tt
   due_of (fault.Breach breach) is = tt
-  due_of (fault.TooManyQuestions most) is = (roots, is ∙ limit_is)
+  due_of (fault.TooManyQuestions most) is = (env, is ∙ limit_is)
   due_of (fault.ClaimBroken declared said) is = is.1
   due_of fault.Memory is = tt
 

@@ -1,21 +1,38 @@
 -- What children were sent at some point of a run is the first of what the run sends them.
-use Rattle.std.proofs.Common.{◌≡◌, ℕ, zero, suc, ◌<◌, Bool, true, false, cond, List, [], ◌∷◌, ◌++◌, length, get_or, set, Option, None, Some, IsSomeAnd, Result, Ok, Err, sym, subst, ◌∙◌, append-nil, get_or-set_other, length-set, arith}
+use Rattle.std.proofs.Common.{◌≡◌, ℕ, zero, suc, ◌<◌, Bool, true, false, cond, List, [], ◌∷◌, ◌++◌, length, get_or, set, Option, None, Some, IsSomeAnd, Result, Ok, Err, refl, sym, ap, subst, ◌∙◌, append-nil, append_assoc, get_or-set_other, length-set, arith}
 use Rattle.std.specs.Prelude.{◌||◌, not, slice_get}
 use Rattle.std.specs.FinMap as fin
 use Rattle.std.proofs.lemmas.Option.{slice_get-get_or}
 use Rattle.apt_outside.specs.Child.{Try}
 use Rattle.element_table.specs.TypeTable.{TypeTable}
-use Rattle.child_session.specs.Round.{Act, Answered, Broken, Overasked, Differed, IsFront, sent_of}
-use Rattle.child_session.proofs.FrontsOfActs.{front_same, front_trans, act_front}
+use Rattle.round_env.specs.declared.environment.RoundEnv.{RoundEnv}
+use Rattle.child_session.specs.declared.request.Turn.{Turn}
+use Rattle.child_session.specs.declared.request.Turn.TheVariants.{Ends, Differs, Asks, Leaves}
+use Rattle.child_session.specs.Replies.{Exchange, shown_of}
+use Rattle.child_session.specs.Acts as acts
+use Rattle.child_session.specs.Acts.{Act}
+use Rattle.child_session.specs.Round.{IsFront}
 use Rattle.round_engine.specs.declared.rounds.Round.{Round}
 use Rattle.project_units.specs.Refusals.{Refusal}
 use Rattle.project_units.specs.Units.{Entered, enter_all}
-use Rattle.round_engine.specs.Run.{Frames, Course, Discovered, Progress, Run, claim_at, sent_at, processor_at, showing, act, after_act, show, ask, offered_names, next_asked, ask_next, asks_from, round_of, has_error, printed_since, new_since, last_of, next_of, finished, last_round, entering, after_round, rounds_from, ◌>>=◌}
+use Rattle.round_engine.specs.Run.{Frames, Course, Discovered, Progress, Run, Asking, sent_at, sent_with, env_of, act, after_act, show, ask, offered_names, next_asked, ask_next, asks_from, round_of, has_error, printed_since, new_since, last_of, next_of, finished, last_round, entering, after_round, rounds_from, ◌>>=◌}
 use Rattle.project_units.specs.Creations.{creates_source, sources_among}
 use Rattle.round_engine.specs.Fronts.{AreFronts, FrontsButOne, FrontsBut}
 use Rattle.round_engine.specs.Shown.{sent_by, sent_in_step, sent_in_progress, sent_in_finished}
 
 -- ---- fronts
+
+pub front_same : (xs : Frames) → IsFront xs xs
+front_same xs = record { rest = []; is = append-nil xs }
+
+front_more : (xs ys : Frames) → IsFront xs (xs ++ ys)
+front_more xs ys = record { rest = ys; is = refl }
+
+front_trans : (xs ys zs : Frames) → IsFront xs ys → IsFront ys zs → IsFront xs zs
+front_trans xs ys zs first second = record {
+  rest = first.rest ++ second.rest;
+  is = sym (append_assoc xs first.rest second.rest) ∙ ap (λ f. f ++ second.rest) first.is ∙ second.is;
+}
 
 pub fronts_same : (all : List Frames) → AreFronts all all
 fronts_same all = record { few = omega arith; at = λ n. front_same (get_or all n []) }
@@ -85,70 +102,86 @@ pub then_fronts : {A B : Type 0} (sent_a : A → List Frames) (sent_b : B → Li
 then_fronts sent_a sent_b (Ok a) go more = more a
 then_fronts sent_a sent_b (Err stopped) go more = fronts_same stopped.sent
 
-module _ (d : Discovered) (r : Round) where
-  acted_fronts : (p : Progress) (number : ℕ) (a : Act) → IsFront (sent_at p number) (sent_of a) → AreFronts p.sent (sent_by sent_in_step (after_act d r p number a))
-  acted_fronts p number (Answered sent filings printed claimed) front = fronts_set p.sent number sent front
-  acted_fronts p number (Broken sent filings breach) front = fronts_set p.sent number sent front
-  acted_fronts p number (Overasked sent filings) front = fronts_set p.sent number sent front
-  acted_fronts p number (Differed sent filings said) front = fronts_set p.sent number sent front
+-- ---- one child is shown a round
+
+module _ (d : Discovered) (table : TypeTable) (env : RoundEnv) where
+  acted_fronts : (p : Progress) (number : ℕ) (exchanges : List Exchange) (turn : Turn) → AreFronts p.sent (sent_by sent_in_step (after_act d table env p number exchanges turn))
+  acted_fronts p number exchanges (Ends claimed) = fronts_set p.sent number (sent_with table env p number exchanges) (front_more (sent_at p number) (acts.frames_of (shown_of table env) exchanges))
+  acted_fronts p number exchanges (Differs said) = fronts_set p.sent number (sent_with table env p number exchanges) (front_more (sent_at p number) (acts.frames_of (shown_of table env) exchanges))
+  acted_fronts p number exchanges (Asks request) = fronts_set p.sent number (sent_with table env p number exchanges) (front_more (sent_at p number) (acts.frames_of (shown_of table env) exchanges))
+  acted_fronts p number exchanges (Leaves breach) = fronts_set p.sent number (sent_with table env p number exchanges) (front_more (sent_at p number) (acts.frames_of (shown_of table env) exchanges))
 
   -- it was sent the first of what its act sends
-  acted_some : (p : Progress) (number : ℕ) (frames : Frames) (a : Act) → IsFront frames (sent_of a) → AreFronts (set p.sent number frames) (sent_by sent_in_step (after_act d r p number a))
-  acted_some p number frames (Answered sent filings printed claimed) front = fronts_at p.sent number frames sent front
-  acted_some p number frames (Broken sent filings breach) front = fronts_at p.sent number frames sent front
-  acted_some p number frames (Overasked sent filings) front = fronts_at p.sent number frames sent front
-  acted_some p number frames (Differed sent filings said) front = fronts_at p.sent number frames sent front
+  acted_some : (p : Progress) (number : ℕ) (frames : Frames) (exchanges : List Exchange) (turn : Turn) → IsFront frames (sent_with table env p number exchanges)
+      → AreFronts (set p.sent number frames) (sent_by sent_in_step (after_act d table env p number exchanges turn))
+  acted_some p number frames exchanges (Ends claimed) front = fronts_at p.sent number frames (sent_with table env p number exchanges) front
+  acted_some p number frames exchanges (Differs said) front = fronts_at p.sent number frames (sent_with table env p number exchanges) front
+  acted_some p number frames exchanges (Asks request) front = fronts_at p.sent number frames (sent_with table env p number exchanges) front
+  acted_some p number frames exchanges (Leaves breach) front = fronts_at p.sent number frames (sent_with table env p number exchanges) front
 
-  acted_but_one : (name : List ℕ) (processors : List Try) (p : Progress) (number : ℕ) → IsSomeAnd (slice_get processors number) (λ (q : Try). q.0 ≡ name) → (frames : Frames) (a : Act)
-      → FrontsButOne name processors (set p.sent number frames) (sent_by sent_in_step (after_act d r p number a))
-  acted_but_one name processors p number named frames (Answered sent filings printed claimed) = others_fronts name processors number named p.sent frames sent
-  acted_but_one name processors p number named frames (Broken sent filings breach) = others_fronts name processors number named p.sent frames sent
-  acted_but_one name processors p number named frames (Overasked sent filings) = others_fronts name processors number named p.sent frames sent
-  acted_but_one name processors p number named frames (Differed sent filings said) = others_fronts name processors number named p.sent frames sent
+  acted_but_one : (name : List ℕ) (processors : List Try) (p : Progress) (number : ℕ) → IsSomeAnd (slice_get processors number) (λ (q : Try). q.0 ≡ name) → (frames : Frames) (exchanges : List Exchange) (turn : Turn)
+      → FrontsButOne name processors (set p.sent number frames) (sent_by sent_in_step (after_act d table env p number exchanges turn))
+  acted_but_one name processors p number named frames exchanges (Ends claimed) = others_fronts name processors number named p.sent frames (sent_with table env p number exchanges)
+  acted_but_one name processors p number named frames exchanges (Differs said) = others_fronts name processors number named p.sent frames (sent_with table env p number exchanges)
+  acted_but_one name processors p number named frames exchanges (Asks request) = others_fronts name processors number named p.sent frames (sent_with table env p number exchanges)
+  acted_but_one name processors p number named frames exchanges (Leaves breach) = others_fronts name processors number named p.sent frames (sent_with table env p number exchanges)
 
-  -- before one is shown the round
-  pub show_fronts : (p : Progress) (number : ℕ) (offered : List (List ℕ)) → AreFronts p.sent (sent_by sent_in_step (show d r p number offered))
-  show_fronts p number offered = acted_fronts p number (act d r p number offered)
-      (act_front (d.says (processor_at d number).0 (processor_at d number).1) (showing r offered (claim_at d number)) (sent_at p number) p.filings)
+  module _ (p : Progress) (number : ℕ) where
+    abbrev whole : Act
+    whole = act d table env p number
 
-  -- once one was shown some of it
-  pub show_some : (p : Progress) (number : ℕ) (offered : List (List ℕ)) (frames : Frames) → IsFront frames (sent_of (act d r p number offered)) → AreFronts (set p.sent number frames) (sent_by sent_in_step (show d r p number offered))
-  show_some p number offered frames front = acted_some p number frames (act d r p number offered) front
+    -- before one is shown the round
+    pub show_fronts : AreFronts p.sent (sent_by sent_in_step (show d table env p number))
+    show_fronts = acted_fronts p number whole.exchanges whole.last
 
-  -- once one was shown it, whatever it was sent
-  pub show_but_one : (name : List ℕ) (processors : List Try) (p : Progress) (number : ℕ) → IsSomeAnd (slice_get processors number) (λ (q : Try). q.0 ≡ name) → (offered : List (List ℕ)) (frames : Frames)
-      → FrontsButOne name processors (set p.sent number frames) (sent_by sent_in_step (show d r p number offered))
-  show_but_one name processors p number named offered frames = acted_but_one name processors p number named frames (act d r p number offered)
+    -- once one was shown some of it
+    pub show_some : (frames : Frames) → IsFront frames (sent_with table env p number whole.exchanges) → AreFronts (set p.sent number frames) (sent_by sent_in_step (show d table env p number))
+    show_some frames front = acted_some p number frames whole.exchanges whole.last front
 
+    -- once one was shown it, whatever it was sent
+    pub show_but_one : (name : List ℕ) (processors : List Try) → IsSomeAnd (slice_get processors number) (λ (q : Try). q.0 ≡ name) → (frames : Frames)
+        → FrontsButOne name processors (set p.sent number frames) (sent_by sent_in_step (show d table env p number))
+    show_but_one name processors named frames = acted_but_one name processors p number named frames whole.exchanges whole.last
+
+-- what is sent in a step of these processors is sent behind what was sent before
+abbrev pub StepsOn : Asking → Discovered → Type 0
+StepsOn asking d = (r : Round) (p : Progress) (next : ℕ × List ℕ) → AreFronts p.sent (sent_by sent_in_step (asking d r p next))
+
+pub ask_fronts : (d : Discovered) → StepsOn ask d
+ask_fronts d r p next = show_fronts d r.table (env_of r (offered_names r next.1)) p next.0
+
+-- ---- one round
+
+module _ (asking : Asking) (d : Discovered) (steps : StepsOn asking d) (r : Round) where
   next_fronts : (p : Progress) (o : Option (ℕ × List ℕ)) (go : Progress × Bool → Course Progress) → ((acted : Progress × Bool) → AreFronts acted.0.sent (sent_by sent_in_progress (go acted)))
-      → AreFronts p.sent (sent_by sent_in_progress (ask_next d r p o go))
+      → AreFronts p.sent (sent_by sent_in_progress (ask_next asking d r p o go))
   next_fronts p None go more = fronts_same p.sent
-  next_fronts p (Some next) go more = fronts_trans p.sent (sent_by sent_in_step (ask d r p next)) (sent_by sent_in_progress (ask d r p next >>= go))
-      (show_fronts p next.0 (offered_names r next.1)) (then_fronts sent_in_step sent_in_progress (ask d r p next) go more)
+  next_fronts p (Some next) go more = fronts_trans p.sent (sent_by sent_in_step (asking d r p next)) (sent_by sent_in_progress (asking d r p next >>= go))
+      (steps r p next) (then_fronts sent_in_step sent_in_progress (asking d r p next) go more)
 
   -- the rest of a round
-  pub asks_fronts : (contributed : List Bool) (left : ℕ) (answers : List Bool) (p : Progress) → AreFronts p.sent (sent_by sent_in_progress (asks_from d r contributed left answers p))
+  pub asks_fronts : (contributed : List Bool) (left : ℕ) (answers : List Bool) (p : Progress) → AreFronts p.sent (sent_by sent_in_progress (asks_from asking d r contributed left answers p))
   unfolding asks_from
   asks_fronts contributed zero answers p = fronts_same p.sent
-  asks_fronts contributed (suc left) answers p = next_fronts p (next_asked d r contributed answers) (λ acted. asks_from d r contributed left (answers ++ acted.1 ∷ []) acted.0)
+  asks_fronts contributed (suc left) answers p = next_fronts p (next_asked d r contributed answers) (λ acted. asks_from asking d r contributed left (answers ++ acted.1 ∷ []) acted.0)
       (λ acted. asks_fronts contributed left (answers ++ acted.1 ∷ []) acted.0)
 
-  pub round_fronts : (p : Progress) → AreFronts p.sent (sent_by sent_in_progress (round_of d r p))
+  pub round_fronts : (p : Progress) → AreFronts p.sent (sent_by sent_in_progress (round_of asking d r p))
   round_fronts p = asks_fronts p.contributed (length d.processors) [] p
 
   -- one was shown the round, and then come the others
   pub step_fronts : (contributed : List Bool) (left : ℕ) (answers : List Bool) (course : Course (Progress × Bool))
-      → AreFronts (sent_by sent_in_step course) (sent_by sent_in_progress (course >>= (λ acted. asks_from d r contributed left (answers ++ acted.1 ∷ []) acted.0)))
-  step_fronts contributed left answers course = then_fronts sent_in_step sent_in_progress course (λ acted. asks_from d r contributed left (answers ++ acted.1 ∷ []) acted.0)
+      → AreFronts (sent_by sent_in_step course) (sent_by sent_in_progress (course >>= (λ acted. asks_from asking d r contributed left (answers ++ acted.1 ∷ []) acted.0)))
+  step_fronts contributed left answers course = then_fronts sent_in_step sent_in_progress course (λ acted. asks_from asking d r contributed left (answers ++ acted.1 ∷ []) acted.0)
       (λ acted. asks_fronts contributed left (answers ++ acted.1 ∷ []) acted.0)
 
 -- ---- the rounds
 
-module _ (d : Discovered) where
+module _ (asking : Asking) (d : Discovered) (steps : StepsOn asking d) where
   -- behind the last round
   pub last_fronts : (number : ℕ) (error : Bool) (table : TypeTable) (before : Progress)
-      → AreFronts (sent_by sent_in_progress (round_of d (last_of number error table) before)) (sent_by sent_in_finished (last_round d number error table before))
-  last_fronts number error table before = then_fronts sent_in_progress sent_in_finished (round_of d (last_of number error table) before) (λ after. Ok (finished number before after)) (λ after. fronts_same after.sent)
+      → AreFronts (sent_by sent_in_progress (round_of asking d (last_of number error table) before)) (sent_by sent_in_finished (last_round asking d number error table before))
+  last_fronts number error table before = then_fronts sent_in_progress sent_in_finished (round_of asking d (last_of number error table) before) (λ after. Ok (finished number before after)) (λ after. fronts_same after.sent)
 
   by_test : (b : Bool) (sent : List Frames) (x y : Run) → AreFronts sent (sent_by sent_in_finished x) → AreFronts sent (sent_by sent_in_finished y) → AreFronts sent (sent_by sent_in_finished (cond b x y))
   by_test true sent x y one other = one
@@ -159,30 +192,30 @@ module _ (d : Discovered) where
   entering_fronts sent (Err refusal) go more = fronts_same sent
 
   after_fronts : (r : Round) (before after : Progress) (go : Entered → Run) → ((e : Entered) → AreFronts after.sent (sent_by sent_in_finished (go e)))
-      → AreFronts after.sent (sent_by sent_in_finished (after_round d r before after go))
+      → AreFronts after.sent (sent_by sent_in_finished (after_round asking d r before after go))
   after_fronts r before after go more =
       let error = has_error (printed_since before.messages after.messages) in
       let made = new_since before.filings after.filings in
-      let last = last_round d (suc r.number) error r.table after in
+      let last = last_round asking d (suc r.number) error r.table after in
       let outcome = enter_all r.table (fin.entries (sources_among made)) in
       by_test (error || not (creates_source made)) after.sent last (entering after.sent outcome >>= go)
-      (fronts_trans after.sent (sent_by sent_in_progress (round_of d (last_of (suc r.number) error r.table) after)) (sent_by sent_in_finished last)
-      (round_fronts d (last_of (suc r.number) error r.table) after) (last_fronts (suc r.number) error r.table after))
+      (fronts_trans after.sent (sent_by sent_in_progress (round_of asking d (last_of (suc r.number) error r.table) after)) (sent_by sent_in_finished last)
+      (round_fronts asking d steps (last_of (suc r.number) error r.table) after) (last_fronts (suc r.number) error r.table after))
       (entering_fronts after.sent outcome go more)
 
   -- all that are left
-  pub rounds_fronts : (left : ℕ) (r : Round) (p : Progress) → AreFronts p.sent (sent_by sent_in_finished (rounds_from d left r p))
+  pub rounds_fronts : (left : ℕ) (r : Round) (p : Progress) → AreFronts p.sent (sent_by sent_in_finished (rounds_from asking d left r p))
   unfolding rounds_from
   rounds_fronts zero r p = fronts_same p.sent
-  rounds_fronts (suc left) r p = fronts_trans p.sent (sent_by sent_in_progress (round_of d r p)) _ (round_fronts d r p)
-      (then_fronts sent_in_progress sent_in_finished (round_of d r p) (λ after. after_round d r p after (λ entered. rounds_from d left (next_of (suc r.number) entered) after))
-      (λ after. after_fronts r p after (λ entered. rounds_from d left (next_of (suc r.number) entered) after) (λ entered. rounds_fronts left (next_of (suc r.number) entered) after)))
+  rounds_fronts (suc left) r p = fronts_trans p.sent (sent_by sent_in_progress (round_of asking d r p)) _ (round_fronts asking d steps r p)
+      (then_fronts sent_in_progress sent_in_finished (round_of asking d r p) (λ after. after_round asking d r p after (λ entered. rounds_from asking d left (next_of (suc r.number) entered) after))
+      (λ after. after_fronts r p after (λ entered. rounds_from asking d left (next_of (suc r.number) entered) after) (λ entered. rounds_fronts left (next_of (suc r.number) entered) after)))
 
   -- behind a round that is not the last
   pub later_fronts : (left : ℕ) (r : Round) (before : Progress) (after : Progress)
-      → AreFronts after.sent (sent_by sent_in_finished (after_round d r before after (λ entered. rounds_from d left (next_of (suc r.number) entered) after)))
-  later_fronts left r before after = after_fronts r before after (λ entered. rounds_from d left (next_of (suc r.number) entered) after) (λ entered. rounds_fronts left (next_of (suc r.number) entered) after)
+      → AreFronts after.sent (sent_by sent_in_finished (after_round asking d r before after (λ entered. rounds_from asking d left (next_of (suc r.number) entered) after)))
+  later_fronts left r before after = after_fronts r before after (λ entered. rounds_from asking d left (next_of (suc r.number) entered) after) (λ entered. rounds_fronts left (next_of (suc r.number) entered) after)
 
   pub round_then : (left : ℕ) (r : Round) (before : Progress) (course : Course Progress)
-      → AreFronts (sent_by sent_in_progress course) (sent_by sent_in_finished (course >>= (λ after. after_round d r before after (λ entered. rounds_from d left (next_of (suc r.number) entered) after))))
-  round_then left r before course = then_fronts sent_in_progress sent_in_finished course (λ after. after_round d r before after (λ entered. rounds_from d left (next_of (suc r.number) entered) after)) (later_fronts left r before)
+      → AreFronts (sent_by sent_in_progress course) (sent_by sent_in_finished (course >>= (λ after. after_round asking d r before after (λ entered. rounds_from asking d left (next_of (suc r.number) entered) after))))
+  round_then left r before course = then_fronts sent_in_progress sent_in_finished course (λ after. after_round asking d r before after (λ entered. rounds_from asking d left (next_of (suc r.number) entered) after)) (later_fronts left r before)

@@ -7,14 +7,13 @@ use Rattle.frame_breaches.specs.declared.breach.Breach.{Breach}
 use Rattle.processor_claims.specs.declared.supported.Supported.{Supported}
 use Rattle.element_table.specs.TypeTable.{TypeTable}
 use Rattle.child_session.specs.Round.{IsFront}
-use Rattle.child_session.proofs.FrontsOfActs.{front_same}
 use Rattle.project_units.specs.Units.{all_of}
 use Rattle.project_units.specs.Plans.{Plan}
-use Rattle.round_engine.specs.Run.{Frames, Course, Run, first_sent, hello_of, greeting, hellos_from, discovered, start, next_of, rounds_before_last, rounds_from, run_of, frames_of, ◌>>=◌}
+use Rattle.round_engine.specs.Run.{Frames, Course, Run, first_sent, hello_of, greeting, hellos_from, discovered, start, ask, next_of, rounds_before_last, rounds_from, run_of, frames_of, ◌>>=◌}
 use Rattle.round_engine.specs.Fronts.{AreFronts, FrontsButOne, FrontsBut}
 use Rattle.round_engine.specs.Shown.{frames_to, all_sent, EachOf, IsOf, IsSent, AreSent, IsSame, AllSame, sent_by, sent_in_finished, sent_at_hello, hellos_sent, ShowsNoMore, TellsMore}
 use Rattle.round_engine.proofs.ChildrenOfARun.{frames_in}
-use Rattle.round_engine.proofs.FrontsOfFrames.{fronts_same, fronts_trans, rounds_fronts, then_fronts}
+use Rattle.round_engine.proofs.FrontsOfFrames.{front_same, fronts_same, fronts_trans, ask_fronts, rounds_fronts, then_fronts}
 
 -- ---- lists of frames
 
@@ -191,5 +190,5 @@ module _ (says : Says) (plan : Plan) where
   pub run_fronts : (table : TypeTable) → AreFronts (hellos_sent says plan) (frames_of (run_of says plan table))
   run_fronts table = subst (AreFronts (hellos_sent says plan)) (frames_are (run_of says plan table))
       (then_fronts (λ (supported : List Supported). map (first_sent plan) plan.processors) sent_in_finished (hellos_from says plan [] plan.processors)
-      (λ supported. rounds_from (discovered says plan supported) rounds_before_last (next_of 1 (all_of table)) (start plan table))
-      (λ supported. rounds_fronts (discovered says plan supported) rounds_before_last (next_of 1 (all_of table)) (start plan table)))
+      (λ supported. rounds_from ask (discovered says plan supported) rounds_before_last (next_of 1 (all_of table)) (start plan table))
+      (λ supported. rounds_fronts ask (discovered says plan supported) (ask_fronts (discovered says plan supported)) rounds_before_last (next_of 1 (all_of table)) (start plan table)))

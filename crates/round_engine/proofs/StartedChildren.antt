@@ -8,7 +8,6 @@ use Rattle.frame_breaches.specs.declared.breach.Breach.{Breach}
 use Rattle.processor_claims.specs.declared.supported.Supported.{Supported}
 use Rattle.child_session.specs.Beginning as session
 use Rattle.child_session.specs.Round.{IsFront}
-use Rattle.child_session.proofs.FrontsOfActs.{front_same}
 use Rattle.project_units.specs.Refusals as stop
 use Rattle.project_units.specs.Refusals.{Stop, LeavesProtocol, exempt_by}
 use Rattle.project_units.specs.Plans.{Plan, init_frame}
@@ -19,6 +18,7 @@ use Rattle.round_engine.specs.Shown.{EachOf, IsOf, Serves, IsOutside, AreDiffere
 use Rattle.round_engine.proofs.ChildrenOfARun.{frames_in, all_sent-outside, each-weaker}
 use Rattle.round_engine.proofs.BegunProcessors.{begun_is}
 use Rattle.round_engine.proofs.FrontsOfHellos.{fronts_last, fronts_one_more, fronts_no_more, named_next, sent_are, each_front, each_kept, sent_kept, hello_fronts, hello_next}
+use Rattle.round_engine.proofs.FrontsOfFrames.{front_same}
 
 -- ---- a child more
 

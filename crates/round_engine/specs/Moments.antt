@@ -5,7 +5,7 @@ use Rattle.apt_outside.specs.Count.{Told}
 use Rattle.apt_outside.specs.Child.{State}
 use Rattle.processor_claims.specs.declared.supported.Supported.{Supported}
 use Rattle.element_table.specs.TypeTable.{TypeTable}
-use Rattle.round_engine.specs.declared.asking.Asked.{Asked}
+use Rattle.round_env.specs.declared.environment.RoundEnv.{RoundEnv}
 use Rattle.round_engine.specs.declared.beginning.Discovered.{Discovered}
 use Rattle.round_engine.specs.declared.progress.Progress.{Progress}
 use Rattle.project_units.specs.declared.project.Key.{Key}
@@ -32,9 +32,9 @@ BeginsEach c key group old new result = Told c.tells (shown.BeginsEach (plan_of 
 abbrev pub Begins : {C : Type 0} → children.Ghosts C → Key → C → C → Result Discovered Refusal → Type 0
 Begins c key old new result = Told c.tells (shown.Begins (plan_of key) (c.state old) (c.state new) result)
 
--- a processor was asked
-abbrev pub AsksOne : {C : Type 0} → children.Ghosts C → Asked → Progress → Progress → C → C → Result Bool Refusal → Type 0
-AsksOne c asked p p' old new result = Told c.tells (shown.AsksOne asked p p' (c.state old) (c.state new) result)
+-- a processor was shown a round
+abbrev pub AsksOne : {C : Type 0} → children.Ghosts C → Discovered → TypeTable → RoundEnv → ℕ → Progress → Progress → C → C → Result Bool Refusal → Type 0
+AsksOne c d table env number p p' old new result = Told c.tells (shown.AsksOne d table env number p p' (c.state old) (c.state new) result)
 
 -- all were asked that a round asks
 abbrev pub Asks : {C : Type 0} → children.Ghosts C → Discovered → Round → Progress → Progress → C → C → Result Unit Refusal → Type 0

@@ -8,17 +8,21 @@ use Rattle.apt_base.specs.Identifiers.{is_pattern}
 use Rattle.apt_base.specs.declared.kinds.Claim.{Claim}
 use Rattle.apt_base.specs.declared.kinds.Claim.TheVariants.{Varies}
 use Rattle.wire_frames.specs.declared.frame.Hello.{Hello}
-use Rattle.wire_frames.specs.declared.frame.Frame.TheVariants as frame
 use Rattle.wire_frames.specs.declared.frame.Creation.{Creation}
 use Rattle.wire_frames.specs.declared.frame.Message.{Message}
-use Rattle.wire_frames.specs.Frames.{spelling}
 use Rattle.frame_breaches.specs.declared.breach.Breach.{Breach}
-use Rattle.apt_filer.specs.Filing.{Filings}
+use Rattle.apt_filer.specs.Filing.{Filings, taken_at_first}
 use Rattle.processor_claims.specs.declared.supported.Supported.{Supported}
 use Rattle.processor_claims.specs.Asked.{asked}
 use Rattle.child_session.specs.declared.round.Showing.{Showing}
 use Rattle.child_session.specs.Beginning.{first_hello}
-use Rattle.child_session.specs.Round.{Act, Answered, Broken, Overasked, Differed, act_of}
+use Rattle.child_session.specs.declared.request.Turn.{Turn}
+use Rattle.child_session.specs.declared.request.Turn.TheVariants.{Ends, Differs, Asks, Leaves}
+use Rattle.child_session.specs.Replies.{Exchange, shown_of, filed_all}
+use Rattle.child_session.specs.Acts as acts
+use Rattle.child_session.specs.Acts.{Act, messages}
+use Rattle.child_session.specs.Round as session
+use Rattle.round_env.specs.declared.environment.RoundEnv.{RoundEnv}
 use Rattle.round_engine.specs.declared.messages.Placed.{Placed}
 use Rattle.round_engine.specs.declared.rounds.Round.{Round}
 use Rattle.project_units.specs.Refusals.{Refusal, LeavesProtocol, TooManyQuestions, ClaimBroken, TooManyRounds}
@@ -117,53 +121,66 @@ present_in r = present_names r.table r.roots
 abbrev pub offered_names : Round → List ℕ → List (List ℕ)
 offered_names r positions = map (λ at. slice_index_or (present_in r) at []) positions
 
--- how often a child may ask in a round with these roots
-abbrev pub limit : List (List ℕ) → ℕ
-limit roots = 65536 + 4096 * length roots
+-- what a processor is shown of a round in which it is offered these names: all roots
+abbrev pub env_of : Round → List (List ℕ) → RoundEnv
+env_of r offered = record { number = r.number; over = r.over; error = r.error; offered = offered; roots = r.roots }
 
-abbrev pub round_frame : Round → List (List ℕ) → List ℕ
-round_frame r offered = spelling (frame.Round r.number r.over r.error offered r.roots)
+-- how often a child may ask in a round that is shown to it so
+abbrev pub most_questions : RoundEnv → ℕ
+most_questions env = 65536 + 4096 * length env.roots
 
--- what a processor is shown that is offered these names and declared this of its claims
-abbrev pub showing : Round → List (List ℕ) → Claim → Showing
-showing r offered claim = record { limit = limit r.roots; claim = claim; round = round_frame r offered }
+-- the same round for the child of a processor that declared this of its claims
+abbrev pub showing : RoundEnv → Claim → Showing
+showing env claim = record { limit = most_questions env; claim = claim; env = env }
 
--- what the processor of this number does, with all files that were accepted before
-abbrev pub act : Discovered → Round → Progress → ℕ → List (List ℕ) → Act
-act d r p number offered =
-    act_of (d.says (processor_at d number).0 (processor_at d number).1) (showing r offered (claim_at d number)) (sent_at p number) p.filings
+-- what the processor of this number does that is shown this, with all files that were accepted before
+abbrev pub act : Discovered → TypeTable → RoundEnv → Progress → ℕ → Act
+act d table env p number =
+    session.act (d.says (processor_at d number).0 (processor_at d number).1) table (showing env (claim_at d number)) (sent_at p number) p.filings.taken
 
 -- messages of a processor in a round, numbered from one on
 abbrev pub place : ℕ → ℕ → ℕ → List Message → List Placed
 place round processor number [] = []
 place round processor number (message ∷ messages) = record { round = round; processor = processor; number = number; message = message } ∷ place round processor (suc number) messages
 
+-- the frames that its child was sent in the end
+abbrev pub sent_with : TypeTable → RoundEnv → Progress → ℕ → List Exchange → Frames
+sent_with table env p number exchanges = sent_at p number ++ acts.frames_of (shown_of table env) exchanges
+
 -- how far the run is once it did so
-abbrev pub with_act : Round → Progress → ℕ → Frames → Filings → List Message → Progress
-with_act r p number sent filings printed = record {
-  sent = slice_set p.sent number sent;
+abbrev pub with_act : TypeTable → RoundEnv → Progress → ℕ → List Exchange → Progress
+with_act table env p number exchanges = record {
+  sent = slice_set p.sent number (sent_with table env p number exchanges);
   contributed = slice_set p.contributed number true;
-  filings = filings;
-  messages = p.messages ++ place r.number number 0 printed;
+  filings = filed_all p.filings exchanges;
+  messages = p.messages ++ place env.number number 0 (messages exchanges);
 }
 
 abbrev pub stopped_at : Progress → ℕ → Frames → Refusal → Stopped
 stopped_at p number sent refusal = record { sent = slice_set p.sent number sent; refusal = refusal }
 
--- how far the run is after its act, and whether it claims what it was offered; or the refusal, which names it
-abbrev pub after_act : Discovered → Round → Progress → ℕ → Act → Course (Progress × Bool)
-after_act d r p number (Answered sent filings printed claimed) = Ok (with_act r p number sent filings printed, claimed)
-after_act d r p number (Broken sent filings breach) = Err (stopped_at p number sent (LeavesProtocol (processor_at d number).0 breach))
-after_act d r p number (Overasked sent filings) = Err (stopped_at p number sent (TooManyQuestions (processor_at d number).0 (limit r.roots)))
-after_act d r p number (Differed sent filings said) = Err (stopped_at p number sent (ClaimBroken (processor_at d number).0 (claim_at d number) said))
+-- How far the run is after an act with these exchanges, which ended with this turn, and whether the processor claims what it was offered; or the refusal, which
+-- names it. A request that ends an act was one too many.
+abbrev pub after_act : Discovered → TypeTable → RoundEnv → Progress → ℕ → List Exchange → Turn → Course (Progress × Bool)
+after_act d table env p number exchanges (Ends claimed) = Ok (with_act table env p number exchanges, claimed)
+after_act d table env p number exchanges (Differs said) =
+    Err (stopped_at p number (sent_with table env p number exchanges) (ClaimBroken (processor_at d number).0 (claim_at d number) said))
+after_act d table env p number exchanges (Asks request) =
+    Err (stopped_at p number (sent_with table env p number exchanges) (TooManyQuestions (processor_at d number).0 (most_questions env)))
+after_act d table env p number exchanges (Leaves breach) =
+    Err (stopped_at p number (sent_with table env p number exchanges) (LeavesProtocol (processor_at d number).0 breach))
 
--- the processor of this number is shown the round, and is offered these names
-abbrev pub show : Discovered → Round → Progress → ℕ → List (List ℕ) → Course (Progress × Bool)
-show d r p number offered = after_act d r p number (act d r p number offered)
+-- the processor of this number is shown this
+abbrev pub show : Discovered → TypeTable → RoundEnv → Progress → ℕ → Course (Progress × Bool)
+show d table env p number = after_act d table env p number (act d table env p number).exchanges (act d table env p number).last
 
--- the same with the names at these positions
-abbrev pub ask : Discovered → Round → Progress → ℕ × List ℕ → Course (Progress × Bool)
-ask d r p next = show d r p next.0 (offered_names r next.1)
+-- The step of one processor in a round: how far the run is once it was asked with the names at these positions, and whether it claims them.
+abbrev pub Asking : Type 0
+Asking = Discovered → Round → Progress → ℕ × List ℕ → Course (Progress × Bool)
+
+-- it is shown all roots, over the table of the round
+abbrev pub ask : Asking
+ask d r p next = show d r.table (env_of r (offered_names r next.1)) p next.0
 
 -- ---- one round
 
@@ -172,20 +189,20 @@ ask d r p next = show d r p next.0 (offered_names r next.1)
 abbrev pub next_asked : Discovered → Round → List Bool → List Bool → Option (ℕ × List ℕ)
 next_asked d r contributed answers = slice_get (asked d.supported contributed (present_in r) r.over answers) (length answers)
 
--- the next one is shown the round, and go says what follows; or nobody is left
-abbrev pub ask_next : Discovered → Round → Progress → Option (ℕ × List ℕ) → (Progress × Bool → Course Progress) → Course Progress
-ask_next d r p None go = Ok p
-ask_next d r p (Some next) go = ask d r p next >>= go
+-- the next one is asked, and go says what follows; or nobody is left
+abbrev pub ask_next : Asking → Discovered → Round → Progress → Option (ℕ × List ℕ) → (Progress × Bool → Course Progress) → Course Progress
+ask_next asking d r p None go = Ok p
+ask_next asking d r p (Some next) go = asking d r p next >>= go
 
 -- the rest of a round, where those that were asked answered so and this many may be left
-unfoldable pub asks_from : Discovered → Round → List Bool → ℕ → List Bool → Progress → Course Progress
-asks_from d r contributed zero answers p = Ok p
-asks_from d r contributed (suc left) answers p =
-    ask_next d r p (next_asked d r contributed answers) (λ acted. asks_from d r contributed left (answers ++ acted.1 ∷ []) acted.0)
+unfoldable pub asks_from : Asking → Discovered → Round → List Bool → ℕ → List Bool → Progress → Course Progress
+asks_from asking d r contributed zero answers p = Ok p
+asks_from asking d r contributed (suc left) answers p =
+    ask_next asking d r p (next_asked d r contributed answers) (λ acted. asks_from asking d r contributed left (answers ++ acted.1 ∷ []) acted.0)
 
 -- a round: no processor is asked twice in it
-abbrev pub round_of : Discovered → Round → Progress → Course Progress
-round_of d r p = asks_from d r p.contributed (length d.processors) [] p
+abbrev pub round_of : Asking → Discovered → Round → Progress → Course Progress
+round_of asking d r p = asks_from asking d r p.contributed (length d.processors) [] p
 
 -- ---- what a round left
 
@@ -233,9 +250,9 @@ finished rounds before after = record {
   unread = unread_among (new_since before.filings after.filings);
 }
 
-abbrev pub last_round : Discovered → ℕ → Bool → TypeTable → Progress → Run
-last_round d number error table before = do
-  after ← round_of d (last_of number error table) before
+abbrev pub last_round : Asking → Discovered → ℕ → Bool → TypeTable → Progress → Run
+last_round asking d number error table before = do
+  after ← round_of asking d (last_of number error table) before
   Ok (finished number before after)
 
 -- sources were entered, or the run is refused
@@ -245,18 +262,18 @@ entering sent (Err refusal) = Err (record { sent = sent; refusal = refusal })
 
 -- After a round in which an ERROR was printed, or no source was created, comes the last one. Else its sources are read and entered in order of path, and go says
 -- what follows.
-abbrev pub after_round : Discovered → Round → Progress → Progress → (Entered → Run) → Run
-after_round d r before after go =
+abbrev pub after_round : Asking → Discovered → Round → Progress → Progress → (Entered → Run) → Run
+after_round asking d r before after go =
     if has_error (printed_since before.messages after.messages) || not (creates_source (new_since before.filings after.filings))
-    then last_round d (suc r.number) (has_error (printed_since before.messages after.messages)) r.table after
+    then last_round asking d (suc r.number) (has_error (printed_since before.messages after.messages)) r.table after
     else (entering after.sent (enter_all r.table (fin.entries (sources_among (new_since before.filings after.filings)))) >>= go)
 
 -- the rounds from one on that is not the last, where this many rounds may come that are not the last; the units of what one created are the roots of the next
-unfoldable pub rounds_from : Discovered → ℕ → Round → Progress → Run
-rounds_from d zero r p = Err (record { sent = p.sent; refusal = TooManyRounds })
-rounds_from d (suc left) r p = do
-  after ← round_of d r p
-  after_round d r p after (λ entered. rounds_from d left (next_of (suc r.number) entered) after)
+unfoldable pub rounds_from : Asking → Discovered → ℕ → Round → Progress → Run
+rounds_from asking d zero r p = Err (record { sent = p.sent; refusal = TooManyRounds })
+rounds_from asking d (suc left) r p = do
+  after ← round_of asking d r p
+  after_round asking d r p after (λ entered. rounds_from asking d left (next_of (suc r.number) entered) after)
 
 -- a run has 64 rounds at most, the last included
 abbrev pub rounds_before_last : ℕ
@@ -264,7 +281,7 @@ rounds_before_last = 63
 
 -- what a filer has at first: the names of all units are taken
 abbrev pub new_filings : TypeTable → Filings
-new_filings table = record { initial = unit_names table; made = [] }
+new_filings table = record { taken = taken_at_first (unit_names table); made = [] }
 
 -- for each processor, that it was not asked
 abbrev pub none_asked : {A : Type 0} → List A → List Bool
@@ -286,7 +303,7 @@ discovered says plan supported = record { says = says; processors = plan.process
 abbrev pub run_of : Says → Plan → TypeTable → Run
 run_of says plan table = do
   supported ← hellos_from says plan [] plan.processors
-  rounds_from (discovered says plan supported) rounds_before_last (next_of 1 (all_of table)) (start plan table)
+  rounds_from ask (discovered says plan supported) rounds_before_last (next_of 1 (all_of table)) (start plan table)
 
 -- the frames that a run sent, for each child that was started
 abbrev pub frames_of : Run → List Frames

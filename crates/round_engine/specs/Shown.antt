@@ -9,13 +9,12 @@ use Rattle.processor_claims.specs.declared.turn.Turn.{Turn}
 use Rattle.processor_claims.specs.Asked as claims
 use Rattle.processor_claims.specs.Turns.{IsComing}
 use Rattle.child_session.specs.Talk.{HasAnswered}
-use Rattle.child_session.specs.Round.{keeps}
+use Rattle.child_session.specs.Requests.{keeps}
 use Rattle.child_session.specs.Beginning as session
 use Rattle.child_session.specs.Beginning.{IsBegun, HasBegun, IsUnheard, Untried, Unstarted}
 use Rattle.project_units.specs.declared.refusal.Refusal as declared
 use Rattle.round_engine.specs.declared.progress.Progress as code_progress
 use Rattle.round_engine.specs.declared.beginning.Discovered as code_discovered
-use Rattle.round_engine.specs.declared.asking.Asked.{Asked}
 use Rattle.round_engine.specs.declared.rounds.Round.{Round}
 use Rattle.round_engine.specs.declared.rounds.Rounds.{Rounds}
 use Rattle.project_units.specs.Refusals as stop
@@ -23,9 +22,10 @@ use Rattle.project_units.specs.Refusals.{Stop, is_refusal, is_failure, is_of_hel
 use Rattle.project_units.specs.Faults.{stop_of, is_due, exempt_in}
 use Rattle.round_engine.specs.Fronts.{FrontsBut}
 use Rattle.element_table.specs.TypeTable.{TypeTable}
+use Rattle.round_env.specs.declared.environment.RoundEnv.{RoundEnv}
 use Rattle.project_units.specs.Units.{all_of}
 use Rattle.project_units.specs.Plans.{Plan, init_frame}
-use Rattle.round_engine.specs.Run.{Frames, Course, first_sent, hello_of, hellos_from, Discovered, Progress, limit, show, round_of, Finished, last_round, rounds_from, rounds_before_last, next_of}
+use Rattle.round_engine.specs.Run.{Frames, Course, first_sent, hello_of, hellos_from, Discovered, Progress, most_questions, show, ask, round_of, Finished, last_round, rounds_from, rounds_before_last, next_of}
 
 -- ---- the children of a run at a moment
 
@@ -115,9 +115,9 @@ StopsAs course sent (stop.Refused refusal) = course ≡ Err (record { sent = sen
 StopsAs course sent (stop.Failed object) = Unit {0}
 StopsAs course sent stop.Memory = Unit {0}
 
--- whatever the children tell, a stop by a limit has that of some roots, and one by a claim that was broken broke it
+-- whatever the children tell, a stop by a limit has that of a round that is shown, and one by a claim that was broken broke it
 abbrev pub IsDueStop : Stop → Type 0
-IsDueStop (stop.Refused (stop.TooManyQuestions processor most)) = (roots : List (List ℕ)) × (most ≡ limit roots)
+IsDueStop (stop.Refused (stop.TooManyQuestions processor most)) = (env : RoundEnv) × (most ≡ most_questions env)
 IsDueStop (stop.Refused (stop.ClaimBroken processor declared said)) = keeps declared said ≡ false
 IsDueStop other = Unit {0}
 
@@ -157,25 +157,24 @@ abbrev pub Part : {A T : Type 0} → (A → List Frames) → code_discovered.Dis
 Part sent_in d course means result old new =
     (processors : List Try) → Stands d processors old → Goes sent_in d processors (course (shown_discovered old.says processors d)) means result new
 
--- a processor was asked, and says whether it claims
-abbrev pub AsksOne : Asked → code_progress.Progress → code_progress.Progress → State → State → Result Bool declared.Refusal → Type 0
-AsksOne asked p p' old new result =
-    Part sent_in_step asked.run.now (λ run. show run asked.round.now (standing asked.run.now.group p old) asked.number asked.offered.now)
-    (λ claimed. (standing asked.run.now.group p' new, claimed)) result old new
+-- the processor of this number was shown this, over this table, and says whether it claims
+abbrev pub AsksOne : code_discovered.Discovered → TypeTable → RoundEnv → ℕ → code_progress.Progress → code_progress.Progress → State → State → Result Bool declared.Refusal → Type 0
+AsksOne d table env number p p' old new result =
+    Part sent_in_step d (λ run. show run table env (standing d.group p old) number) (λ claimed. (standing d.group p' new, claimed)) result old new
 
 -- all that a round asks were asked
 abbrev pub Asks : code_discovered.Discovered → Round → code_progress.Progress → code_progress.Progress → State → State → Result Unit declared.Refusal → Type 0
-Asks d r p p' old new result = Part sent_in_progress d (λ run. round_of run r (standing d.group p old)) (λ done. standing d.group p' new) result old new
+Asks d r p p' old new result = Part sent_in_progress d (λ run. round_of ask run r (standing d.group p old)) (λ done. standing d.group p' new) result old new
 
 -- the last round came to its end
 abbrev pub EndsLast : code_discovered.Discovered → Round → code_progress.Progress → State → State → Result Rounds declared.Refusal → Type 0
 EndsLast d r p old new result =
-    Part sent_in_finished d (λ run. last_round run r.number r.error r.table (standing d.group p old)) (λ rounds. shown_rounds d.group rounds new) result old new
+    Part sent_in_finished d (λ run. last_round ask run r.number r.error r.table (standing d.group p old)) (λ rounds. shown_rounds d.group rounds new) result old new
 
 -- so did all rounds over this table
 abbrev pub EndsAll : code_discovered.Discovered → TypeTable → code_progress.Progress → State → State → Result Rounds declared.Refusal → Type 0
 EndsAll d table p old new result =
-    Part sent_in_finished d (λ run. rounds_from run rounds_before_last (next_of 1 (all_of table)) (standing d.group p old)) (λ rounds. shown_rounds d.group rounds new) result old new
+    Part sent_in_finished d (λ run. rounds_from ask run rounds_before_last (next_of 1 (all_of table)) (standing d.group p old)) (λ rounds. shown_rounds d.group rounds new) result old new
 
 -- ---- what is told anew
 

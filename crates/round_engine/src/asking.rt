@@ -3,7 +3,7 @@ ghost use Rattle.std.specs.Prelude.{◌≡◌, ◌<◌, ◌^◌, length, map, sl
 ghost use Rattle.std.specs.List.{AllByRecursion};
 ghost use Rattle.project_units.specs.Refusals.{NamesAmong};
 ghost use Rattle.project_units.specs.Faults.{stop_of, HasReason};
-ghost use Rattle.round_engine.specs.Run.{limit, round_frame, showing};
+ghost use Rattle.round_engine.specs.Run.{env_of, most_questions, showing};
 ghost use Rattle.processor_claims.specs.Turns.{IsWithin, waiting_count};
 ghost use Rattle.round_engine.specs.Shown.{AreListed, HasEach, AllLive, AttendsAll, IsDueStop, IsTurnOf};
 ghost use Rattle.round_engine.specs.Moments.{Over, AsksOne, Asks};
@@ -15,31 +15,18 @@ use crate::rounds::Round;
 use crate::session_fault::refusal_by;
 use apt_base::{Claim, List, Name, NoMemory, copy_names};
 use apt_outside::Children;
+use child_answers::Answering;
 use child_session::{Showing, show_round};
 use processor_claims::Turn;
-use project_units::{Refusal, bytes_of};
-use round_env::present;
+use project_units::Refusal;
+use round_env::{RoundEnv, present};
 use std::alloc::Global;
-use wire_frames::Frame;
 
-/// A processor that is asked in a round.
-#[derive(Clone, Copy)]
-pub(crate) struct Asked<'a> {
-    /// The processors.
-    run: &'a Discovered,
-    /// The round.
-    round: &'a Round,
-    /// Its number.
-    number: u16,
-    /// The names that it is offered.
-    offered: &'a List<Name>,
-}
-
-// How often a child may ask in a round with these roots. More than fits is answered as out of memory.
-fn limit_of(roots: &[Name]) -> Result<u32, NoMemory>
-    ensures { IfOk result (λ most. most ≡ limit roots.now) }
+// How often a child may ask in a round that is shown to it so. More than fits is answered as out of memory.
+fn most_questions(env: &RoundEnv) -> Result<u32, NoMemory>
+    ensures { IfOk result (λ most. most ≡ most_questions env.now) }
 {
-    let most = (roots.len() as u64).checked_mul(4096).ok_or(NoMemory)?;
+    let most = (env.roots.len() as u64).checked_mul(4096).ok_or(NoMemory)?;
     let most = most.checked_add(65_536).ok_or(NoMemory)?;
     u32::try_from(most).map_err(|_| NoMemory)
 }
@@ -56,36 +43,25 @@ fn offered_names(alloc: Global, present: &[Name], positions: &[u32]) -> Result<L
     Ok(names)
 }
 
-// The frame of a round in which these names are offered.
-fn round_bytes(alloc: Global, round: &Round, offered: &List<Name>) -> Result<List<u8>, NoMemory>
-    ensures { IfOk result (λ bytes. bytes ≡ round_frame round.now offered.now) }
+// What a processor is shown of a round in which it is offered these names.
+fn env_of(alloc: Global, round: &Round, offered: List<Name>) -> Result<RoundEnv, NoMemory>
+    ensures { IfOk result (λ env. env ≡ env_of round.now offered) }
 {
-    let frame = Frame::Round {
+    Ok(RoundEnv {
         number: round.number,
         over: round.over,
         error: round.error,
-        offered: copy_names(alloc, offered.as_slice())?,
+        offered,
         roots: copy_names(alloc, round.roots.as_slice())?,
-    };
-    let bytes = bytes_of(alloc, &frame);
-    drop(frame);
-    bytes
+    })
 }
 
-// What a child is shown of a round in which these names are offered to its processor.
-fn showing_of(
-    alloc: Global,
-    round: &Round,
-    offered: &List<Name>,
-    claim: Claim,
-) -> Result<Showing, NoMemory>
-    ensures { IfOk result (λ shown. shown ≡ showing round.now offered.now claim) }
+// The same for the child of a processor that declared this of its claims.
+fn showing_of(env: RoundEnv, claim: Claim) -> Result<Showing, NoMemory>
+    ensures { IfOk result (λ shown. shown ≡ showing env claim) }
 {
-    Ok(Showing {
-        limit: limit_of(round.roots.as_slice())?,
-        claim,
-        round: round_bytes(alloc, round, offered)?,
-    })
+    let limit = most_questions(&env)?;
+    Ok(Showing { limit, claim, env })
 }
 
 fn set_contributed(contributed: &mut Vec<bool>, number: usize)
@@ -95,43 +71,54 @@ fn set_contributed(contributed: &mut Vec<bool>, number: usize)
     contributed[number] = true;
 }
 
-/// Shows the round to a processor, and says whether it claims what it is offered. What it creates and prints is added to what
-/// there was before.
+/// Shows a round to the processor of this number, and says whether it claims what it is offered. What it asks is answered over the
+/// table of `answering`, and what it creates and prints is added to what there was before.
 fn ask<C: Children>(
     alloc: Global,
     children: &mut C,
-    asked: Asked<'_>,
+    run: &Discovered,
+    answering: &mut Answering<'_>,
+    number: u16,
+    env: RoundEnv,
     progress: &mut Progress,
 ) -> Result<bool, Refusal>
-    requires number { asked.number < length asked.run.now.supported }
-    requires listed { AreListed asked.run.now }
-    requires each { HasEach asked.run.now progress.old }
-    requires lives { AllLive asked.run.now.group (C.state children.old) }
+    requires number { number < length run.now.supported }
+    requires listed { AreListed run.now }
+    requires each { HasEach run.now progress.old }
+    requires lives { AllLive run.now.group (C.state children.old) }
     ensures reason { HasReason (C.faults children.old) (C.faults children.new) result }
-    ensures named { IfErr result (λ refusal. NamesAmong asked.entry.run.now.names (stop_of refusal)) }
+    ensures named { IfErr result (λ refusal. NamesAmong run.now.names (stop_of refusal)) }
     ensures due { IfErr result (λ refusal. IsDueStop (stop_of refusal)) }
     ensures starts { (C.state children.new).starts ≡ (C.state children.old).starts }
     ensures live { (C.state children.new).live ≡ (C.state children.old).live }
-    ensures still { HasEach asked.entry.run.now progress.new }
-    ensures attends { Over C.Children children.old children.new (AttendsAll asked.entry.run.now.group) }
-    ensures asks { AsksOne C.Children asked.entry progress.old progress.new children.old children.new result }
+    ensures kept { answering.new ≡ answering.old }
+    ensures still { HasEach run.now progress.new }
+    ensures attends { Over C.Children children.old children.new (AttendsAll run.now.group) }
+    ensures asks { AsksOne C.Children run.now answering.old env number progress.old progress.new children.old children.new result }
 {
-    let number = usize::from(asked.number);
-    let child = asked.run.group.as_slice()[number];
-    let name = asked.run.names.as_slice()[number].copy()?;
-    let claim = asked.run.supported.as_slice()[number].claim;
-    let showing = showing_of(alloc, asked.round, asked.offered, claim)?;
-    let answer = match show_round(alloc, children, child, &showing, &mut progress.filer) {
+    let at = usize::from(number);
+    let child = run.group.as_slice()[at];
+    let name = run.names.as_slice()[at].copy()?;
+    let claim = run.supported.as_slice()[at].claim;
+    let round = env.number;
+    let showing = showing_of(env, claim)?;
+    let answer = match show_round(
+        alloc,
+        children,
+        child,
+        answering,
+        &showing,
+        &mut progress.filer,
+    ) {
         Ok(answer) => answer,
-        Err(fault) => return Err(refusal_by(name, fault)),
+        Err(fault) => {
+            drop(showing);
+            return Err(refusal_by(name, fault));
+        }
     };
-    set_contributed(&mut progress.contributed, number);
-    place(
-        &mut progress.messages,
-        asked.round.number,
-        asked.number,
-        answer.messages,
-    )?;
+    drop(showing);
+    set_contributed(&mut progress.contributed, at);
+    place(&mut progress.messages, round, number, answer.messages)?;
     Ok(answer.claimed)
 }
 
@@ -162,7 +149,8 @@ fn turn_of(
 }
 
 /// Asks all processors that the round asks, one after another: whether one claims what it is offered decides what is offered to
-/// those behind it (JSR 269, the discovery process).
+/// those behind it (JSR 269, the discovery process). The table is lent to the questions of all of them, and what was found out for
+/// one is remembered for the others.
 pub(crate) fn ask_all<C: Children>(
     alloc: Global,
     children: &mut C,
@@ -183,17 +171,13 @@ pub(crate) fn ask_all<C: Children>(
     ensures asks { Asks C.Children run.now round.now so_far.old so_far.new children.old children.new result }
 {
     let present = present(alloc, &round.table, &round.roots)?;
+    let mut answering = Answering::new(alloc, &round.table)?;
     let mut turn = turn_of(alloc, run, round, so_far, &present)?;
     let mut claimed = false;
     while let Some(number) = turn.next(claimed) {
         let offered = offered_names(alloc, present.as_slice(), turn.offered().as_slice())?;
-        let asked = Asked {
-            run,
-            round,
-            number,
-            offered: &offered,
-        };
-        claimed = ask(alloc, children, asked, so_far)?;
+        let env = env_of(alloc, round, offered)?;
+        claimed = ask(alloc, children, run, &mut answering, number, env, so_far)?;
     }
     Ok(())
 }

@@ -55,7 +55,7 @@ pub struct Rounds {
 fn made_since(filer: &Filer, count: usize) -> &[Creation]
     ensures { result.now ≡ drop count filer.now.made }
 {
-    let made = filer.made().as_slice();
+    let made = filer.made();
     if count > made.len() {
         return &[];
     }

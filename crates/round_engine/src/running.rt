@@ -65,7 +65,7 @@ fn first_progress(alloc: Global, project: &Project) -> Result<Progress, NoMemory
     let names = unit_names(alloc, &project.initial)?;
     Ok(Progress {
         contributed: vec![in alloc; false; project.key.processors.len()]?,
-        filer: Filer::new(alloc, names)?,
+        filer: Filer::new(alloc, names.as_slice())?,
         messages: List::new(alloc),
     })
 }

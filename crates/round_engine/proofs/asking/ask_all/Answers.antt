@@ -1,7 +1,7 @@
 use Rattle.std.proofs.Common.{◌≡◌, ◌<◌, ℕ, List, [], Contains, length, map, get_or, refl, sym, ap, ◌∙◌, subst, arith}
 use Rattle.std.specs.List.{AllByRecursion}
 use Rattle.std.proofs.lemmas.Result.{err_from_is_err_and}
-use Rattle.round_engine.specs.Run.{present_in, offered_names}
+use Rattle.round_engine.specs.Run.{present_in, offered_names, env_of}
 use Rattle.processor_claims.specs.Turns.{offered, IsWithin}
 use Rattle.round_engine.proofs.AskedInTurn.{within_number, within_names, within_later}
 use Rattle.round_engine.proofs.AskedProcessors.{attends_none, attends_more, round_unbegun}
@@ -11,6 +11,11 @@ use Rattle.round_engine.proofs.asking.ask_all.Goals as goal
 pub returns-in_err-present-clause-asks : goal.returns-in_err-present-clause-asks
 returns-in_err-present-clause-asks g c = λ told processors stands.
     let e = err_from_is_err_and c.from_residual.result c.from_residual.ensures.1 in
+    rw (e.1, e.2) (round_unbegun c.args.run.now processors (g.C.Children.state c.args.children.now) stands c.args.so_far.now _ refl c.args.round.now _)
+
+pub returns-in_err-answering-clause-asks : goal.returns-in_err-answering-clause-asks
+returns-in_err-answering-clause-asks g c = λ told processors stands.
+    let e = err_from_is_err_and c.from_residual-in_err-answering.result c.from_residual-in_err-answering.ensures.1 in
     rw (e.1, e.2) (round_unbegun c.args.run.now processors (g.C.Children.state c.args.children.now) stands c.args.so_far.now _ refl c.args.round.now _)
 
 pub returns-in_err-turn-clause-asks : goal.returns-in_err-turn-clause-asks
@@ -28,6 +33,7 @@ loop-number-init g c =
       later = omega arith;
       starts = refl;
       live = refl;
+      table = c.in_ok-answering.ensures;
       still = c.requires.each;
       within = subst (λ (xs : List (List ℕ)). IsWithin (length d.supported) (length xs) c.in_ok-turn.turn) present_is c.in_ok-turn.ensures.within;
       attends = λ told. attends_none d.group k0;
@@ -41,6 +47,13 @@ pub returns-in_err-offered-clause-asks : goal.returns-in_err-offered-clause-asks
 returns-in_err-offered-clause-asks g c = λ told processors stands.
     let is = (c.loop-number.invariant.asks told).on processors stands in
     let e = err_from_is_err_and c.from_residual-in_err-offered.result c.from_residual-in_err-offered.ensures.1 in
+    rw (e.1, e.2) (asking_memory c.args.run.now c.args.round.now c.args.so_far.now (g.C.Children.state c.args.children.now) processors c.loop-number.so_far (g.C.Children.state c.loop-number.children) c.loop-number.turn
+    c.loop-number.claimed is _ _ refl)
+
+pub returns-in_err-env-clause-asks : goal.returns-in_err-env-clause-asks
+returns-in_err-env-clause-asks g c = λ told processors stands.
+    let is = (c.loop-number.invariant.asks told).on processors stands in
+    let e = err_from_is_err_and c.from_residual-in_err-env.result c.from_residual-in_err-env.ensures.1 in
     rw (e.1, e.2) (asking_memory c.args.run.now c.args.round.now c.args.so_far.now (g.C.Children.state c.args.children.now) processors c.loop-number.so_far (g.C.Children.state c.loop-number.children) c.loop-number.turn
     c.loop-number.claimed is _ _ refl)
 
@@ -74,9 +87,10 @@ returns-in_err-claimed-clause-asks g c = λ told processors stands.
     c.in_ok-offered.ensures
     ∙ ap (λ xs. map (λ at. get_or xs at []) c.as_slice-in-Some.result.now) (c.as_slice.ensures ∙ c.in_ok-present.ensures.names)
     ∙ ap (map (λ at. get_or (present_in r) at [])) (c.as_slice-in-Some.ensures ∙ c.offered.ensures) in
+    let env_is : c.in_ok-env.env ≡ env_of r (offered_names r (offered new)) = c.in_ok-env.ensures ∙ ap (env_of r) names_are in
     let e = err_from_is_err_and c.from_residual-in_err-claimed.result c.from_residual-in_err-claimed.ensures.1 in
     rw (e.1, e.2) (asking_stops c.args.run.now r c.args.so_far.now (C.state c.args.children.now) processors c.loop-number.so_far (C.state c.loop-number.children) c.loop-number.turn c.loop-number.claimed is
-    c.in-Some.number new c.in-Some.ensures.asks c.in-Some.ensures.fewer c.in_ok-offered.offered names_are _ _ c.in_err-claimed.field-0.0 (C.state c.ask.new.children) (c.in_err-claimed.ensures.asks told processors is.stands))
+    c.in-Some.number new c.in-Some.ensures.asks c.in-Some.ensures.fewer c.loop-number.answering c.in_ok-env.env c.loop-number.invariant.table env_is _ _ c.in_err-claimed.field-0.0 (C.state c.ask.new.children) (c.in_err-claimed.ensures.asks told processors is.stands))
 
 pub loop-number-preserved : goal.loop-number-preserved
 loop-number-preserved g c =
@@ -92,17 +106,19 @@ loop-number-preserved g c =
     c.in_ok-offered.ensures
     ∙ ap (λ xs. map (λ at. get_or xs at []) c.as_slice-in-Some.result.now) (c.as_slice.ensures ∙ c.in_ok-present.ensures.names)
     ∙ ap (map (λ at. get_or (present_in r) at [])) (c.as_slice-in-Some.ensures ∙ c.offered.ensures) in
+    let env_is : c.in_ok-env.env ≡ env_of r (offered_names r (offered new)) = c.in_ok-env.ensures ∙ ap (env_of r) names_are in
     record {
       later = omega (arith, c.loop-number.invariant.later, c.ask.ensures.reason.later);
       starts = c.ask.ensures.starts ∙ c.loop-number.invariant.starts;
       live = c.ask.ensures.live ∙ c.loop-number.invariant.live;
+      table = c.ask.ensures.kept ∙ c.loop-number.invariant.table;
       still = c.ask.ensures.still;
       within = within_later (length d.supported) (length (present_in r)) turn c.loop-number.claimed c.in-Some.number new c.loop-number.invariant.within c.in-Some.ensures.asks;
       attends = λ told. attends_more d.group k0 k k1 (c.loop-number.invariant.attends told) (c.ask.ensures.attends told);
       asks = λ told. record {
         on = λ processors stands.
             let is = (c.loop-number.invariant.asks told).on processors stands in
-            asking_goes d r c.args.so_far.now k0 processors c.loop-number.so_far k turn c.loop-number.claimed is c.in-Some.number new c.in-Some.ensures.asks c.in-Some.ensures.fewer c.in_ok-offered.offered names_are
+            asking_goes d r c.args.so_far.now k0 processors c.loop-number.so_far k turn c.loop-number.claimed is c.in-Some.number new c.in-Some.ensures.asks c.in-Some.ensures.fewer c.loop-number.answering c.in_ok-env.env c.loop-number.invariant.table env_is
             c.ask.new.progress k1 c.in_ok-claimed.claimed (c.in_ok-claimed.ensures.asks told processors is.stands) (c.ask.ensures.attends told).same_says;
       };
     }
