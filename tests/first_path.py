@@ -768,9 +768,6 @@ LINES = [
      ["1:1: not the name of a processor, a comma, and isolating, aggregating or dynamic", "  builder,isolated", "  ^"]),
 ]
 
-# The origins of a creation that has one, which no host of today answers.
-ONE_ORIGIN = frames.number_field(1) + frames.text_field("p.C") + frames.number_field(0)
-
 # What a child says to Init and then to the first round, and what is said of it.
 TALKS = [
     (["00000000"], BAD_FRAME, "BadFrame(maker, 3, Length)", "frame at offset 0: bad length, at byte 3 of it"),
@@ -783,10 +780,6 @@ TALKS = [
      "frame at offset 0, tag 65: it may not stand there"),
     ([HELLO.hex(), "00000003 41 01 00"], BAD_FRAME, "BadFrame(maker, 6, Rest)",
      "frame at offset 21, tag 65: more than its fields, at byte 6 of it"),
-    ([HELLO.hex(), "00000001 73"], WRONG_FRAME, "WrongFrame(maker, 115)",
-     "frame at offset 21, tag 115: this host does not answer this yet"),
-    ([HELLO.hex(), frames.create_source("p.D", b"", ONE_ORIGIN).hex()], WRONG_FRAME, "WrongFrame(maker, 66)",
-     "frame at offset 21, tag 66: this host does not answer this yet"),
     ([HELLO.hex(), HELLO.hex()], WRONG_FRAME, "WrongFrame(maker, 64)",
      "frame at offset 21, tag 64: it may not stand there"),
     ([HELLO.hex(), "00000001 18"], WRONG_FRAME, "WrongFrame(maker, 24)",
@@ -849,11 +842,11 @@ def children_that_leave_the_protocol(project):
 
 
 @case
-def a_long_frame_that_has_no_answer(project):
-    project.write("frame", frames.create_resource("x", b"-" * 70_000, origins=ONE_ORIGIN))
+def a_long_frame_that_may_not_come(project):
+    project.write("frame", frames.init("x" * 70_000))
     steps = ["read", say(HELLO), "read", "make:" + project.path("frame"), "rest"]
-    run = refused(project, project.scripted(steps), WRONG_FRAME, "WrongFrame(maker, 67)")
-    says(run, "processor maker: frame at offset 21, tag 67: what is wrong is not known of its first 65536 bytes")
+    run = refused(project, project.scripted(steps), WRONG_FRAME, "WrongFrame(maker, 1)")
+    says(run, "processor maker: frame at offset 21, tag 1: what is wrong is not known of its first 65536 bytes")
 
 
 def says_of_created(project, line, place, lines):

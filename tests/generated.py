@@ -658,6 +658,29 @@ def a_thousand_and_one_creations(project):
               sent=[FIRST_ROUND, *[ACCEPTED] * 1001, LAST_ROUND])
 
 
+# Questions, and elements of creations and messages.
+
+ROOTS, ROOT = by_hand("00000001 73"), by_hand("00000010 10 00000001 00000003 702e43 00000000")
+NAMED, NONE_OF_THE_NAME = by_hand("00000008 50 00000003 782e59"), by_hand("00000005 10 00000000")
+NO_SUCH = by_hand("00000002 19 00")
+
+AN_ELEMENT = by_hand("01 00000003 702e43 00000000")
+ABSENT_ORIGIN = by_hand("00000001 00000003 782e59 00000000")
+
+
+@case
+def questions(project):
+    answers(project, [ROOTS, NAMED, CREATE, ROOTS], [ROOT, NONE_OF_THE_NAME, ACCEPTED, ROOT])
+
+
+@case
+def elements_of_creations_and_messages(project):
+    frames = [create_resource("x", origins=ABSENT_ORIGIN), create_resource("x", origins=ONE_ORIGIN),
+              create_class("p.D", origins=ONE_ORIGIN), message(NOTE, "n", element=AN_ELEMENT)]
+    run = answers(project, frames, [NO_SUCH, ACCEPTED, UNSUPPORTED, NOTED])
+    expect("the output", run.output, report("note: [maker] n", "file CLASS_OUTPUT/x 2", done(2, 1)))
+
+
 # Frames that are none of these, or not in this order.
 
 NO_TEXT = spelling.bytes_field(b"\xff")
@@ -675,14 +698,6 @@ NOT_IN_A_ROUND = {
     "a round": (FIRST_ROUND, WRONG_FRAME, "WrongFrame(maker, 2)"),
     "a reply": (ACCEPTED, WRONG_FRAME, "WrongFrame(maker, 23)"),
     "Noted": (NOTED, WRONG_FRAME, "WrongFrame(maker, 24)"),
-    "a source with an origin": (create_source("p.D", origins=ONE_ORIGIN),
-        WRONG_FRAME, "WrongFrame(maker, 66)"),
-    "a resource with an origin": (create_resource("x", origins=ONE_ORIGIN),
-        WRONG_FRAME, "WrongFrame(maker, 67)"),
-    "a class file with an origin": (create_class("p.D", origins=ONE_ORIGIN),
-        WRONG_FRAME, "WrongFrame(maker, 68)"),
-    "a message with an element": (message(NOTE, "n", element=by_hand("01 00000003 702e43 00000000")),
-        WRONG_FRAME, "WrongFrame(maker, 69)"),
     "a message of kind 5": (message(5, "n"), BAD_FRAME, "BadFrame(maker, 5, Field)"),
     "a message whose element is 2": (message(NOTE, "n", element=bytes([2])),
         BAD_FRAME, "BadFrame(maker, 6, Field)"),
@@ -699,8 +714,8 @@ NOT_IN_A_ROUND = {
     "a resource at location 3": (create_resource("x", location=3), BAD_FRAME, "BadFrame(maker, 5, Field)"),
     "a class file with one byte more": (spelling.frame(spelling.CREATE_CLASS, NAME + NOTHING + NO_ORIGINS + b"\0"),
         BAD_FRAME, "BadFrame(maker, 20, Rest)"),
-    "a question": (by_hand("00000008 50 00000003 782e59"), WRONG_FRAME, "WrongFrame(maker, 80)"),
-    "a question for the roots": (by_hand("00000001 73"), WRONG_FRAME, "WrongFrame(maker, 115)"),
+    "a question that is no text": (by_hand("00000006 50 00000001 ff"), BAD_FRAME, "BadFrame(maker, 9, Field)"),
+    "a question with one byte more": (by_hand("00000002 73 00"), BAD_FRAME, "BadFrame(maker, 5, Rest)"),
     "a tag of no frame": (by_hand("00000001 77"), BAD_FRAME, "BadFrame(maker, 4, Tag)"),
     "an empty frame": (by_hand("00000000"), BAD_FRAME, "BadFrame(maker, 3, Length)"),
     "a frame past the limit": (by_hand("07fffffd 45"), BAD_FRAME, "BadFrame(maker, 3, Length)"),
@@ -715,7 +730,7 @@ def what_is_no_talk_in_a_round(project):
 
 @case
 def what_is_no_talk_in_a_further_round(project):
-    for what in ["a Done that says 2", "a source with an origin", "a question", "a second Hello"]:
+    for what in ["a Done that says 2", "a source without origins", "a question that is no text", "a second Hello"]:
         frame, status, refusal = NOT_IN_A_ROUND[what]
         steps = [say(frame), "rest"]
         in_round(what + ", in round 2", project, [[create_source("p.D")], [steps]], status, refusal)
@@ -770,6 +785,12 @@ def as_many_frames_as_may_come(project):
 
 
 @case
+def one_question_more(project):
+    refuses(project, [[asked(69_632, ROOTS), [say(ROOTS), "rest"]]], TOO_MANY_QUESTIONS, "TooManyQuestions(maker, 69632)")
+    expect("what the child was sent", project.sent(), INIT + FIRST_ROUND + ROOT * 69_632)
+
+
+@case
 def one_frame_more(project):
     refuses(project, [[CREATE, asked(69_632, create_class("x"))]], TOO_MANY_QUESTIONS, "TooManyQuestions(maker, 69632)")
     expect("what the child was sent", project.sent(), INIT + FIRST_ROUND + ACCEPTED + UNSUPPORTED * 69_631)
@@ -777,7 +798,7 @@ def one_frame_more(project):
 
 @case
 def what_is_no_talk_behind_as_many_frames_as_may_come(project):
-    frame, status, refusal = NOT_IN_A_ROUND["a question"]
+    frame, status, refusal = NOT_IN_A_ROUND["a second Hello"]
     refuses(project, [[asked(69_632, create_class("x")), [say(frame), "rest"]]], status, refusal)
 
 

@@ -41,8 +41,6 @@ enum Departure {
     Ended { received: usize },
     /// It is a frame, and may not stand there.
     Misplaced,
-    /// It is a frame of a round, and this host has no answer to it.
-    Unanswered,
     /// It is not known of these bytes, which alone were kept.
     Cut { kept: usize },
 }
@@ -164,21 +162,13 @@ impl Talk {
         }
         let answer = Reader::new(alloc).feed_slice(self.frame.as_slice()).answer;
         match answer.map(is_there) {
-            Ok(true) if self.is_misplaced() => Some(Departure::Misplaced),
-            Ok(true) => Some(Departure::Unanswered),
+            Ok(true) => Some(Departure::Misplaced),
             Ok(false) => Some(Departure::Cut {
                 kept: self.frame.len(),
             }),
             Err(ReadFault::Bad { place, kind }) => Some(Departure::Bad { place, kind }),
             Err(ReadFault::Memory) => None,
         }
-    }
-
-    /// Whether no host that keeps to the protocol takes such a frame there: Hello is the first one, and the tags of those
-    /// in rounds are behind its own.
-    fn is_misplaced(&self) -> bool {
-        let is_of_rounds = tag_of(self.frame.as_slice()).is_some_and(|tag| tag > tags::HELLO);
-        self.offset == 0 || !is_of_rounds
     }
 }
 
@@ -232,7 +222,6 @@ impl Display for Departure {
                 write!(f, "end of stream after {received} bytes of it")
             }
             Departure::Misplaced => f.write_str("it may not stand there"),
-            Departure::Unanswered => f.write_str("this host does not answer this yet"),
             Departure::Cut { kept } => {
                 write!(f, "what is wrong is not known of its first {kept} bytes")
             }
