@@ -20,9 +20,9 @@ also one of a near memory to a far one, and the copy's says how much of it.
 
 With --peaks it measures instead what a frame costs: for each case a child that sends one frame of some BYTES, of a form
 that takes much memory for each of its bytes, and APT, which is crates/apt_cli/out/apt_cli where it is left out. A line
-says the bytes, the peak memory of the host, how many times the frame that is (the goal is at most 16, or 1 MiB more than
-the least build takes) and what the host said last. A build may take no more than --limit of memory, 6,000 MB where
-nothing is said.
+says the bytes, the peak memory of the host, how many times the frame that is above the peak with a frame of two bytes
+(the goal is at most 16, or 1 MiB more) and what the host said last. A build may take no more than --limit of memory, 6,000
+MB where nothing is said.
 
 Nothing but the ratios means anything on another machine, and no test depends on them.
 """
@@ -224,14 +224,21 @@ class Build:
         shutil.rmtree(self.folder)
 
 
+def peak_of(frame, apt, limit):
+    """What a build with this frame said last, the seconds that it took, its peak, and the bytes of the frame."""
+    build = Build(frame)
+    try:
+        return *build.peak(apt, limit), build.length
+    finally:
+        build.remove()
+
+
 def print_peaks(apt, room, limit, cases):
+    _, _, least, _ = peak_of(spelling.done(False), apt, limit)
+    print(f"a frame of two bytes: peak {least / MEGABYTE:.1f} MB", flush=True)
     for name in cases or PEAKS:
-        build = Build(PEAKS[name](room))
-        try:
-            said, taken, most = build.peak(apt, limit)
-        finally:
-            build.remove()
-        print(f"{name}: {build.length} bytes, peak {most / MEGABYTE:.1f} MB, {most / build.length:.1f} times the frame (goal: at most {GOAL}), "
+        said, taken, most, length = peak_of(PEAKS[name](room), apt, limit)
+        print(f"{name}: {length} bytes, peak {most / MEGABYTE:.1f} MB, {(most - least) / length:.1f} times the frame above that (goal: at most {GOAL}), "
               f"{taken:.1f} s, {said}", flush=True)
 
 

@@ -96,7 +96,7 @@ fn decoded(alloc: Global, bytes: &[u8]) -> Result<Option<Frame>, NoMemory>
 
 /// The frame whose tag and fields are these bytes, all of them, by the table of all frames.
 ///
-/// None comes exactly where the table has no such frame. The only error is `NoMemory`.
+/// None comes exactly where the table has no such frame. The only error is `NoMemory`, which also comes where the mirrors, values and annotations of the frame would take more than 12 bytes for each of its bytes, and more than 1,048,576.
 pub fn decode(alloc: Global, bytes: &[u8]) -> Result<Option<Frame>, NoMemory>
     ensures exact { IfOk result (λ found. found ≡ decoded bytes.now) }
     // What is given is the frame of the table that is spelled so.

@@ -4,6 +4,8 @@
 //!
 //! `specs/PartReadings`, `specs/QuestionReadings` and `specs/HostReadings` have what stands next at the front of bytes, and `specs/Decodings` what is decoded.
 //!
+//! What the values of a frame may take of memory is bounded by its bytes (`quota`); no clause says how much that is.
+//!
 //! Not promised: that a name that a frame holds is one of the language, or that an element is there.
 #![tactic(auto)]
 
