@@ -134,7 +134,7 @@ def variables_of_method(room):
 
 def variables_and_arguments(room):
     """A method whose parameters take what a quota allows, as nearly as they can, and whose type variables take the rest."""
-    return spelling.frame(ERASURE, executable(many(element(), room * 9 // 10), many(NOTHING, room // 20), NO_LIST))
+    return spelling.frame(ERASURE, executable(many(element(), room * 9 // 10), many(NOTHING, room // 45), NO_LIST))
 
 
 def distinct_texts(room, between=0):
