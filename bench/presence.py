@@ -27,7 +27,7 @@ import time
 import jdk
 
 HERE = jdk.HERE
-sys.path.insert(0, os.path.join(HERE, "..", "examples"))
+sys.path.insert(0, os.path.join(HERE, "..", "tests"))
 import frames  # noqa: E402
 
 PROGRAM = os.path.join(HERE, "..", "crates", "apt_cli", "out", "apt_cli")

@@ -21,7 +21,7 @@ import tempfile
 import time
 
 HERE = os.path.dirname(os.path.abspath(__file__))
-sys.path.insert(0, os.path.join(HERE, "..", "examples"))
+sys.path.insert(0, os.path.join(HERE, "..", "tests"))
 import frames
 
 PROGRAM = os.path.join(HERE, "..", "crates", "apt_cli", "out", "apt_cli")

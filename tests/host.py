@@ -7,10 +7,9 @@ import subprocess
 import sys
 import tempfile
 
-HERE = os.path.dirname(os.path.abspath(__file__))
-sys.path.insert(0, os.path.join(HERE, "..", "examples"))
 import frames
 
+HERE = os.path.dirname(os.path.abspath(__file__))
 PROGRAM = os.path.join(HERE, "..", "crates", "apt_cli", "out", "apt_cli")
 CHILD = os.path.join(HERE, "scripted_child.py")
 SECONDS = 60

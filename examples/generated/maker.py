@@ -4,70 +4,38 @@
 It supports the annotation q.A, which stubs/q/A.java declares. For each class C of the project it creates the source
 CInfo, which is annotated too, so that the host shows it in a further round; for a class whose name ends in Info it
 creates none. In the last round it writes the resource 'classes': the names of all classes that it was shown. It prints
-a note for each source that it creates, and a warning where there is a class that it makes none for.
-
-It talks with the host over its standard input and output, one frame at a time: the host sends Init, which it answers by
-Hello; for each Round it sends creations and messages, waits for the reply to each, and ends by Done. frames.py, which
-spells and reads the frames, stands in examples and is copied beside it.
+a note for each source that it creates, and a warning where there is a class that it makes none for. The kit for
+processors, kits/python/dinxobhe.py, is copied beside it.
 """
-import frames
-
-ANSWERS = ("accepted", "there already", "unsupported", "named badly", "too large")
+import dinxobhe
 
 
-def create(name, frame):
-    reply = frames.ask(frame)
-    if reply is None or reply[0] != frames.CREATED:
-        raise ValueError(f"no answer to the creation of {name}")
-    answer = reply[1].byte()
-    if answer != frames.ACCEPTED:
-        say(frames.WARNING, f"{name} is {ANSWERS[answer]}")
+class Maker(dinxobhe.Processor):
+    supports = ["q.A"]
 
-
-def say(kind, text):
-    reply = frames.ask(frames.message(kind, text))
-    if reply is None or reply[0] != frames.NOTED:
-        raise ValueError("no answer to a message")
-
-
-class Maker:
     def __init__(self):
         self.shown = []
 
-    def make_info(self, root):
-        package, _, simple = root.rpartition(".")
-        content = f"package {package}; @q.A class {simple}Info {{}}\n"
-        create(root + "Info", frames.create_source(root + "Info", content.encode()))
-        say(frames.NOTE, f"{root} has {root}Info")
-
-    def work_in_round(self, fields):
-        _number, over, _error = fields.number(), fields.byte(), fields.byte()
-        offered, roots = fields.texts(), fields.texts()
-        self.shown += roots
-        if "q.A" in offered:
-            for root in roots:
-                if root.endswith("Info"):
-                    say(frames.WARNING, f"nothing is made for {root}")
+    def process(self, annotations, round):
+        self.shown += [root.qualified_name for root in round.roots]
+        if "q.A" in annotations:
+            for root in round.roots:
+                if root.simple_name.endswith("Info"):
+                    self.messager.warning(f"nothing is made for {root}")
                 else:
                     self.make_info(root)
-        if over:
-            names = "".join(name + "\n" for name in self.shown)
-            create("classes", frames.create_resource("classes", names.encode()))
+        if round.processing_over:
+            self.filer.create_resource("classes", "".join(f"{name}\n" for name in self.shown))
 
-
-def main():
-    maker = Maker()
-    said = frames.ask()
-    while said is not None:
-        tag, fields = said
-        if tag == frames.INIT:
-            said = frames.ask(frames.hello("q.A"))
-        elif tag == frames.ROUND:
-            maker.work_in_round(fields)
-            said = frames.ask(frames.done())
+    def make_info(self, root):
+        package, _, simple = root.qualified_name.rpartition(".")
+        try:
+            self.filer.create_source(f"{root}Info", f"package {package}; @q.A class {simple}Info {{}}\n")
+        except dinxobhe.FilerException as failure:
+            self.messager.warning(f"{root}Info is not made: {failure.answer.name}")
         else:
-            raise ValueError(f"frame {tag} is not expected here")
+            self.messager.note(f"{root} has {root}Info")
 
 
 if __name__ == "__main__":
-    main()
+    dinxobhe.run(Maker)

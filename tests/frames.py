@@ -1,9 +1,8 @@
-"""The frames between the host and a processor: how each is spelled, and how one is read.
+"""Frames for the scripts of tests and bench, spelled without the kit for processors, and also such as may not be sent.
 
 docs/PROTOCOL.md says who sends which and when. A frame is a length in four bytes and then a tag and its fields, which
-fill that length. Numbers have their big end first. A processor in Python takes a copy of this file beside its own.
+fill that length. Numbers have their big end first. Processors use kits/python, which tests/kit.py tests.
 """
-import sys
 
 # The tags of what the host sends, and of what a processor sends.
 INIT, ROUND, CREATED, NOTED = 1, 2, 23, 24
@@ -97,11 +96,11 @@ def message(kind, text, element=NO_ELEMENT):
     return frame(MESSAGE, bytes([kind]) + element + text_field(text))
 
 
-# How a frame is read.
+# How fields are read.
 
 
 class Fields:
-    """The fields of a frame, read from the front."""
+    """Fields, read from the front."""
 
     def __init__(self, data):
         self.data = data
@@ -125,22 +124,3 @@ class Fields:
 
     def texts(self):
         return [self.text() for _ in range(self.number())]
-
-
-def read_frame(stream):
-    """The tag of the next frame of a stream, and its fields; None at the end of the stream."""
-    length = stream.read(4)
-    if not length:
-        return None
-    fields = Fields(stream.read(int.from_bytes(length, "big")))
-    return fields.byte(), fields
-
-
-# How a processor talks.
-
-
-def ask(sent=b""):
-    """Sends a frame to the host, and reads what it says next; without a frame it only reads, as a processor begins."""
-    sys.stdout.buffer.write(sent)
-    sys.stdout.buffer.flush()
-    return read_frame(sys.stdin.buffer)
