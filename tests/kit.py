@@ -22,10 +22,10 @@ sys.path.insert(0, KIT)
 sys.dont_write_bytecode = True
 
 from dinxobhe import (  # noqa: E402
-    FRAMES, Answer, ArrayType, Ask, BadFrame, Child, Claim, DeclaredType, Element, ElementKind, Elements, ErrorType,
-    ExecutableType, Filer, FilerException, Host, HostFault, Location, MessageKind, Messager, Modifier, NoType, NullType,
-    PackageType, PrimitiveType, Reason, Refused, RoundEnvironment, Session, TypeKind, TypeMirror, Types, TypeVariable,
-    ValueKind, VoidType, WildcardType, is_pattern, read, spell)
+    FRAMES, AnnotationValue, Answer, ArrayType, Ask, BadFrame, Child, Claim, DeclaredType, Element, ElementKind,
+    Elements, ErrorType, ExecutableType, Filer, FilerException, Host, HostFault, Location, MessageKind, Messager,
+    Modifier, NoType, NullType, PackageType, PrimitiveType, Reason, Refused, RoundEnvironment, Session, TypeKind,
+    TypeMirror, TypeVariable, Types, ValueKind, VoidType, WildcardType, is_pattern, read, spell)
 
 SECONDS = 60
 
@@ -147,6 +147,12 @@ class FramesAreReadAndSpelled(unittest.TestCase):
                 self.assertEqual(type(frame).__name__, name)
                 seen.add(frame.tag)
         self.assertEqual(seen, set(FRAMES))
+
+    def test_more_values_than_may_be_nested(self):
+        truth = AnnotationValue(ValueKind.BOOLEAN, True)
+        for frame in [Host.Values((("n", AnnotationValue(ValueKind.ARRAY, (truth,) * 300)),) * 2),
+                      Host.Mirrors((ArrayType(PrimitiveType(TypeKind.INT)),) * 300)]:
+            self.assertEqual(read(spell(frame)), frame)
 
     def test_a_repeated_frame_is_the_same(self):
         for _, data in frames_of_protocol():
@@ -801,19 +807,6 @@ class ProcessorsOfTheRepository(Conversation):
             *says(MessageKind.WARNING, "p.DInfo is not made: EXISTS"), ("child", DONE),
             round_of(2, ["q.A"], ["p.CInfo"]), *says(MessageKind.WARNING, "nothing is made for p.CInfo"),
             ("child", DONE), round_of(3, [], []), *create(classes), ("child", DONE)])
-
-    def test_published_files_are_copied(self):
-        record = by_hand("41505452 0000 00000002 00000001 61 00000003 00000002 00000003 622f63 00000000 00000001")
-        with tempfile.TemporaryDirectory(prefix="apt-kit-") as folder:
-            os.makedirs(os.path.join(folder, "out", "store"))
-            for path, content in {"record": record, "store/3": b"hi", "store/0": b"x"}.items():
-                with open(os.path.join(folder, "out", path), "wb") as file:
-                    file.write(content)
-            subprocess.run([sys.executable, "-c", block_of("import pathlib", "docs", "COMMANDS.md")], cwd=folder,
-                           check=True, timeout=SECONDS, env=dict(os.environ, PYTHONPATH=KIT))
-            for path, content in {"a": b"hi", "b/c": b"x"}.items():
-                with open(os.path.join(folder, "files", path), "rb") as file:
-                    self.assertEqual(file.read(), content)
 
 
 if __name__ == "__main__":
