@@ -11,7 +11,7 @@ import shutil
 import subprocess
 import sys
 
-from host import DONE_STATUS, ERRORS, HERE, SECONDS, Cases, expect
+from host import DONE_STATUS, ERRORS, HERE, SECONDS, Cases, NotRun, expect
 
 ROOT = os.path.dirname(HERE)
 KIT = os.path.join(ROOT, "kits", "python", "dinxobhe.py")
@@ -75,6 +75,67 @@ def generated(project):
         "SOURCE_OUTPUT/shop/ItemInfo.java": "package shop; @q.A class ItemInfo {}\n"})
 
 
+# What uses the builders of the example, and prints what they built.
+USER = """package shop;
+
+class User {
+  public static void main(String[] arguments) {
+    Item tea = new ItemBuilder().name("tea").price(3).parts(java.util.List.of("bag", "leaf")).build();
+    Order.Line<String> line = new OrderLineBuilder<String>().withKey("k").withItems(new Item[] {tea}).build();
+    System.out.println(line.key + ": " + line.items[0]);
+  }
+}
+"""
+
+
+@case
+def builder(project):
+    copy_example(project, "builder")
+    expect("the messages", builds(
+        project, "mode: clean (Full), started 1", "file SOURCE_OUTPUT/shop/ItemBuilder.java 530",
+        "file SOURCE_OUTPUT/shop/OrderLineBuilder.java 413", "done: 3 rounds, 2 files, 0 errors, 0 warnings"), "")
+    copied(project)
+    if shutil.which("javac") is None:
+        raise NotRun("there is no javac, so what was created is not compiled")
+    project.write("User.java", USER.encode())
+    sources = [os.path.join(folder, name) for top in ("src", "files") for folder, _, names in os.walk(project.path(top))
+               for name in names]
+    subprocess.run(["javac", "-Werror", "-Xlint:all", "-d", project.path("classes"), *sources,
+                    project.path("User.java")], check=True, timeout=SECONDS)
+    said = subprocess.run(["java", "-cp", project.path("classes"), "shop.User"], check=True, timeout=SECONDS,
+                          stdout=subprocess.PIPE).stdout
+    expect("what the program prints", said, b"k: tea for 3 of [bag, leaf]\n")
+
+
+@case
+def what_has_no_builder(project):
+    copy_example(project, "builder")
+    project.write("src/shop/Bad.java", b"""package shop;
+
+class Bad {
+  @Builder interface Shape {}
+
+  @Builder static class Unknown {
+    Missing missing;
+  }
+
+  @Builder static class Few {
+    int one;
+    String two;
+
+    Few(int one) {}
+
+    private Few(int one, String two) {}
+  }
+}
+""")
+    run = project.run(["build"])
+    errors = sorted(line.rpartition("] ")[2] for line in run.output.decode().splitlines() if line.startswith("error: "))
+    expect("the errors", errors, ["Few has no constructor (int, java.lang.String)",
+                                  "Shape is no class that can be made", "the type Missing is not declared"])
+    expect("the status", run.status, ERRORS)
+
+
 def make_greeter(project, change=str):
     """Makes the project that of README, with a change of its processor."""
     shutil.rmtree(project.folder)
@@ -99,16 +160,18 @@ def the_project_of_the_readme(project):
 @case
 def an_exception_of_a_processor(project):
     make_greeter(project, lambda program: program.replace("text = ", "text = package[99] + "))
-    messages = builds(project, "mode: clean (Full), started 1",
-                      "error: [Greeter] hello.World: IndexError: string index out of range",
-                      "errors: 2 rounds, 1 errors, 0 warnings", status=ERRORS)
-    expect("whether the traceback is there", "Traceback" in messages and "greeter.py" in messages, True)
+    run = project.run(["build"])
+    expect("the output", run.output.decode().splitlines()[1:],
+           ["error: src/hello/World.java:1: [Greeter] IndexError: string index out of range",
+            "errors: 2 rounds, 1 errors, 0 warnings"])
+    expect("the status", run.status, ERRORS)
+    expect("whether the traceback is there", b"Traceback" in run.messages and b"greeter.py" in run.messages, True)
 
 
 @case
 def what_a_processor_prints(project):
-    session = make_greeter(project, lambda program: program.replace("        for root", "        print(annotations)\n"
-                                                                    "        for root"))
+    session = make_greeter(project, lambda program: program.replace(
+        "        for element", "        print(annotations)\n        for element"))
     messages = builds(project, *session)
     expect("the messages", messages, "('hello.Greet',)\n()\n()\n")
 

@@ -637,8 +637,8 @@ def maker(*lines):
     return MAKER.format("\n".join(" " * 8 + line for line in lines))
 
 
-def error(text):
-    return spell(Child.Message(MessageKind.ERROR, None, text))
+def error(text, element=None):
+    return spell(Child.Message(MessageKind.ERROR, element, text))
 
 
 class Conversation(unittest.TestCase):
@@ -681,11 +681,16 @@ class ProcessorsRun(Conversation):
             self.assertEqual(type(read(data)).__name__, name)
 
     def test_an_error_of_a_processor(self):
-        said = [("child", error("p.C: ValueError: odd")), ("host", NOTED)]
+        said = [("child", error("ValueError: odd", Element("p.C", ()))), ("host", NOTED)]
         messages = self.in_round("for root in round.roots:", "    raise ValueError('odd')", said=said)
         self.assertIn("Traceback", messages)
         self.assertIn("maker.py", messages)
         self.assertIn("ValueError: odd", messages)
+
+    def test_an_error_at_an_element_that_is_not_there(self):
+        said = [("child", error("ValueError: odd", Element("p.C", ()))), ("host", by_hand("00000002 19 00")),
+                ("child", error("ValueError: odd")), ("host", NOTED)]
+        self.in_round("for root in round.roots:", "    raise ValueError('odd')", said=said)
 
     def test_an_error_of_a_processor_that_handles_no_element(self):
         said = [("child", error("ZeroDivisionError: division by zero")), ("host", NOTED)]
@@ -766,9 +771,13 @@ def round_of(number, offered, roots):
     return "host", spell(Host.Round(number, not roots, False, offered, roots))
 
 
+def answered(question, reply):
+    return [("child", spell(question)), ("host", spell(reply))]
+
+
 def create(frame):
     """A creation, and that it is accepted."""
-    return [("child", spell(frame)), ("host", ACCEPTED)]
+    return answered(frame, Host.Created(Answer.ACCEPTED))
 
 
 class ProcessorsOfTheRepository(Conversation):
@@ -779,11 +788,16 @@ class ProcessorsOfTheRepository(Conversation):
         text = b"package hello; class WorldGreeting {}"
         self.assertIn(f"file SOURCE_OUTPUT/hello/WorldGreeting.java {len(text)}", lines_of("README.md"))
         hello = spell(Child.Hello(["hello.Greet"], [], Claim.ALWAYS))
+        world, package = Element("hello.World", ()), Element("hello.package-info", ())
         self.converses(program, [
             ("host", spell(Host.Init("Greeter", 11, []))), ("child", hello),
             round_of(1, ["hello.Greet"], ["hello.World", "hello.package-info"]),
-            *create(Child.CreateSource("hello.WorldGreeting", text, [])), ("child", DONE),
-            round_of(2, [], ["hello.WorldGreeting"]), ("child", DONE), round_of(3, [], []), ("child", DONE)])
+            *answered(Ask.AnnotatedWith("hello.Greet"), Host.Elements([world])),
+            *answered(Ask.PackageOf(world), Host.Elements([package])),
+            *create(Child.CreateSource("hello.WorldGreeting", text, [world])), ("child", DONE),
+            round_of(2, [], ["hello.WorldGreeting"]),
+            *answered(Ask.AnnotatedWith("hello.Greet"), Host.Elements([])), ("child", DONE),
+            round_of(3, [], []), *answered(Ask.AnnotatedWith("hello.Greet"), Host.Elements([])), ("child", DONE)])
 
     def example(self, name, said):
         program = "\n".join(lines_of("examples", name, "maker.py"))

@@ -1161,11 +1161,12 @@ def _process(processor, session, frame):
 
 
 def _report(session, failure):
-    """Prints an error of the processor, with the element that it was handling before it."""
-    text = f"{type(failure).__name__}: {failure}"
-    if session.handled is not None:
-        text = f"{session.handled}: {text}"
-    Messager(session).error(text.encode(errors="backslashreplace").decode())
+    """Prints an error of the processor, at the element that it was handling."""
+    text = f"{type(failure).__name__}: {failure}".encode(errors="backslashreplace").decode()
+    try:
+        Messager(session).error(text, session.handled)
+    except Refused:
+        Messager(session).error(text)
 
 
 def _hello(processor):

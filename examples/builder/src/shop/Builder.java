@@ -1,0 +1,5 @@
+package shop;
+
+public @interface Builder {
+  String prefix() default "";
+}
