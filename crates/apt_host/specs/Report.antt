@@ -28,7 +28,7 @@ escaped text = flat_map escaped_byte text
 abbrev pub message_text : List ℕ → Message → List ℕ
 message_text processor message = kind_text message.kind ++ (codes ": [" ++ (processor ++ (codes "] " ++ (escaped message.text ++ codes "\n"))))
 
--- so far no message has an element; its processor is named by its number
+-- a message at an element is told as one without, so far; its processor is named by its number
 abbrev pub message_line : List (List ℕ) → Placed → List ℕ
 message_line processors placed = message_text (slice_index_or processors placed.processor []) placed.message
 
