@@ -15,8 +15,8 @@ use Rattle.child_session.specs.Talk.{Stream, answer_to}
 use Rattle.child_session.specs.Requests.{turn_at}
 use Rattle.child_session.specs.Replies.{Shown, shown_of, Accepting, Exchange, exchange_of, round_frame, reply_frame, filed_after, filed_all}
 use Rattle.child_session.specs.Acts.{Act, ends_with, behind, after_turn, go_on, act_from, answer_by, claimed_by, end_of, outcome}
-use Rattle.child_session.specs.Round.{IsFront, Served, frames_with, outcome_of, is_due, IsOrMemory, IsPart, Comes}
-use Rattle.child_session.proofs.DoneExchanges.{filed_all-append, frames_of-append}
+use Rattle.child_session.specs.Round.{IsFront, AreAllButLast, Served, frames_with, outcome_of, is_due, IsOrMemory, IsPart, Comes}
+use Rattle.child_session.proofs.DoneExchanges.{filed_all-append, frames_of-append, frames_of-next}
 
 abbrev Frames : Type 0
 Frames = List (List ℕ)
@@ -81,19 +81,20 @@ module _ (table : TypeTable) (showing : Showing) (filings : Filings) (sent : Fra
     unfolding outcome
     due_is = refl
 
-    all_filed : (filings' : Filings) → filings' ≡ filed_all filings done → IsPart ended filings filings'
-    all_filed filings' filed = record { done = done; front = record { rest = []; is = append-nil done }; filed = filed }
+    all_filed : (filings' : Filings) (sent' : Frames) (result : Result Answer SessionFault) → filings' ≡ filed_all filings done → sent' ≡ sent ++ frames_with table showing done
+        → IsPart table showing ended sent sent' filings filings' result
+    all_filed filings' sent' result filed sends = record { done = done; front = record { rest = []; is = append-nil done }; filed = filed; sent_is = λ _. inl sends }
 
     ends_or : (filings' : Filings) (sent' : Frames) (result : Result Answer SessionFault) → filings' ≡ filed_all filings done → sent' ≡ sent ++ frames_with table showing done
         → IsOrMemory result due → Comes table showing filings filings' result ended sent sent'
     ends_or filings' sent' result filed sends (inl memory) = record {
       all = λ is. absurd (let no : false ≡ true = ap (is_due {T = Answer}) (sym memory) ∙ is in cc);
-      part = all_filed filings' filed;
+      part = all_filed filings' sent' result filed sends;
       front = λ _. record { rest = []; is = append-nil sent' ∙ sends };
     }
     ends_or filings' sent' result filed sends (inr is) = record {
       all = λ _. record { result_is = is ∙ sym due_is; sent_is = sends; filed = filed };
-      part = all_filed filings' filed;
+      part = all_filed filings' sent' result filed sends;
       front = λ _. record { rest = []; is = append-nil sent' ∙ sends };
     }
 
@@ -117,10 +118,13 @@ module _ (table : TypeTable) (showing : Showing) (filings : Filings) (sent : Fra
       → (fault ≡ Memory → (sent' ≡ sent) ⊎ (sent' ≡ sent ++ round_frame showing.env ∷ [])) → Comes table showing filings filings (Err fault) whole sent sent'
   comes_begun whole fault free sent' sends = record {
     all = λ is. absurd (not_due fault free is);
-    part = record { done = []; front = record { rest = whole.exchanges; is = refl }; filed = refl };
+    part = record { done = []; front = record { rest = whole.exchanges; is = refl }; filed = refl; sent_is = λ memory. last (sends (memory_of fault memory)) };
     front = λ memory. first (sends (memory_of fault memory));
   }
     where
+      last : (sent' ≡ sent) ⊎ (sent' ≡ sent ++ round_frame showing.env ∷ []) → AreAllButLast sent' (sent ++ frames_with table showing [])
+      last (inl same) = inr (round_frame showing.env, ap (λ (s : Frames). s ++ round_frame showing.env ∷ []) same)
+      last (inr more) = inl more
       first : (sent' ≡ sent) ⊎ (sent' ≡ sent ++ round_frame showing.env ∷ []) → IsFront sent' (sent ++ frames_with table showing whole.exchanges)
       first (inl same) = record { rest = frames_with table showing whole.exchanges; is = ap (λ (s : Frames). s ++ frames_with table showing whole.exchanges) same }
       first (inr more) = record {
@@ -133,13 +137,50 @@ module _ (table : TypeTable) (showing : Showing) (filings : Filings) (sent : Fra
     abbrev asked : Act
     asked = behind done (behind (exchange ∷ []) more)
 
-    part_filed : (filings1 filings2 : Filings) → filings1 ≡ filed_all filings done → Served exchange filings1 filings2 → IsPart asked filings filings2
-    part_filed filings1 filings2 filed (inl kept) = record { done = done; front = record { rest = exchange ∷ more.exchanges; is = refl }; filed = kept ∙ filed }
-    part_filed filings1 filings2 filed (inr one) = record {
-      done = done ++ exchange ∷ [];
-      front = record { rest = more.exchanges; is = append_assoc done (exchange ∷ []) more.exchanges };
-      filed = one ∙ ap (λ f. filed_after f exchange) filed ∙ sym (filed_all-append filings done (exchange ∷ []));
-    }
+    module _ (filings1 filings2 : Filings) (sent1 sent2 : Frames) (filed : filings1 ≡ filed_all filings done) (sent_is : sent1 ≡ sent ++ frames_with table showing done) (result : Result Answer SessionFault) where
+      -- the request was not served
+      part_kept : filings2 ≡ filings1 → (IsErrOf result Memory → sent2 ≡ sent1) → IsPart table showing asked sent sent2 filings filings2 result
+      part_kept kept same = record { done = done; front = record { rest = exchange ∷ more.exchanges; is = refl }; filed = kept ∙ filed; sent_is = λ memory. inl (same memory ∙ sent_is) }
+
+      -- it was, and the reply was sent or not
+      part_served : filings2 ≡ filed_after filings1 exchange → (IsErrOf result Memory → (sent2 ≡ sent1) ⊎ (sent2 ≡ sent1 ++ reply_frame exchange ∷ [])) → IsPart table showing asked sent sent2 filings filings2 result
+      part_served one sends = record {
+        done = done ++ exchange ∷ [];
+        front = record { rest = more.exchanges; is = append_assoc done (exchange ∷ []) more.exchanges };
+        filed = one ∙ ap (λ f. filed_after f exchange) filed ∙ sym (filed_all-append filings done (exchange ∷ []));
+        sent_is = λ memory. last (sends memory);
+      }
+        where
+          last : (sent2 ≡ sent1) ⊎ (sent2 ≡ sent1 ++ reply_frame exchange ∷ []) → AreAllButLast sent2 (sent ++ frames_with table showing (done ++ exchange ∷ []))
+          last (inl same) = inr (reply_frame exchange, ap (λ (s : Frames). s ++ reply_frame exchange ∷ []) (same ∙ sent_is) ∙ frames_of-next (shown_of table showing.env) sent done exchange)
+          last (inr all) = inl (all ∙ ap (λ (s : Frames). s ++ reply_frame exchange ∷ []) sent_is ∙ frames_of-next (shown_of table showing.env) sent done exchange)
+
+    -- nothing was sent, or the request was served, and the reply was sent or not
+    abbrev Stops : Filings → Filings → Frames → Frames → Type 0
+    Stops filings1 filings2 sent1 sent2 = (sent2 ≡ sent1) ⊎ ((filings2 ≡ filed_after filings1 exchange) × ((sent2 ≡ sent1) ⊎ (sent2 ≡ sent1 ++ reply_frame exchange ∷ [])))
+
+    sent_by : (filings1 filings2 : Filings) (sent1 sent2 : Frames) → Stops filings1 filings2 sent1 sent2 → (sent2 ≡ sent1) ⊎ (sent2 ≡ sent1 ++ reply_frame exchange ∷ [])
+    sent_by filings1 filings2 sent1 sent2 (inl same) = inl same
+    sent_by filings1 filings2 sent1 sent2 (inr served) = served.1
+
+    part_by : (filings1 filings2 : Filings) (sent1 sent2 : Frames) → filings1 ≡ filed_all filings done → sent1 ≡ sent ++ frames_with table showing done → Served exchange filings1 filings2
+        → Stops filings1 filings2 sent1 sent2 → IsPart table showing asked sent sent2 filings filings2 (Err Memory)
+    part_by filings1 filings2 sent1 sent2 filed is (inl kept) (inl same) = part_kept filings1 filings2 sent1 sent2 filed is (Err Memory) kept (λ _. same)
+    part_by filings1 filings2 sent1 sent2 filed is (inr one) (inl same) = part_served filings1 filings2 sent1 sent2 filed is (Err Memory) one (λ _. inl same)
+    part_by filings1 filings2 sent1 sent2 filed is served (inr stops) = part_served filings1 filings2 sent1 sent2 filed is (Err Memory) stops.0 (λ _. stops.1)
+
+    part_failed : (filings1 filings2 : Filings) (sent1 sent2 : Frames) → filings1 ≡ filed_all filings done → sent1 ≡ sent ++ frames_with table showing done → Served exchange filings1 filings2
+        → IsPart table showing asked sent sent2 filings filings2 (Err Failed)
+    part_failed filings1 filings2 sent1 sent2 filed is (inl kept) = part_kept filings1 filings2 sent1 sent2 filed is (Err Failed) kept (λ memory. absurd cc)
+    part_failed filings1 filings2 sent1 sent2 filed is (inr one) = part_served filings1 filings2 sent1 sent2 filed is (Err Failed) one (λ memory. absurd cc)
+
+    part_filed : (fault : SessionFault) → IsFreeFault fault → (filings1 filings2 : Filings) (sent1 sent2 : Frames) → filings1 ≡ filed_all filings done → sent1 ≡ sent ++ frames_with table showing done
+        → Served exchange filings1 filings2 → (fault ≡ Memory → Stops filings1 filings2 sent1 sent2) → IsPart table showing asked sent sent2 filings filings2 (Err fault)
+    part_filed Failed free filings1 filings2 sent1 sent2 filed is served stops = part_failed filings1 filings2 sent1 sent2 filed is served
+    part_filed Memory free filings1 filings2 sent1 sent2 filed is served stops = part_by filings1 filings2 sent1 sent2 filed is served (stops refl)
+    part_filed (Breach breach) free filings1 filings2 sent1 sent2 filed is served stops = absurd free
+    part_filed (TooManyQuestions limit) free filings1 filings2 sent1 sent2 filed is served stops = absurd free
+    part_filed (ClaimBroken declared said) free filings1 filings2 sent1 sent2 filed is served stops = absurd free
 
     abbrev frames_done : Frames
     frames_done = frames_with table showing done
@@ -166,10 +207,10 @@ module _ (table : TypeTable) (showing : Showing) (filings : Filings) (sent : Fra
 
     pub comes_asked : (whole : Act) → whole ≡ asked → (fault : SessionFault) → IsFreeFault fault → (filings1 filings2 : Filings) (sent1 sent2 : Frames)
         → filings1 ≡ filed_all filings done → sent1 ≡ sent ++ frames_done → Served exchange filings1 filings2
-        → (fault ≡ Memory → (sent2 ≡ sent1) ⊎ (sent2 ≡ sent1 ++ reply_frame exchange ∷ [])) → Comes table showing filings filings2 (Err fault) whole sent sent2
-    comes_asked whole is fault free filings1 filings2 sent1 sent2 filed sent_is served sends =
+        → (fault ≡ Memory → Stops filings1 filings2 sent1 sent2) → Comes table showing filings filings2 (Err fault) whole sent sent2
+    comes_asked whole is fault free filings1 filings2 sent1 sent2 filed sent_is served stops =
         subst (λ whole. Comes table showing filings filings2 (Err fault) whole sent sent2) (sym is) (record {
           all = λ is. absurd (not_due fault free is);
-          part = part_filed filings1 filings2 filed served;
-          front = λ memory. front_sent sent1 sent2 sent_is (sends (memory_of fault memory));
+          part = part_filed fault free filings1 filings2 sent1 sent2 filed sent_is served stops;
+          front = λ memory. front_sent sent1 sent2 sent_is (sent_by filings1 filings2 sent1 sent2 (stops (memory_of fault memory)));
         })

@@ -102,11 +102,11 @@ module _ (shown : Shown) (taken other : Taken) where
 
 -- ---- turn by turn
 
-abbrev files_with : Option Creation → List Exchange → List Creation
+abbrev pub files_with : Option Creation → List Exchange → List Creation
 files_with None others = files others
 files_with (Some creation) others = creation ∷ files others
 
-files_next : (exchange : Exchange) (others : List Exchange) → files (exchange ∷ others) ≡ files_with (file_in exchange) others
+pub files_next : (exchange : Exchange) (others : List Exchange) → files (exchange ∷ others) ≡ files_with (file_in exchange) others
 files_next exchange others = by (file_in exchange) refl
   where
     by : (o : Option Creation) → file_in exchange ≡ o → files (exchange ∷ others) ≡ files_with o others

@@ -5,9 +5,11 @@ pub mod Feeding
 pub mod BeginningLemmas
 pub mod DoneExchanges
 pub mod ActsInTurn
+pub mod StrayFrames
 pub mod RoundsUnderway
 pub mod NotesLemmas
 pub mod ServedRequests
 pub mod ShortReplies
 pub mod LastTurns
 pub mod FreeActs
+pub mod FiledFiles

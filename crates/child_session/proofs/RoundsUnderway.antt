@@ -1,13 +1,14 @@
 -- A round that is under way: how it goes on, and what comes of it.
 use Rattle.std.proofs.Common.{◌≡◌, ◌<◌, ◌+◌, ◌-◌, ◌⊎◌, ℕ, suc, Bool, List, [], ◌∷◌, ◌++◌, length, Option, None, Some, Result, Ok, Err, IsOk, IfSome, IsSomeAnd, inl, inr, refl, sym, ap, ◌∙◌, subst, length-append, arith}
 use Rattle.apt_base.specs.declared.kinds.Claim.{Claim}
-use Rattle.apt_outside.specs.Child.{Says, Child, State, Known, Changes}
+use Rattle.apt_outside.specs.Child.{Says, Child, State, Known, Changes, OfChild}
 use Rattle.apt_outside.specs.declared.fault.Fault.{Fault}
 use Rattle.apt_outside.specs.declared.fault.Fault.TheVariants as outside
 use Rattle.apt_filer.specs.Filing.{Taken, Filings}
 use Rattle.element_table.specs.TypeTable.{TypeTable}
+use Rattle.frame_breaches.specs.declared.breach.Breach.TheVariants as breaches
 use Rattle.child_session.specs.declared.fault.SessionFault.{SessionFault}
-use Rattle.child_session.specs.declared.fault.SessionFault.TheVariants.{Failed, Memory}
+use Rattle.child_session.specs.declared.fault.SessionFault.TheVariants.{Failed, Breach, TooManyQuestions, ClaimBroken, Memory}
 use Rattle.child_session.specs.declared.request.Request.{Request}
 use Rattle.child_session.specs.declared.request.Turn.{Turn}
 use Rattle.child_session.specs.declared.request.Turn.TheVariants.{Ends, Differs, Asks, Leaves}
@@ -26,6 +27,7 @@ use Rattle.child_session.specs.Round.{exchange_with, Served, Replies, act_within
 use Rattle.child_session.proofs.ActsInTurn.{act_asks, act_ends, behind-behind, behind-end, comes_ended, comes_begun, comes_asked}
 use Rattle.child_session.proofs.DoneExchanges.{taken_of-after, filed_all-append, frames_of-next}
 use Rattle.child_session.proofs.Taking.{some_of}
+use Rattle.child_session.proofs.StrayFrames.{no_stray}
 
 abbrev Frames : Type 0
 Frames = List (List ℕ)
@@ -97,9 +99,24 @@ some_end : (showing : Showing) (answer : talk.Answer) (claimed : Bool) → turn_
 some_end showing (Err breach) claimed e = absurd (let f : Leaves breach ≡ Ends claimed = e in cc)
 some_end showing (Ok f) claimed e = refl
 
+some_differing : (showing : Showing) (answer : talk.Answer) (said : Bool) → turn_at showing.claim answer ≡ Differs said → IsOk answer
+some_differing showing (Err breach) said e = absurd (let f : Leaves breach ≡ Differs said = e in cc)
+some_differing showing (Ok f) said e = refl
+
+some_stray : (showing : Showing) (answer : talk.Answer) (tag : ℕ) → turn_at showing.claim answer ≡ Leaves (breaches.Wrong tag) → (answer ≡ Err (breaches.Wrong tag) → ⊥) → IsOk answer
+some_stray showing (Err breach) tag e none = absurd (let f : Leaves breach ≡ Leaves (breaches.Wrong tag) = e in let same : breach ≡ breaches.Wrong tag = cc in none (ap Err same))
+some_stray showing (Ok f) tag e none = refl
+
 pub fault_is_free : (fault : Fault) → IsFreeFault (fault_of fault)
 fault_is_free outside.Failed = tt
 fault_is_free outside.Memory = tt
+
+free_answered : (fault : SessionFault) → IsFreeFault fault → (P : Type 0) → OnAnswered {T = Answer} (Err fault) P
+free_answered Failed free P = tt
+free_answered Memory free P = tt
+free_answered (Breach breach) free P = absurd free
+free_answered (TooManyQuestions limit) free P = absurd free
+free_answered (ClaimBroken declared said) free P = absurd free
 
 -- ---- what a child was sent
 
@@ -118,6 +135,28 @@ sent_at : (child : ℕ) (frame : List ℕ) (k0 k1 : State) → SentOrNot child f
 sent_at child frame k0 k1 sends a b is is' =
     let P : Child → Child → Type 0 = λ a b. (b.sent ≡ a.sent) ⊎ (b.sent ≡ a.sent ++ frame ∷ []) in
     subst (λ o. IsSomeAnd o (P a)) is' (subst (λ o. IfSome o (λ a. IsSomeAnd (k1.known child) (P a))) is sends)
+
+unsent_at : (child : ℕ) (k0 k1 : State) → OfChild child k0 k1 (λ before after. after.sent ≡ before.sent) → (a b : Child) → k0.known child ≡ Some a → k1.known child ≡ Some b → b.sent ≡ a.sent
+unsent_at child k0 k1 stays a b is is' =
+    let P : Child → Child → Type 0 = λ a b. b.sent ≡ a.sent in
+    subst (λ o. IsSomeAnd o (P a)) is' (subst (λ o. IfSome o (λ a. IsSomeAnd (k1.known child) (P a))) is stays)
+
+pub stays_unsent : (child : ℕ) (k : State) → OfChild child k k (λ before after. after.sent ≡ before.sent)
+stays_unsent child k = same (k.known child)
+  where
+    same : (o : Option Child) → IfSome o (λ a. IsSomeAnd o (λ b. b.sent ≡ a.sent))
+    same None = tt
+    same (Some a) = refl
+
+-- nothing was sent, or the request was served, and the reply was sent or not
+abbrev pub Stops : ℕ → Exchange → Filings → Filings → State → State → Type 0
+Stops child exchange filings1 filings2 k1 k2 = OfChild child k1 k2 (λ before after. after.sent ≡ before.sent)
+    ⊎ ((filings2 ≡ filed_after filings1 exchange) × SentOrNot child (reply_frame exchange) k1 k2)
+
+stops_at : (child : ℕ) (exchange : Exchange) (filings1 filings2 : Filings) (k1 k2 : State) → Stops child exchange filings1 filings2 k1 k2 → (b c : Child) → k1.known child ≡ Some b → k2.known child ≡ Some c
+    → (c.sent ≡ b.sent) ⊎ ((filings2 ≡ filed_after filings1 exchange) × ((c.sent ≡ b.sent) ⊎ (c.sent ≡ b.sent ++ reply_frame exchange ∷ [])))
+stops_at child exchange filings1 filings2 k1 k2 (inl stays) b c is is' = inl (unsent_at child k1 k2 stays b c is is')
+stops_at child exchange filings1 filings2 k1 k2 (inr served) b c is is' = inr (served.0, sent_at child (reply_frame exchange) k1 k2 served.1 b c is is')
 
 -- ---- the way through a round
 
@@ -204,15 +243,16 @@ module _ (child : ℕ) (table : TypeTable) (showing : Showing) (filings : Filing
         ∙ ap (behind done) (act_ends stream by_tests (shown_of table showing.env) showing.claim left b.sent filings1.taken turn now full) ∙ behind-end done turn
 
     answered_so : (result : Result Answer SessionFault) (answer_made : Answer) → IsOrMemory result (end_of showing.claim showing.limit turn answer_made) → OnAnswered result (HasAnswered says b)
-    answered_so (Err fault) answer_made due = tt
-    answered_so (Ok given) answer_made (inl memory) = absurd cc
-    answered_so (Ok given) answer_made (inr due) = x.answered (ok_turn turn is due)
+    answered_so result answer_made (inl memory) = subst (λ r. OnAnswered r (HasAnswered says b)) (sym memory) tt
+    answered_so result answer_made (inr due) = subst (λ r. OnAnswered r (HasAnswered says b)) (sym due) (by turn is)
       where
-        ok_turn : (t : Turn) → turn_at showing.claim answer ≡ t → Ok given ≡ end_of showing.claim showing.limit t answer_made → IsOk answer
-        ok_turn (Ends claimed) at due = some_end showing answer claimed at
-        ok_turn (Differs said) at due = absurd cc
-        ok_turn (Asks request) at due = absurd cc
-        ok_turn (Leaves breach) at due = absurd cc
+        by : (t : Turn) → turn_at showing.claim answer ≡ t → OnAnswered (end_of showing.claim showing.limit t answer_made) (HasAnswered says b)
+        by (Ends claimed) at = x.answered (some_end showing answer claimed at)
+        by (Differs said) at = x.answered (some_differing showing answer said at)
+        by (Asks request) at = x.answered (some_turn showing answer request at)
+        by (Leaves (breaches.Ended got)) at = tt
+        by (Leaves (breaches.Bad place kind)) at = tt
+        by (Leaves (breaches.Wrong tag)) at = x.answered (some_stray showing answer tag at (λ is. no_stray (says a.name a.command) b.sent tag (sym x.answer_is ∙ is)))
 
   -- this turn is the last: it asks nothing, or the child may ask no more
   pub way_closes : (k0 k1 : State) (filings1 : Filings) (done : List Exchange) (answer : talk.Answer) (left : ℕ) → length done + left ≡ showing.limit
@@ -247,16 +287,16 @@ module _ (child : ℕ) (table : TypeTable) (showing : Showing) (filings : Filing
             command = b.3;
             comes = comes_begun table showing filings a.sent (act (k0.says a.name a.command) table showing a.sent filings.taken) fault free b.0.sent
                 (λ memory. sent_at child (round_frame showing.env) k0 k1 (sends memory) a b.0 is b.1);
-            answered = tt;
+            answered = free_answered fault free (HasAnswered k0.says b.0);
           })
 
   -- in a turn
   pub way_stops : (k0 k1 k2 : State) (filings1 filings2 : Filings) (done : List Exchange) (answer : talk.Answer) (request : Request) (fault : SessionFault)
       → IsFreeFault fault → length done < showing.limit → GoesOn child table showing k0 k1 filings filings1 done answer → filings1 ≡ filed_all filings done → turn_at showing.claim answer ≡ Asks request
       → Served (exchange_with (shown_of table showing.env) filings1 request) filings1 filings2 → Changes child k1.known k2.known
-      → (fault ≡ Memory → SentOrNot child (reply_frame (exchange_with (shown_of table showing.env) filings1 request)) k1 k2)
+      → (fault ≡ Memory → Stops child (exchange_with (shown_of table showing.env) filings1 request) filings1 filings2 k1 k2)
       → HasShown child table showing k0 k2 filings filings2 (Err fault)
-  way_stops k0 k1 k2 filings1 filings2 done answer request fault free few w filed asks served change sends = record {
+  way_stops k0 k1 k2 filings1 filings2 done answer request fault free few w filed asks served change stops = record {
     shown = carried k0.says child k1.known k2.known change (k0.known child) (Way k0.says filings1 done answer) (Told k0.says filings2 (Err fault))
         (λ a b c at1 at2 x name command.
         let stream = k0.says a.name a.command in
@@ -272,8 +312,8 @@ module _ (child : ℕ) (table : TypeTable) (showing : Showing) (filings : Filing
           name = name ∙ x.name;
           command = command ∙ x.command;
           comes = comes_asked table showing filings a.sent done exchange more (act stream table showing a.sent filings.taken) whole fault free filings1 filings2 b.sent c.sent filed x.sent served
-              (λ memory. sent_at child (reply_frame exchange) k1 k2 (sends memory) b c at1 at2);
-          answered = tt;
+              (λ memory. stops_at child exchange filings1 filings2 k1 k2 (stops memory) b c at1 at2);
+          answered = free_answered fault free (HasAnswered k0.says c);
         }) w.way;
   }
 

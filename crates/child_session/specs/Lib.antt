@@ -6,6 +6,7 @@ pub mod Replies
 pub mod Acts
 pub mod Sessions
 pub mod FreeLaws
+pub mod FilingLaws
 pub mod Notes
 pub mod Round
 pub mod Moments

@@ -1,8 +1,9 @@
 -- What a call that shows a round says of it.
 use Rattle.std.specs.Prelude.{◌≡◌, ◌≤◌, ◌⊎◌, ℕ, Bool, true, false, List, [], ◌∷◌, ◌++◌, length, Result, Ok, Err, IsErrOf}
-use Rattle.apt_outside.specs.Child.{Says, Child, State}
+use Rattle.apt_outside.specs.Child.{Says, Child, State, OfChild}
 use Rattle.apt_filer.specs.Filing.{Taken, Filings}
 use Rattle.element_table.specs.TypeTable.{TypeTable}
+use Rattle.frame_breaches.specs.declared.breach.Breach.TheVariants as breaches
 use Rattle.child_session.specs.declared.fault.SessionFault.{SessionFault}
 use Rattle.child_session.specs.declared.fault.SessionFault.TheVariants.{Failed, Breach, TooManyQuestions, ClaimBroken, Memory}
 use Rattle.child_session.specs.declared.request.Request.{Request}
@@ -19,6 +20,10 @@ pub record IsFront {A : Type 0} (some all : List A) : Type 0 where
   pub rest : List A
   pub is : some ++ rest ≡ all
 
+-- these are all of them, or all but the last
+abbrev pub AreAllButLast : {A : Type 0} → List A → List A → Type 0
+AreAllButLast {A} some all = (some ≡ all) ⊎ ((last : A) × (some ++ last ∷ [] ≡ all))
+
 -- ---- one turn
 
 -- a request, with the reply to it where the filer has these files
@@ -33,9 +38,11 @@ Served exchange old new = (new ≡ old) ⊎ (new ≡ filed_after old exchange)
 abbrev pub Replies : ℕ → Exchange → State → State → talk.Answer → Type 0
 Replies child exchange old new answer = Exchanges child (reply_frame exchange) old new answer
 
--- after out of memory it was sent, or nothing was
-abbrev pub MayReply : {T : Type 0} → ℕ → Exchange → State → State → Result T SessionFault → Type 0
-MayReply child exchange old new result = IsErrOf result Memory → SentOrNot child (reply_frame exchange) old new
+-- after out of memory the child was sent nothing, or the request was served, and the reply was sent or not
+abbrev pub MayReply : {T : Type 0} → ℕ → Exchange → Filings → Filings → State → State → Result T SessionFault → Type 0
+MayReply child exchange filings filings' old new result = IsErrOf result Memory →
+    OfChild child old new (λ before after. after.sent ≡ before.sent)
+    ⊎ ((filings' ≡ filed_after filings exchange) × SentOrNot child (reply_frame exchange) old new)
 
 -- ---- a round
 
@@ -67,16 +74,22 @@ pub record IsWhole (table : TypeTable) (showing : Showing) (whole : Act) (sent s
   pub sent_is : sent' ≡ sent ++ frames_with table showing whole.exchanges
   pub filed : filings' ≡ filed_all filings whole.exchanges
 
--- the filer has the files of these exchanges, which came first
-pub record IsPart (whole : Act) (filings filings' : Filings) : Type 0 where
+-- These exchanges came first, and the filer has their files. After out of memory the child was sent their frames, or all
+-- but the last of these: that frame was not sent.
+pub record IsPart (table : TypeTable) (showing : Showing) (whole : Act) (sent sent' : List (List ℕ))
+    (filings filings' : Filings) (result : Result Answer SessionFault) : Type 0 where
   pub done : List Exchange
   pub front : IsFront done whole.exchanges
   pub filed : filings' ≡ filed_all filings done
+  pub sent_is : IsErrOf result Memory → AreAllButLast sent' (sent ++ frames_with table showing done)
 
--- a child that was answered Ok has answered
+-- where the last frame of the child was whole, it has answered, and nothing behind that frame was taken
 abbrev pub OnAnswered : {T : Type 0} → Result T SessionFault → Type 0 → Type 0
 OnAnswered (Ok done) P = P
-OnAnswered (Err fault) P = Unit {0}
+OnAnswered (Err (TooManyQuestions most)) P = P
+OnAnswered (Err (ClaimBroken declared said)) P = P
+OnAnswered (Err (Breach (breaches.Wrong tag))) P = P
+OnAnswered (Err other) P = Unit {0}
 
 -- A round was shown to the child, and this came of it. After a fault of the children or out of memory the filer has the
 -- files of its first exchanges. After out of memory the child was sent the first of its frames, and after a fault of the
@@ -84,7 +97,7 @@ OnAnswered (Err fault) P = Unit {0}
 pub record Comes (table : TypeTable) (showing : Showing) (filings filings' : Filings) (result : Result Answer SessionFault)
     (whole : Act) (sent sent' : List (List ℕ)) : Type 0 where
   pub all : is_due result ≡ true → IsWhole table showing whole sent sent' filings filings' result
-  pub part : IsPart whole filings filings'
+  pub part : IsPart table showing whole sent sent' filings filings' result
   pub front : IsErrOf result Memory → IsFront sent' (sent ++ frames_with table showing whole.exchanges)
 
 pub record Shows (says : Says) (table : TypeTable) (showing : Showing) (filings filings' : Filings)

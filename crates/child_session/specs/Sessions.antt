@@ -1,10 +1,14 @@
--- What a session comes to over the rounds that its child is shown, one after another: what an isolating and an aggregating processor are is said by it.
-use Rattle.std.specs.Prelude.{ℕ, List, [], ◌∷◌, ◌++◌, Option, None, Some, option_map, option_and_then}
+-- What a session comes to over the rounds that its child is shown, one after another: what an isolating and an aggregating
+-- processor are is said by it.
+use Rattle.std.specs.Prelude.{ℕ, List, [], ◌∷◌, ◌++◌, Option, None, Some, option_map, option_and_then, Result, Ok, Err}
 use Rattle.apt_base.specs.declared.kinds.Claim.{Claim}
 use Rattle.apt_filer.specs.Filing.{taken_at_first}
+use Rattle.frame_breaches.specs.declared.breach.Breach.{Breach}
+use Rattle.wire_frames.specs.declared.frame.Hello.{Hello}
 use Rattle.child_session.specs.declared.request.Turn.{Turn}
-use Rattle.child_session.specs.declared.request.Turn.TheVariants.{Ends, Differs, Asks, Leaves}
-use Rattle.child_session.specs.Talk.{Stream}
+use Rattle.child_session.specs.declared.request.Turn.TheVariants.{Ends}
+use Rattle.child_session.specs.Beginning.{hello_in}
+use Rattle.child_session.specs.Talk.{Stream, answer_to}
 use Rattle.child_session.specs.Replies.{Shown, always}
 use Rattle.child_session.specs.Acts.{Act, act_of, frames_of}
 
@@ -12,26 +16,38 @@ use Rattle.child_session.specs.Acts.{Act, act_of, frames_of}
 abbrev pub Limits : Type 0
 Limits = Shown → ℕ
 
--- what was sent, where the turn ends a round as it should
-abbrev pub if_done : Turn → List (List ℕ) → Option (List (List ℕ))
-if_done (Ends claimed) sent = Some sent
-if_done (Differs said) sent = None
-if_done (Asks request) sent = None
-if_done (Leaves breach) sent = None
+-- how far a session of the free talk has come: what its processor declared of its claims, and the frames that were sent
+pub record Begun : Type 0 where
+  pub claim : Claim
+  pub sent : List (List ℕ)
 
-abbrev pub sent_in_act : Shown → List (List ℕ) → Act → Option (List (List ℕ))
-sent_in_act shown sent act = if_done act.last (sent ++ frames_of shown act.exchanges)
+-- its first frame is answered by a Hello
+abbrev pub begun_by : List ℕ → Result Hello Breach → Option Begun
+begun_by init (Ok hello) = Some (record { claim = hello.claim; sent = init ∷ [] })
+begun_by init (Err breach) = None
 
 -- A round of the free talk, in which each creation whose elements are there is accepted, whatever it is.
 abbrev pub free_act : Stream → Limits → Claim → Shown → List (List ℕ) → Act
-free_act stream limits declared shown sent = act_of stream always shown declared (limits shown) sent (taken_at_first [])
+free_act stream limits declared shown sent =
+    act_of stream always shown declared (limits shown) sent (taken_at_first [])
 
--- The frames that a child was sent which was shown these rounds in the free talk, the last one first; none where one of them did not end as it should.
-unfoldable pub free_frames : Stream → Limits → Claim → List ℕ → List Shown → Option (List (List ℕ))
-free_frames stream limits declared init [] = Some (init ∷ [])
-free_frames stream limits declared init (shown ∷ earlier) =
-    option_and_then (λ sent. sent_in_act shown sent (free_act stream limits declared shown sent)) (free_frames stream limits declared init earlier)
+-- it goes on where the round ended as it should
+abbrev pub if_done : Begun → Turn → List (List ℕ) → Option Begun
+if_done begun (Ends claimed) sent = Some (record { claim = begun.claim; sent = sent })
+if_done begun other sent = None
+
+abbrev pub after_round : Begun → Shown → Act → Option Begun
+after_round begun shown act = if_done begun act.last (begun.sent ++ frames_of shown act.exchanges)
+
+-- A session of the free talk whose child was sent this first frame and was shown these rounds, the last one first; none where
+-- the child said no Hello, or where one of the rounds did not end as it should.
+unfoldable pub free_session : Stream → Limits → List ℕ → List Shown → Option Begun
+free_session stream limits init [] = begun_by init (hello_in (answer_to stream (init ∷ [])))
+free_session stream limits init (shown ∷ earlier) =
+    option_and_then (λ begun. after_round begun shown (free_act stream limits begun.claim shown begun.sent))
+        (free_session stream limits init earlier)
 
 -- what a round of the free talk comes to, behind these
-unfoldable pub free_acts : Stream → Limits → Claim → List ℕ → Shown → List Shown → Option Act
-free_acts stream limits declared init shown earlier = option_map (free_act stream limits declared shown) (free_frames stream limits declared init earlier)
+unfoldable pub free_act_behind : Stream → Limits → List ℕ → Shown → List Shown → Option Act
+free_act_behind stream limits init shown earlier =
+    option_map (λ begun. free_act stream limits begun.claim shown begun.sent) (free_session stream limits init earlier)

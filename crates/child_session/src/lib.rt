@@ -19,7 +19,7 @@ mod serving;
 
 pub use beginning::begin;
 pub use fault::SessionFault;
-pub use laws::free_acts_hold;
+pub use laws::{files_are_made, free_acts_hold};
 pub use receiving::exchange;
 pub use request::{Request, Turn};
 pub use round::{Answer, Showing, show_round};

@@ -102,7 +102,7 @@ fn take_turn<C: Children>(
         (exchange_with (shown_of answering.old env.now) filer.old request)) }
     ensures free { IsFree result }
     ensures sent { Answers C.Children children.old children.new result
-        (MayReply child (exchange_with (shown_of answering.old env.now) filer.old request)) }
+        (MayReply child (exchange_with (shown_of answering.old env.now) filer.old request) filer.old filer.new) }
     ensures answer { Gives C.Children children.old children.new result
         (Replies child (exchange_with (shown_of answering.old env.now) filer.old request)) }
 {

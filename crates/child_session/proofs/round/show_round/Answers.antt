@@ -6,12 +6,12 @@ use Rattle.child_session.specs.declared.request.Turn.TheVariants.{Asks}
 use Rattle.child_session.specs.Acts.{claimed_by, end_of}
 use Rattle.child_session.specs.Faults.{fault_of}
 use Rattle.child_session.specs.Notes.{noted_with, answer_from}
-use Rattle.child_session.specs.Replies.{shown_of, round_frame, reply_frame, filed_after}
+use Rattle.child_session.specs.Replies.{shown_of, round_frame, filed_after}
 use Rattle.child_session.specs.Requests.{turn_at}
 use Rattle.child_session.specs.Round.{exchange_with, Served, Replies}
-use Rattle.child_session.specs.Talk.{Exchanges, SentOrNot, SendsOnce}
+use Rattle.child_session.specs.Talk.{Exchanges, SendsOnce}
 use Rattle.child_session.proofs.Taking.{attends_then, changes_self}
-use Rattle.child_session.proofs.RoundsUnderway.{GoesOn, way_begins, way_goes, way_begins_not, fault_is_free, way_stops, way_closes, sends_nothing, sends_once, begins_underway, next_underway, ends_noted}
+use Rattle.child_session.proofs.RoundsUnderway.{GoesOn, way_begins, way_goes, way_begins_not, fault_is_free, way_stops, way_closes, sends_nothing, sends_once, Stops, begins_underway, next_underway, ends_noted}
 use Rattle.child_session.proofs.LastTurns.{end_is_due, end_has_reason}
 use Rattle.child_session.proofs.ServedRequests.{none_served, fewer_served, one_more_served, maybe_served}
 use Rattle.child_session.proofs.round.show_round.Goals as goal
@@ -98,7 +98,7 @@ returns-in_err-answer-in-Asks-clause-shown g c = λ told.
     let few : length way.done < c.args.showing.now.limit = omega (arith, way.count_is, c.loop-count-test.true) in
     rw (p.1, p.2) (way_stops c.args.child c.args.answering.now c.args.showing.now c.args.filer.now (C.state c.args.children.now) k1 k2 filer1 c.take_turn.new.filer way.done c.loop-count.answer request fault
     c.in_err-answer-in-Asks.ensures.free few (way.goes told) way.filed turn served (c.take_turn.ensures.attends told).change
-    (λ memory. subst (λ table. SentOrNot c.args.child (reply_frame (exchange_with (shown_of table env) filer1 request)) k1 k2) kept (c.in_err-answer-in-Asks.ensures.sent told (ap Err memory)))).shown
+    (λ memory. subst (λ table. Stops c.args.child (exchange_with (shown_of table env) filer1 request) filer1 c.take_turn.new.filer k1 k2) kept (c.in_err-answer-in-Asks.ensures.sent told (ap Err memory)))).shown
 
 pub returns-in_err-answer-in-Asks-clause-served : goal.returns-in_err-answer-in-Asks-clause-served
 returns-in_err-answer-in-Asks-clause-served g c =
