@@ -125,6 +125,7 @@ module _ (table : TypeTable) (showing : Showing) (filings : Filings) (sent : Fra
       last : (sent' ≡ sent) ⊎ (sent' ≡ sent ++ round_frame showing.env ∷ []) → AreAllButLast sent' (sent ++ frames_with table showing [])
       last (inl same) = inr (round_frame showing.env, ap (λ (s : Frames). s ++ round_frame showing.env ∷ []) same)
       last (inr more) = inl more
+
       first : (sent' ≡ sent) ⊎ (sent' ≡ sent ++ round_frame showing.env ∷ []) → IsFront sent' (sent ++ frames_with table showing whole.exchanges)
       first (inl same) = record { rest = frames_with table showing whole.exchanges; is = ap (λ (s : Frames). s ++ frames_with table showing whole.exchanges) same }
       first (inr more) = record {

@@ -50,7 +50,7 @@ unfoldable pub act_from : Stream → Accepting → Shown → Claim → ℕ → L
 act_from stream accepting shown declared zero sent taken = ends_with (turn_at declared (answer_to stream sent))
 act_from stream accepting shown declared (suc left) sent taken =
     after_turn (turn_at declared (answer_to stream sent))
-        (λ request. go_on (act_from stream accepting shown declared left) sent taken (exchange_of accepting shown taken request))
+    (λ request. go_on (act_from stream accepting shown declared left) sent taken (exchange_of accepting shown taken request))
 
 -- a round that is shown to a child which was sent these frames before
 abbrev pub act_of : Stream → Accepting → Shown → Claim → ℕ → List (List ℕ) → Taken → Act

@@ -45,7 +45,7 @@ unfoldable pub free_session : Stream → Limits → List ℕ → List Shown → 
 free_session stream limits init [] = begun_by init (hello_in (answer_to stream (init ∷ [])))
 free_session stream limits init (shown ∷ earlier) =
     option_and_then (λ begun. after_round begun shown (free_act stream limits begun.claim shown begun.sent))
-        (free_session stream limits init earlier)
+    (free_session stream limits init earlier)
 
 -- what a round of the free talk comes to, behind these
 unfoldable pub free_act_behind : Stream → Limits → List ℕ → Shown → List Shown → Option Act

@@ -3,9 +3,9 @@ ghost use Rattle.std.specs.Prelude.{◌≡◌, OnOk};
 ghost use Rattle.child_session.specs.Notes.{nothing_noted, with_question};
 ghost use Rattle.child_session.specs.Replies.{shown_of};
 
-use named_units::{add_named, gathers, is_wide};
 use apt_base::{List, Names, NoMemory};
 use element_table::Table;
+use named_units::{add_named, gathers, is_wide};
 use round_env::RoundEnv;
 use std::alloc::Global;
 use wire_frames::{Message, Question};

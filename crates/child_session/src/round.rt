@@ -134,12 +134,7 @@ fn answer_of(noted: Noted, claimed: bool) -> Result<Answer, NoMemory>
 }
 
 // The result of a turn where no further question is allowed: a Done ends the round, and a question is one too many.
-fn end_of(
-    declared: Claim,
-    limit: u32,
-    turn: Turn,
-    noted: Noted,
-) -> Result<Answer, SessionFault>
+fn end_of(declared: Claim, limit: u32, turn: Turn, noted: Noted) -> Result<Answer, SessionFault>
     ensures { IsOrMemory result (end_of declared limit turn (answer_from noted (claimed_by turn))) }
 {
     match turn {

@@ -20,7 +20,9 @@ use child_questions::{is_creation_there, is_message_there};
 use element_table::Table;
 use round_env::RoundEnv;
 use std::alloc::Global;
-use wire_frames::{Created, Creation, Frame, FrameFault, Message, Question, Refused, Reply, encode};
+use wire_frames::{
+    Created, Creation, Frame, FrameFault, Message, Question, Refused, Reply, encode,
+};
 
 // The bytes of a reply that is not too large to be sent.
 fn reply_bytes(alloc: Global, reply: Reply) -> Result<List<u8>, NoMemory>
