@@ -20,8 +20,8 @@ HERE = os.path.dirname(os.path.abspath(__file__))
 sys.path.insert(0, os.path.join(HERE, "..", "tests"))
 import generated
 import host
-from host import (BAD_GENERATED, CREATE, DONE_STATUS, ERRORS, GENERATED_DUPLICATE, TOO_MANY_QUESTIONS, UNBUILT_TALK,
-                  Failure, expect)
+from host import (BAD_FRAME, BAD_GENERATED, CREATE, DONE_STATUS, ERRORS, GENERATED_DUPLICATE, TOO_MANY_QUESTIONS, Failure,
+                  expect)
 
 MEMORY_STATUS = 3
 MEMORY = b"refused: Memory\n"
@@ -33,7 +33,10 @@ BUILDS = {
     "printed errors": ([[CREATE, generated.message(generated.ERROR, "bad")], []], ERRORS),
     "a type that is there": ([[generated.create_source("p.E", generated.source_of("p.C"))]], GENERATED_DUPLICATE),
     "a created source that is no Java file": ([[generated.create_source("p.E", b"class")]], BAD_GENERATED),
-    "a frame that is none": ([[[host.say(b"\0\0\0\1\xff")]]], UNBUILT_TALK),
+    "a frame that is none": ([[[host.say(b"\0\0\0\1\xff")]]], BAD_FRAME),
+    "questions, and a note at an element": (
+        [[generated.ROOTS, generated.NAMED, generated.message(generated.NOTE, "n", element=generated.AN_ELEMENT)], []],
+        DONE_STATUS),
 }
 
 

@@ -162,7 +162,7 @@ def an_exception_of_a_processor(project):
     make_greeter(project, lambda program: program.replace("text = ", "text = package[99] + "))
     run = project.run(["build"])
     expect("the output", run.output.decode().splitlines()[1:],
-           ["error: src/hello/World.java:1: [Greeter] IndexError: string index out of range",
+           ["error: [Greeter] IndexError: string index out of range",
             "errors: 2 rounds, 1 errors, 0 warnings"])
     expect("the status", run.status, ERRORS)
     expect("whether the traceback is there", b"Traceback" in run.messages and b"greeter.py" in run.messages, True)

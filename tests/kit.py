@@ -12,6 +12,7 @@ import re
 import subprocess
 import sys
 import tempfile
+import threading
 import unittest
 import urllib.parse
 
@@ -651,15 +652,24 @@ class Conversation(unittest.TestCase):
             environment = dict(os.environ, PYTHONPATH=KIT, PYTHONDONTWRITEBYTECODE="1")
             with subprocess.Popen([sys.executable, path], stdin=subprocess.PIPE, stdout=subprocess.PIPE,
                                   stderr=subprocess.PIPE, env=environment) as child:
-                for sender, data in exchange:
-                    if sender == "host":
-                        child.stdin.write(data)
-                        child.stdin.flush()
-                    else:
-                        self.assertEqual(child.stdout.read(len(data)).hex(), data.hex())
-                output, messages = child.communicate(timeout=SECONDS)
+                # A child that says nothing, or too little, is waited for so long.
+                clock = threading.Timer(SECONDS, child.kill)
+                clock.start()
+                try:
+                    self.play(child, exchange)
+                    output, messages = child.communicate(timeout=SECONDS)
+                finally:
+                    clock.cancel()
         self.assertEqual((output, child.returncode), (b"", status), messages.decode())
         return messages.decode()
+
+    def play(self, child, exchange):
+        for sender, data in exchange:
+            if sender == "host":
+                child.stdin.write(data)
+                child.stdin.flush()
+            else:
+                self.assertEqual(child.stdout.read(len(data)).hex(), data.hex())
 
 
 class ProcessorsRun(Conversation):
