@@ -1,5 +1,7 @@
 -- A round in which one processor after another is asked, as a turn says: what comes of it.
 use Rattle.std.proofs.Common.{◌≡◌, ℕ, zero, suc, ◌<◌, ◌≤◌, Bool, false, List, [], ◌∷◌, ◌++◌, length, Some, Ok, Err, refl, sym, ap, subst, ◌∙◌, arith}
+use Rattle.std.proofs.lemmas.Grind.{common_steps}
+use Rattle.apt_outside.specs.Count.{Rose}
 use Rattle.apt_outside.specs.Child.{Try, State}
 use Rattle.processor_claims.specs.declared.turn.Turn.{Turn}
 use Rattle.processor_claims.specs.Asked.{asked}
@@ -12,13 +14,22 @@ use Rattle.project_units.specs.declared.refusal.Refusal as declared
 use Rattle.round_engine.specs.declared.rounds.Round.{Round}
 use Rattle.project_units.specs.Refusals as stop
 use Rattle.project_units.specs.Refusals.{Stop, exempt_by}
-use Rattle.project_units.specs.Faults.{stop_of}
+use Rattle.project_units.specs.Faults.{stop_of, HasReason}
 use Rattle.round_engine.specs.Run.{Frames, Discovered, Progress, present_in, offered_names, env_of, next_asked, show, ask, round_of}
 use Rattle.round_engine.specs.Fronts.{AreFronts, FrontsBut}
 use Rattle.round_engine.specs.Shown.{Stands, Goes, StopsAs, sent_by, sent_in_step, sent_in_progress, all_sent, standing, shown_discovered}
 use Rattle.round_engine.proofs.AskedInTurn.{Ahead, Underway, ahead_begins, ahead_next, ahead_nobody, ahead_answered, way_begins, step_opened, way_goes, way_stops, way_ends}
 use Rattle.round_engine.proofs.FrontsOfFrames.{fronts_more, ask_fronts, asks_fronts, step_fronts}
 use Rattle.round_engine.proofs.AskedProcessors.{still_theirs, goes_memory}
+
+-- what rose in a later part rose in the whole
+rose_later : (old mid new : ℕ) → old ≤ mid → Rose mid new → Rose old new
+rose_later old mid new later rose = grind (arith, common_steps)
+
+-- A refusal that a later part gave has its reason in the whole.
+pub reason_later : {A B : Type 0} (start before now : ℕ) (refusal : declared.Refusal) → start ≤ before → HasReason {T = A} before now (Err refusal) → HasReason {T = B} start now (Err refusal)
+reason_later start before now refusal first reason =
+    record { later = omega (arith, first, reason.later); failed = λ is. rose_later start before now first (reason.failed is) }
 
 -- A round is under way: its processors stand ready, some have answered, and those that the turn has still to ask are the rest of the list.
 pub record IsAsking (d : code_discovered.Discovered) (r : Round) (p0 : code_progress.Progress) (k0 : State) (processors : List Try) (p : code_progress.Progress) (k : State) (turn : Turn) (claimed : Bool) : Type 0 where

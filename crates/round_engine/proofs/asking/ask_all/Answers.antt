@@ -5,7 +5,7 @@ use Rattle.round_engine.specs.Run.{present_in, offered_names, env_of}
 use Rattle.processor_claims.specs.Turns.{offered, IsWithin}
 use Rattle.round_engine.proofs.AskedInTurn.{within_number, within_names, within_later}
 use Rattle.round_engine.proofs.AskedProcessors.{attends_none, attends_more, round_unbegun}
-use Rattle.round_engine.proofs.TurnsOfARound.{asking_begins, asking_ends, asking_memory, asking_goes, asking_stops}
+use Rattle.round_engine.proofs.TurnsOfARound.{reason_later, asking_begins, asking_ends, asking_memory, asking_goes, asking_stops}
 use Rattle.round_engine.proofs.asking.ask_all.Goals as goal
 
 pub returns-in_err-present-clause-asks : goal.returns-in_err-present-clause-asks
@@ -76,6 +76,22 @@ ask-requires-clause-number g c =
 
 pub ask-requires-clause-lives : goal.ask-requires-clause-lives
 ask-requires-clause-lives g c = subst (λ live. AllByRecursion (Contains live) c.args.run.now.group) (sym c.loop-number.invariant.live) c.requires.lives
+
+pub returns-in_err-claimed-clause-reason : goal.returns-in_err-claimed-clause-reason
+returns-in_err-claimed-clause-reason g c =
+    let e = err_from_is_err_and c.from_residual-in_err-claimed.result c.from_residual-in_err-claimed.ensures.1 in
+    rw (e.1, e.2) (reason_later (g.C.Children.faults c.args.children.now) (g.C.Children.faults c.loop-number.children) (g.C.Children.faults c.ask.new.children) _
+    c.loop-number.invariant.later c.in_err-claimed.ensures.reason)
+
+pub returns-in_err-claimed-clause-named : goal.returns-in_err-claimed-clause-named
+returns-in_err-claimed-clause-named g c =
+    let e = err_from_is_err_and c.from_residual-in_err-claimed.result c.from_residual-in_err-claimed.ensures.1 in
+    rw (e.1, e.2) c.in_err-claimed.ensures.named
+
+pub returns-in_err-claimed-clause-due : goal.returns-in_err-claimed-clause-due
+returns-in_err-claimed-clause-due g c =
+    let e = err_from_is_err_and c.from_residual-in_err-claimed.result c.from_residual-in_err-claimed.ensures.1 in
+    rw (e.1, e.2) c.in_err-claimed.ensures.due
 
 pub returns-in_err-claimed-clause-asks : goal.returns-in_err-claimed-clause-asks
 returns-in_err-claimed-clause-asks g c = λ told processors stands.
