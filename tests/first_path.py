@@ -391,6 +391,26 @@ def a_child_that_ends_inside_a_frame(project):
 
 
 @case
+def a_child_that_closes_its_output(project):
+    # It lives on: in the first two cases until its input ends, and in the third one for a second more.
+    run = refused(project, project.scripted(["read", "mute", "rest"]), CHILD_ENDED, "ChildEnded(maker, 0)")
+    says(run, "processor maker: frame at offset 0: end of stream after 0 bytes of it")
+    steps = ["read", say(HELLO), "read", say(CREATE[:-1]), "mute", "rest"]
+    refused(project, project.scripted(steps), CHILD_ENDED, f"ChildEnded(maker, {len(CREATE) - 1})")
+    start = time.monotonic()
+    refused(project, project.scripted(["read", "mute", "rest", "wait:1"]), CHILD_ENDED, "ChildEnded(maker, 0)")
+    expect("whether the host waited for it", time.monotonic() - start >= 1, True)
+
+
+@case
+def a_child_that_closes_its_output_at_the_end(project):
+    run = project.run(project.scripted(CREATES[:-1] + ["mute", "rest"]))
+    expect("the output", run.output, REPORT_OF_ONE_FILE)
+    expect("the status", run.status, DONE_STATUS)
+    says(run)
+
+
+@case
 def a_child_that_closes_its_input_before_the_last_round(project):
     steps = CREATES[:5] + ["deaf", say(DONE)]
     run = refused(project, project.scripted(steps), CHILD_FAULT, "ChildFault(maker)")
@@ -545,10 +565,15 @@ def a_star_by_the_shell(project):
     # The command prints its three frames at once, and reads what it is sent.
     shutil.rmtree(project.path("src"))
     says_all = by_hand("0000000f 40 00000001 00000001 2a 00000000 01" + 2 * "00000002 41 00")
-    printed = "".join(f"\\{byte:03o}" for byte in says_all)
-    run = project.run(project.with_command(["sh", "-c", f"printf '{printed}'; cat > /dev/null"], "star"))
+    run = project.run(project.with_command(by_the_shell(says_all, "/dev/null"), "star"))
     expect("the output", run.output, REPORT_OF_NO_FILE)
     expect("the status", run.status, DONE_STATUS)
+
+
+def by_the_shell(says_all, record):
+    """The command of a child that writes all this at once, and what it reads to a file. It starts sooner than a script."""
+    printed = "".join(f"\\{byte:03o}" for byte in says_all)
+    return ["sh", "-c", f"printf '{printed}'; exec cat > {record}"]
 
 
 @case
@@ -712,6 +737,20 @@ def sixty_four_processors(project):
     expect("the output", run.output, report(64, "done: 2 rounds, 0 files, 0 errors, 0 warnings"))
     for name in names[1:]:
         expect(f"what {name} was sent", project.sent(name), frames.init(name))
+
+
+@case
+def sixty_processors_that_all_ask(project):
+    names = [f"n{number:02}" for number in range(60)]
+    roots = frames.frame(frames.ROOTS)
+    said = {name: VARIES + roots + frames.create_resource(name, b"hi") + CLAIMS_NOTHING + roots + CLAIMS_NOTHING for name in names}
+    project.configure({name: by_the_shell(said[name], name) for name in names})
+    run = project.run(["build"])
+    created = [f"file CLASS_OUTPUT/{name} 2" for name in names]
+    expect("the output", run.output, report(60, *created, "done: 2 rounds, 60 files, 0 errors, 0 warnings"))
+    for name in names:
+        expect(f"what {name} was sent", project.sent(name), b"".join([
+            frames.init(name), FIRST_ROUND, frames.elements("p.C"), ACCEPTED, LAST_ROUND, frames.elements()]))
 
 
 # What is said beside the line of a refusal.

@@ -5,8 +5,11 @@ fill that length. Numbers have their big end first. Processors use kits/python, 
 """
 
 # The tags of what the host sends, and of what a processor sends.
-INIT, ROUND, CREATED, NOTED = 1, 2, 23, 24
+INIT, ROUND, ELEMENTS, CREATED, NOTED = 1, 2, 16, 23, 24
 HELLO, DONE, CREATE_SOURCE, CREATE_RESOURCE, CREATE_CLASS, MESSAGE = 64, 65, 66, 67, 68, 69
+
+# Questions: about a name, about an element, and one about nothing.
+TYPE_ELEMENT, ANNOTATED_WITH, ASK_INFO, ENCLOSED, PARAMETERS, ROOTS = 80, 114, 82, 84, 86, 115
 
 # The answers to a creation, the locations of a file, the kinds of a message, and the one claim.
 ACCEPTED, EXISTS, UNSUPPORTED, BAD_NAME, TOO_LARGE = range(5)
@@ -42,6 +45,10 @@ NO_ORIGINS = number_field(0)
 NO_ELEMENT = bytes([0])
 
 
+def element_field(unit, *path):
+    return text_field(unit) + number_field(len(path)) + b"".join(step.to_bytes(2, "big") for step in path)
+
+
 def frame(tag, fields=b""):
     return bytes_field(bytes([tag]) + fields)
 
@@ -58,6 +65,11 @@ def init(name, options=()):
 
 def round_frame(number, roots, offered=(), over=False, error=False):
     return frame(ROUND, number_field(number) + bytes([over, error]) + texts_field(offered) + texts_field(roots))
+
+
+def elements(*units):
+    """The reply with the types, or packages, that these units are."""
+    return frame(ELEMENTS, number_field(len(units)) + b"".join(element_field(unit) for unit in units))
 
 
 def created(answer):
@@ -94,6 +106,14 @@ def create_class(name, content, origins=NO_ORIGINS):
 
 def message(kind, text, element=NO_ELEMENT):
     return frame(MESSAGE, bytes([kind]) + element + text_field(text))
+
+
+def about_name(question, name):
+    return frame(question, text_field(name))
+
+
+def about_element(question, unit, *path):
+    return frame(question, element_field(unit, *path))
 
 
 # How fields are read.

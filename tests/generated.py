@@ -681,6 +681,109 @@ def elements_of_creations_and_messages(project):
     expect("the output", run.output, report("note: [maker] n", "file CLASS_OUTPUT/x 2", done(2, 1)))
 
 
+NO_ELEMENT, WRONG_KIND = by_hand("00000002 19 00"), by_hand("00000002 19 01")
+
+# What a class is that is in the package p.
+INFO_OF_C, INFO_OF_D = (by_hand(f"00000011 11 02 0000 00000001 {letter} 00000003 702e{letter} 00") for letter in ("43", "44"))
+
+
+def type_named(name):
+    return spelling.about_name(spelling.TYPE_ELEMENT, name)
+
+
+def info_of(unit, *path):
+    return spelling.about_element(spelling.ASK_INFO, unit, *path)
+
+
+ANNOTATED = spelling.about_name(spelling.ANNOTATED_WITH, "q.A")
+TYPES_OF_THE_PACKAGE = spelling.about_element(spelling.ENCLOSED, "p.package-info")
+
+
+@case
+def questions_written_out(_project):
+    for spelled, digits in [(NAMED, type_named("x.Y").hex()), (ROOTS, spelling.frame(spelling.ROOTS).hex()),
+                            (ROOT, spelling.elements("p.C").hex()), (NONE_OF_THE_NAME, spelling.elements().hex()),
+                            (info_of("p.C", 1), "0000000e 52 00000003 702e43 00000001 0001"),
+                            (ANNOTATED, "00000008 72 00000003 712e41")]:
+        expect("a frame", spelled.hex(), digits.replace(" ", ""))
+
+
+@case
+def refused_questions_between_others(project):
+    parameters = spelling.about_element(spelling.PARAMETERS, "p.C")
+    asked = [info_of("x.Y"), info_of("p.C"), info_of("p.C", 1), parameters, CREATE, info_of("x.Y"), type_named("p.C")]
+    wanted = [NO_ELEMENT, INFO_OF_C, NO_ELEMENT, WRONG_KIND, ACCEPTED, NO_ELEMENT, ROOT]
+    run = answers(project, asked, wanted)
+    expect("the output", run.output, report("file CLASS_OUTPUT/x 2", done(2, 1)))
+
+
+@case
+def created_sources_are_asked_about_from_the_next_round_on(project):
+    first = [create_source("p.D"), type_named("p.D"), info_of("p.D"), ANNOTATED, TYPES_OF_THE_PACKAGE]
+    second = [type_named("p.D"), info_of("p.D"), ROOTS, ANNOTATED, TYPES_OF_THE_PACKAGE, create_source("p.E"),
+              type_named("p.E")]
+    last = [type_named("p.E"), ROOTS, ANNOTATED, TYPES_OF_THE_PACKAGE]
+    none, d, e = NONE_OF_THE_NAME, spelling.elements("p.D"), spelling.elements("p.E")
+    files = {f"SOURCE_OUTPUT/p/{name}.java": source_of(f"p.{name}") for name in "DE"}
+    publishes(project, [first, second, [ROOTS, info_of("p.C")], last], [*file_lines(files), done(4, 2)], files,
+              sent=[FIRST_ROUND, ACCEPTED, none, NO_ELEMENT, ROOT, ROOT,
+                    round_frame(2, ["p.D"]), d, INFO_OF_D, d, d, spelling.elements("p.C", "p.D"), ACCEPTED, none,
+                    round_frame(3, ["p.E"]), e, INFO_OF_C,
+                    last_round(4), e, none, none, spelling.elements("p.C", "p.D", "p.E")])
+
+
+@case
+def ten_thousand_questions_in_a_round(project):
+    some = [(ROOTS, ROOT), (NAMED, NONE_OF_THE_NAME), (info_of("p.C"), INFO_OF_C), (info_of("x.Y"), NO_ELEMENT),
+            (TYPES_OF_THE_PACKAGE, ROOT)]
+    asked, wanted = (b"".join(frames) for frames in zip(*some))
+    project.write("asked", asked * 2000)
+    run = answers(project, [["exchange:" + project.path("asked")]], [wanted * 2000])
+    expect("the output", run.output, report(done(2, 0)))
+
+
+@case
+def frames_of_megabytes_to_and_fro(project):
+    names = [f"p.C{number:04}{'x' * 1017}" for number in range(3000)]
+    lines = [f"@q.A class {name[2:]} {{}}\n" for name in names]
+    project.write("src/p/C.java", "".join(["package p;\n", *lines]).encode())
+    project.write("asked", b"".join([create_resource("x", b"x" * (LONGEST + 1)), ROOTS, ANNOTATED, create_resource("x", b"x" * LONGEST)]))
+    elements = spelling.elements(*names)
+    publishes(project, [[["exchange:" + project.path("asked")]], []], [f"file CLASS_OUTPUT/x {LONGEST}", done(2, 1)],
+              {"CLASS_OUTPUT/x": b"x" * LONGEST},
+              sent=[round_frame(1, names), TOO_LARGE, elements, elements, ACCEPTED, LAST_ROUND])
+
+
+# What is written behind Done is read as the beginning of what answers the next round.
+
+
+def with_done(frame):
+    return [say(DONE + frame), "read"]
+
+
+@case
+def what_is_written_behind_done(project):
+    files = {f"SOURCE_OUTPUT/p/{name}.java": source_of(f"p.{name}") for name in "DE"}
+    steps = ["read", say(HELLO), "read", say(create_source("p.D")), "read", *with_done(create_source("p.E") + type_named("p.D")),
+             "read", "read", *with_done(message(NOTE, "n")), "read", say(DONE), "read", say(DONE), "rest"]
+    run = project.run(project.scripted(steps))
+    expect("the output", run.output, report("note: [maker] n", *file_lines(files), done(4, 2)))
+    expect("the status", run.status, DONE_STATUS)
+    expect("what the child was sent", project.sent(), b"".join([
+        INIT, FIRST_ROUND, ACCEPTED, round_frame(2, ["p.D"]), ACCEPTED, spelling.elements("p.D"),
+        round_frame(3, ["p.E"]), NOTED, last_round(4)]))
+
+
+@case
+def what_is_no_talk_behind_done(project):
+    for frame, status, refusal in [(HELLO, WRONG_FRAME, "WrongFrame(maker, 64)"),
+                                   (by_hand("00000001 77"), BAD_FRAME, "BadFrame(maker, 4, Tag)")]:
+        refused(project, project.scripted(["read", say(HELLO), "read", say(DONE + frame), "rest"]), status, refusal)
+        expect("what the child was sent", project.sent(), INIT + FIRST_ROUND + LAST_ROUND)
+    run = project.run(project.scripted(["read", say(HELLO), "read", say(DONE), "read", say(DONE + HELLO), "rest"]))
+    expect("the output", run.output, report(done(2, 0)))
+
+
 # Frames that are none of these, or not in this order.
 
 NO_TEXT = spelling.bytes_field(b"\xff")

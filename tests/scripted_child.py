@@ -10,10 +10,12 @@ It writes its process number to RECORD.pid, and all bytes that it reads to RECOR
     spell:HEX     writes these bytes one by one
     ask:COUNT:HEX writes these bytes COUNT times, and reads a frame for each time; at most 1,000 are on their way
     make:FILE     writes the bytes of a file
+    exchange:FILE writes the frames of a file one by one, and reads a frame whole behind each
     flood:COUNT   writes that many bytes that nobody asked for
     complain:TEXT writes a line to its standard error
     streams       writes what the host's three standard streams are to RECORD.streams, each in a line
     deaf          closes its input
+    mute          closes its output
     wait:SECONDS  does nothing for that long
     until:FILE    does nothing until this file has a byte
 """
@@ -67,6 +69,12 @@ class Child:
         with open(name, "rb") as file:
             give(file.read())
 
+    def exchange(self, name):
+        with open(name, "rb") as file:
+            while head := file.read(4):
+                give(head + file.read(int.from_bytes(head, "big")))
+                self.read()
+
     def flood(self, count):
         give(b"x" * int(count))
 
@@ -80,6 +88,9 @@ class Child:
 
     def deaf(self):
         os.close(0)
+
+    def mute(self):
+        os.close(1)
 
     def wait(self, seconds):
         time.sleep(float(seconds))
