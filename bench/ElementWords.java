@@ -10,6 +10,7 @@ import java.util.stream.Collectors;
 import javax.lang.model.element.Element;
 import javax.lang.model.element.ElementKind;
 import javax.lang.model.element.ExecutableElement;
+import javax.lang.model.element.PackageElement;
 import javax.lang.model.element.Parameterizable;
 import javax.lang.model.element.TypeElement;
 import javax.lang.model.element.TypeParameterElement;
@@ -21,7 +22,7 @@ import javax.lang.model.type.TypeVariable;
 import javax.lang.model.type.WildcardType;
 import javax.lang.model.util.Elements;
 
-/** Elements and types of javac in the words of the tables {@code type_cases} and {@code value_cases}. */
+/** Elements and types of javac in the words of the tables {@code type_cases} and {@code value_cases}. Elements have these words in all tables. */
 final class ElementWords {
     private final Elements elements;
     private final Trees trees;
@@ -46,7 +47,10 @@ final class ElementWords {
         return trees.getSourcePositions().getStartPosition(path.getCompilationUnit(), path.getLeaf());
     }
 
-    /** The members in the order in which they are written, the default constructor last. javac has it first, and types before other members. */
+    /**
+     * The members in the order in which they are written, and behind them what the language adds: the default constructor, {@code values} and
+     * {@code valueOf}. javac has these first, the constructor behind the methods, and types before other members.
+     */
     List<Element> members(TypeElement of) {
         return members.computeIfAbsent(of, this::sorted);
     }
@@ -55,7 +59,8 @@ final class ElementWords {
         List<Element> sorted = new ArrayList<>(of.getEnclosedElements());
         Map<Element, Long> places = new HashMap<>();
         sorted.forEach(each -> places.put(each, place(each)));
-        sorted.sort(Comparator.comparing(places::get));
+        sorted.sort(Comparator.<Element, Long>comparing(places::get)
+                .thenComparing(each -> places.get(each) == Long.MAX_VALUE && each.getKind() == ElementKind.METHOD));
         for (int at = 0; at < sorted.size(); at++) {
             steps.put(sorted.get(at), at);
         }
@@ -78,7 +83,8 @@ final class ElementWords {
     /** An element: its unit and the steps of its path. */
     String element(Element of) {
         if (of.getKind() == ElementKind.PACKAGE) {
-            return of + ".package-info";
+            String name = ((PackageElement) of).getQualifiedName().toString();
+            return name.isEmpty() ? "package-info" : name + ".package-info";
         }
         if (of instanceof TypeElement && of.getEnclosingElement().getKind() == ElementKind.PACKAGE) {
             return ((TypeElement) of).getQualifiedName().toString();

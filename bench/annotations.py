@@ -576,7 +576,7 @@ def write(folder, texts):
 def command(folder, tools):
     java = os.path.join(tools, "java") if tools else "java"
     classes = tempfile.mkdtemp(dir=folder)
-    sources = [os.path.join(jdk.HERE, name + ".java") for name in ("Javac", "ElementWords", "AnnotationBench")]
+    sources = [os.path.join(jdk.HERE, name + ".java") for name in ("Javac", "ElementWords", "AnnotationFacts", "AnnotationBench")]
     subprocess.run([os.path.join(tools, "javac") if tools else "javac", "-d", classes, *sources], check=True)
     return [java, "-Xmx2g", "-XX:+UseSerialGC", "-cp", classes]
 
