@@ -14,7 +14,7 @@ the child's first frame to its last one, by its clock.
   question once; and then the same questions over and over, 100,000 in all.
 - `builder`: the processor of examples/builder, in Python, makes builders for the 1,000 classes. What it takes, and what the host
   takes beside it, is the time by the processor; how many frames it sends is counted in it.
-- `large`: one round of 103 MB: 50,000 annotation interfaces with names of 1,024 bytes, each on itself.
+- `large`: one round of 103 MB: 50,000 annotation interfaces with names of 1,024 bytes, 50 in a file, each on itself.
 
 A class of the project has five fields, a constructor of them, two methods and a superclass, four of which are one below the other.
 No test depends on these figures.
@@ -44,7 +44,7 @@ PARTS = ("one", "mixed", "builder", "large")
 BUILDER = os.path.join(ROOT, "examples", "builder")
 
 # The types and the longest names that a project may have.
-MOST_TYPES, LONGEST_NAME = 50_000, 1_024
+MOST_TYPES, LONGEST_NAME, IN_A_FILE = 50_000, 1_024, 50
 
 CLASS = """package {package};
 
@@ -122,10 +122,13 @@ def many_classes():
 
 
 def long_names():
-    """Annotation interfaces with names as long as they may be, each on itself."""
+    """Annotation interfaces with names as long as they may be, each on itself, some in a file."""
     package = "p" * (LONGEST_NAME - len(".A00000"))
-    types = "".join(f"@A{at:05} @interface A{at:05} {{}}\n" for at in range(MOST_TYPES))
-    return {"src/A.java": f"package {package};\n{types}"}
+    texts = {}
+    for first in range(0, MOST_TYPES, IN_A_FILE):
+        types = "".join(f"@A{at:05} @interface A{at:05} {{}}\n" for at in range(first, first + IN_A_FILE))
+        texts[f"src/A{first}.java"] = f"package {package};\n{types}"
+    return texts
 
 
 class Project:
@@ -207,15 +210,22 @@ def median(runs, value):
     return statistics.median(getattr(run, value) for run in runs)
 
 
+def told(runs, questions):
+    """What the child waited, the median and the least, and what the host and the child took by the processor."""
+    least = min(run.waited for run in runs)
+    return (f"{median(runs, 'waited'):.3f} s, at least {least:.3f} s ({least / questions * 1e6:.1f} us each), by the processor "
+            f"{median(runs, 'by_host'):.3f} s and {median(runs, 'by_child'):.3f} s")
+
+
 def tell(what, pairs, goal=""):
-    """A line: what the child waited below each host, and what each host took by the processor."""
+    """Lines on the child below each host, and how many times as long it waited below PROGRAM."""
     hosts, others = zip(*pairs)
     questions = hosts[0].frames - 3
-    ratio = statistics.median(host.waited / other.waited for host, other in pairs)
-    print(f"{what}: {questions:,} questions in {median(hosts, 'waited'):.3f} s ({median(hosts, 'waited') / questions * 1e6:.1f} us each), "
-          f"by the processor {median(hosts, 'by_host'):.3f} s of the host and {median(hosts, 'by_child'):.3f} s of the child; "
-          f"the same frames without the host {median(others, 'waited'):.3f} s, {median(others, 'by_host'):.3f} s and "
-          f"{median(others, 'by_child'):.3f} s; {ratio:.2f} times as long{goal}", flush=True)
+    medians = median(hosts, "waited") / median(others, "waited")
+    least = min(run.waited for run in hosts) / min(run.waited for run in others)
+    used = [median(runs, "by_host") + median(runs, "by_child") for runs in (hosts, others)]
+    print(f"{what}: {questions:,} questions in {told(hosts, questions)}; the same frames without the host {told(others, questions)}")
+    print(f"{what}: {medians:.2f} times as long, the least {least:.2f} times{goal}; by the processor {used[0] / used[1]:.2f} times", flush=True)
 
 
 def over_and_over(questions, count):
