@@ -681,10 +681,11 @@ def elements_of_creations_and_messages(project):
     expect("the output", run.output, report("note: [maker] n", "file CLASS_OUTPUT/x 2", done(2, 1)))
 
 
-NO_ELEMENT, WRONG_KIND = by_hand("00000002 19 00"), by_hand("00000002 19 01")
+WRONG_KIND = by_hand("00000002 19 01")
 
 # What a class is that is in the package p.
-INFO_OF_C, INFO_OF_D = (by_hand(f"00000011 11 02 0000 00000001 {letter} 00000003 702e{letter} 00") for letter in ("43", "44"))
+INFO_OF_C, INFO_OF_D = (by_hand(f"00000011 11 02 0000 00000001 {letter} 00000003 702e{letter} 00")
+                        for letter in ("43", "44"))
 
 
 def type_named(name):
@@ -712,7 +713,7 @@ def questions_written_out(_project):
 def refused_questions_between_others(project):
     parameters = spelling.about_element(spelling.PARAMETERS, "p.C")
     asked = [info_of("x.Y"), info_of("p.C"), info_of("p.C", 1), parameters, CREATE, info_of("x.Y"), type_named("p.C")]
-    wanted = [NO_ELEMENT, INFO_OF_C, NO_ELEMENT, WRONG_KIND, ACCEPTED, NO_ELEMENT, ROOT]
+    wanted = [NO_SUCH, INFO_OF_C, NO_SUCH, WRONG_KIND, ACCEPTED, NO_SUCH, ROOT]
     run = answers(project, asked, wanted)
     expect("the output", run.output, report("file CLASS_OUTPUT/x 2", done(2, 1)))
 
@@ -726,7 +727,7 @@ def created_sources_are_asked_about_from_the_next_round_on(project):
     none, d, e = NONE_OF_THE_NAME, spelling.elements("p.D"), spelling.elements("p.E")
     files = {f"SOURCE_OUTPUT/p/{name}.java": source_of(f"p.{name}") for name in "DE"}
     publishes(project, [first, second, [ROOTS, info_of("p.C")], last], [*file_lines(files), done(4, 2)], files,
-              sent=[FIRST_ROUND, ACCEPTED, none, NO_ELEMENT, ROOT, ROOT,
+              sent=[FIRST_ROUND, ACCEPTED, none, NO_SUCH, ROOT, ROOT,
                     round_frame(2, ["p.D"]), d, INFO_OF_D, d, d, spelling.elements("p.C", "p.D"), ACCEPTED, none,
                     round_frame(3, ["p.E"]), e, INFO_OF_C,
                     last_round(4), e, none, none, spelling.elements("p.C", "p.D", "p.E")])
@@ -734,7 +735,7 @@ def created_sources_are_asked_about_from_the_next_round_on(project):
 
 @case
 def ten_thousand_questions_in_a_round(project):
-    some = [(ROOTS, ROOT), (NAMED, NONE_OF_THE_NAME), (info_of("p.C"), INFO_OF_C), (info_of("x.Y"), NO_ELEMENT),
+    some = [(ROOTS, ROOT), (NAMED, NONE_OF_THE_NAME), (info_of("p.C"), INFO_OF_C), (info_of("x.Y"), NO_SUCH),
             (TYPES_OF_THE_PACKAGE, ROOT)]
     asked, wanted = (b"".join(frames) for frames in zip(*some))
     project.write("asked", asked * 2000)
@@ -747,7 +748,8 @@ def frames_of_megabytes_to_and_fro(project):
     names = [f"p.C{number:04}{'x' * 1017}" for number in range(3000)]
     lines = [f"@q.A class {name[2:]} {{}}\n" for name in names]
     project.write("src/p/C.java", "".join(["package p;\n", *lines]).encode())
-    project.write("asked", b"".join([create_resource("x", b"x" * (LONGEST + 1)), ROOTS, ANNOTATED, create_resource("x", b"x" * LONGEST)]))
+    too_long, longest = (create_resource("x", b"x" * count) for count in (LONGEST + 1, LONGEST))
+    project.write("asked", b"".join([too_long, ROOTS, ANNOTATED, longest]))
     elements = spelling.elements(*names)
     publishes(project, [[["exchange:" + project.path("asked")]], []], [f"file CLASS_OUTPUT/x {LONGEST}", done(2, 1)],
               {"CLASS_OUTPUT/x": b"x" * LONGEST},
@@ -764,8 +766,9 @@ def with_done(frame):
 @case
 def what_is_written_behind_done(project):
     files = {f"SOURCE_OUTPUT/p/{name}.java": source_of(f"p.{name}") for name in "DE"}
-    steps = ["read", say(HELLO), "read", say(create_source("p.D")), "read", *with_done(create_source("p.E") + type_named("p.D")),
-             "read", "read", *with_done(message(NOTE, "n")), "read", say(DONE), "read", say(DONE), "rest"]
+    behind = with_done(create_source("p.E") + type_named("p.D"))
+    steps = ["read", say(HELLO), "read", say(create_source("p.D")), "read", *behind, "read", "read",
+             *with_done(message(NOTE, "n")), "read", say(DONE), "read", say(DONE), "rest"]
     run = project.run(project.scripted(steps))
     expect("the output", run.output, report("note: [maker] n", *file_lines(files), done(4, 2)))
     expect("the status", run.status, DONE_STATUS)
