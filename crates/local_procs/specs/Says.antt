@@ -1,0 +1,112 @@
+-- What a child with one of the four processors says to the frames of its host, one frame to each.
+use Rattle.std.specs.Prelude.{ℕ, zero, suc, Bool, true, false, List, [], ◌∷◌, ◌++◌, codes, length, flat_map, Option, None, Some, Result, Ok, Err, if◌then◌else◌}
+use Rattle.std.specs.List.{list_any}
+use Rattle.std.specs.Str.{bytes_eq}
+use Rattle.apt_base.specs.declared.element.ElementRef.{ElementRef}
+use Rattle.apt_base.specs.declared.kinds.Claim.{Claim}
+use Rattle.apt_base.specs.declared.kinds.Claim.TheVariants.{Always, Never, Varies}
+use Rattle.wire_frames.specs.Frames.{spelling}
+use Rattle.wire_frames.specs.declared.frame.Frame.{Frame}
+use Rattle.wire_frames.specs.declared.frame.Frame.TheVariants as frame
+use Rattle.wire_frames.specs.declared.frame.Hello.{Hello}
+use Rattle.wire_frames.specs.declared.reply.Reply.{Reply}
+use Rattle.frame_stream.specs.Streams.{frame_at}
+use Rattle.frame_breaches.specs.declared.breach.Breach.{Breach}
+use Rattle.frame_breaches.specs.Breaches.{stray}
+use Rattle.local_procs.specs.declared.local.Local.{Local}
+use Rattle.local_procs.specs.declared.local.Local.TheVariants.{Checker}
+use Rattle.local_procs.specs.Plans.{Plan, Ends, Sends, sendable, each_of}
+use Rattle.local_procs.specs.Contents.{elements_in, roots_frame}
+use Rattle.local_procs.specs.Checker.{checked}
+use Rattle.local_procs.specs.Stages.{plan_for}
+
+-- ---- Hello
+
+-- the annotation that it supports
+abbrev pub annotation_of : Local → List ℕ
+annotation_of Checker = checked
+
+abbrev pub options_of : Local → List (List ℕ)
+options_of Checker = []
+
+abbrev pub claim_of : Local → Claim
+claim_of Checker = Never
+
+abbrev pub hello_of : Local → Hello
+hello_of local = record { patterns = annotation_of local ∷ []; options = options_of local; claim = claim_of local }
+
+-- what each of its Dones says
+abbrev pub is_claiming : Claim → Bool
+is_claiming Always = true
+is_claiming Never = false
+is_claiming Varies = false
+
+-- ---- a round
+
+abbrev pub is_offered : List ℕ → List (List ℕ) → Bool
+is_offered name offered = list_any (bytes_eq name) offered
+
+unfoldable pub after_roots : Local → Reply → Plan
+after_roots local answer = each_of (plan_for local) (elements_in answer)
+
+-- of one that goes from root to root, by whether its annotation is offered
+abbrev pub goes : Local → Bool → Plan
+goes local true = Sends roots_frame (after_roots local)
+goes local false = Ends
+
+-- ---- one frame after another
+
+-- where a child stands: before Init, between rounds, or waiting for a reply
+pub data At : Type 0 where
+  Unbegun : At
+  Rests : At
+  Waits : (Reply → Plan) → At
+
+-- what it says, and where it stands then
+abbrev pub Answer : Type 0
+Answer = Frame × At
+
+abbrev pub done_frame : Local → Frame
+done_frame local = frame.Done (is_claiming (claim_of local))
+
+abbrev pub answer_by : Local → Plan → Answer
+answer_by local Ends = (done_frame local, Rests)
+answer_by local (Sends sent go) = (sent, Waits go)
+
+abbrev pub goes_on : Local → Plan → Result Answer Breach
+goes_on local plan = Ok (answer_by local (sendable plan))
+
+-- Init comes first, then rounds, and replies within a round. Any other frame leaves the protocol.
+unfoldable pub step : Local → At → Frame → Result Answer Breach
+step local Unbegun (frame.Init init) = Ok (frame.Hello (hello_of local), Rests)
+step local Rests (frame.Round number over error offered roots) = goes_on local (goes local (is_offered (annotation_of local) offered))
+step local (Waits go) (frame.Reply answer) = goes_on local (go answer)
+step local at other = Err (stray other)
+
+-- ---- streams
+
+abbrev pub said_with : (At → List Frame) → Result Answer Breach → List Frame
+said_with go (Ok answer) = answer.0 ∷ go answer.1
+said_with go (Err breach) = []
+
+-- what it says to these frames, one after another; behind one that may not come it says nothing more
+unfoldable pub said : Local → At → List Frame → List Frame
+said local at [] = []
+said local at (frame ∷ frames) = said_with (λ next. said local next frames) (step local at frame)
+
+abbrev pub frames_by : (List ℕ → List Frame) → Option (Frame × List ℕ) → List Frame
+frames_by go None = []
+frames_by go (Some first) = first.0 ∷ go first.1
+
+-- at most this many whole frames in front of these bytes
+unfoldable pub frames_within : ℕ → List ℕ → List Frame
+frames_within zero bytes = []
+frames_within (suc n) bytes = frames_by (frames_within n) (frame_at bytes)
+
+-- all that are there, since each takes a byte or more
+abbrev pub frames_in : List ℕ → List Frame
+frames_in bytes = frames_within (length bytes) bytes
+
+-- all that it writes once it has read these bytes
+unfoldable pub says : Local → List ℕ → List ℕ
+says local bytes = flat_map spelling (said local Unbegun (frames_in bytes))

@@ -1,0 +1,53 @@
+-- What a processor does by the reply for which it waits, of the root that it handles.
+use Rattle.std.specs.Prelude.{◌≡◌, ℕ, ◌<◌, Option, None, Some}
+use Rattle.apt_base.specs.declared.element.ElementRef.{ElementRef}
+use Rattle.wire_frames.specs.declared.frame.Frame.{Frame}
+use Rattle.wire_frames.specs.declared.reply.Reply.{Reply}
+use Rattle.local_procs.specs.declared.checker.CheckStage.{CheckStage}
+use Rattle.local_procs.specs.declared.checker.CheckStage.TheVariants as checks
+use Rattle.local_procs.specs.declared.local.Local.{Local}
+use Rattle.local_procs.specs.declared.local.Local.TheVariants as locals
+use Rattle.local_procs.specs.declared.stage.Stage.{Stage}
+use Rattle.local_procs.specs.declared.stage.Stage.TheVariants as stages
+use Rattle.local_procs.specs.Plans.{Plan, Sends, Ends}
+use Rattle.local_procs.specs.Checker as checker
+
+-- a step: nothing more is sent for the root, or a frame is
+abbrev pub Step : Type 0 → Type 0
+Step S = Option (Frame × S)
+
+-- go says how a stage goes on
+abbrev pub plan_by : {S : Type 0} → (S → Reply → Plan) → Step S → Plan
+plan_by go None = Ends
+plan_by go (Some x) = Sends x.0 (go x.1)
+
+-- the stage that follows is nearer to the end
+abbrev pub Falls : {S : Type 0} → (S → ℕ) → ℕ → Step S → Type 0
+Falls rank before None = Unit {0}
+Falls rank before (Some x) = rank x.1 < before
+
+-- ---- checker
+
+abbrev pub check_go : ElementRef → CheckStage → Reply → Plan
+check_go root checks.Info = checker.after_info root
+check_go root (checks.Annotations simple) = checker.after_annotations root simple
+check_go root checks.Comment = checker.after_comment root
+check_go root checks.Last = checker.after_last
+
+abbrev pub check_rank : CheckStage → ℕ
+check_rank checks.Info = 3
+check_rank (checks.Annotations simple) = 2
+check_rank checks.Comment = 1
+check_rank checks.Last = 0
+
+-- ---- all
+
+abbrev pub go_of : ElementRef → Stage → Reply → Plan
+go_of root (stages.Checks stage) = check_go root stage
+
+abbrev pub rank_of : Stage → ℕ
+rank_of (stages.Checks stage) = check_rank stage
+
+-- what a processor does for a root
+abbrev pub plan_for : Local → ElementRef → Plan
+plan_for locals.Checker root = checker.checks root

@@ -1,0 +1,139 @@
+// A child with one of the processors, frame by frame.
+ghost use Rattle.std.specs.Prelude.{◌≡◌, IfOk, option_map};
+ghost use Rattle.std.specs.List.{list_any};
+ghost use Rattle.std.specs.Str.{bytes_eq};
+ghost use Rattle.local_procs.specs.Plans.{Ends, sendable};
+ghost use Rattle.local_procs.specs.Says.{annotation_of, hello_of, is_offered, after_roots, done_frame, answer_by, goes};
+ghost use Rattle.local_procs.specs.Says.{step};
+ghost use Rattle.local_procs.specs.Walks.{plan_of_walk};
+ghost use Rattle.local_procs.specs.Places.{at_of, shown, answer_of};
+
+use crate::Local;
+use crate::contents::{elements_in, frame_of_roots};
+use crate::walk::{Walk, walk_by, walk_on};
+use apt_base::{Claim, List, Name, NoMemory};
+use frame_breaches::{Breach, stray};
+use std::alloc::Global;
+use wire_frames::{Frame, Hello, Refused, Reply, is_too_large};
+
+/// Where a child stands.
+#[derive(Drop)]
+pub(crate) enum Place {
+    /// Nothing came yet.
+    Unbegun,
+    /// Between rounds.
+    Rests,
+    /// It waits for the roots of its round.
+    Roots,
+    /// It goes from root to root.
+    Walks(Walk),
+}
+
+/// A frame that a child sends, and where it stands then.
+pub(crate) type Said = (Frame, Place);
+
+// The annotation that a processor supports.
+fn annotation_of(local: Local) -> &'static str
+    ensures { result.now ≡ annotation_of local }
+{
+    match local {
+        Local::Checker => "apt.demo.Checked",
+    }
+}
+
+fn hello_of(alloc: Global, local: Local) -> Result<Hello, NoMemory>
+    ensures { IfOk result (λ hello. hello ≡ hello_of local) }
+{
+    let mut patterns = List::new(alloc);
+    patterns.push(Name::new(alloc, annotation_of(local))?)?;
+    Ok(Hello {
+        patterns,
+        options: List::new(alloc),
+        claim: Claim::Never,
+    })
+}
+
+fn is_offered(name: &str, offered: &[Name]) -> bool
+    ensures { result ≡ is_offered name.now offered.now }
+{
+    for each in offered {
+        if name == each.as_str() {
+            return true;
+        }
+    }
+    false
+}
+
+fn done(local: Local) -> Said
+    ensures { answer_of local result ≡ answer_by local Ends }
+{
+    match local {
+        Local::Checker => (Frame::Done { claimed: false }, Place::Rests),
+    }
+}
+
+// What is said by where the walk over the roots stands.
+fn walking(local: Local, walk: Option<(Frame, Walk)>) -> Said
+    ensures { answer_of local result ≡ answer_by local (plan_of_walk local walk) }
+{
+    match walk {
+        Some((frame, walk)) => (frame, Place::Walks(walk)),
+        None => done(local),
+    }
+}
+
+#[tactic(auto, unfolding(crate::specs::Says::after_roots))]
+fn after_roots(alloc: Global, local: Local, reply: &Reply) -> Result<Said, NoMemory>
+    ensures { IfOk result (λ said. answer_of local said ≡ answer_by local (sendable (after_roots local reply.now))) }
+{
+    let roots = elements_in(alloc, reply)?;
+    let walk = walk_on(alloc, local, roots, 0)?;
+    Ok(walking(local, walk))
+}
+
+// A round that begins.
+fn begins(alloc: Global, local: Local, offered: &[Name]) -> Result<Said, NoMemory>
+    ensures { IfOk result (λ said. answer_of local said
+        ≡ answer_by local (sendable (goes local (is_offered (annotation_of local) offered.now)))) }
+{
+    if !is_offered(annotation_of(local), offered) {
+        return Ok(done(local));
+    }
+    let frame = frame_of_roots();
+    if is_too_large(&frame) {
+        drop(frame);
+        return after_roots(alloc, local, &Reply::Refused(Refused::TooLarge));
+    }
+    Ok((frame, Place::Roots))
+}
+
+/// What a child answers to a frame of its host, and where it stands then. A frame that may not come where it stands is
+/// the breach of its tag.
+#[tactic(auto, unfolding(crate::specs::Says::step))]
+pub(crate) fn answer(
+    alloc: Global,
+    local: Local,
+    place: Place,
+    frame: &Frame,
+) -> Result<Result<Said, Breach>, NoMemory>
+    ensures { IfOk result (λ said. shown local said ≡ step local (at_of local place) frame.now) }
+{
+    match (place, frame) {
+        (Place::Unbegun, Frame::Init(_)) => {
+            let hello = hello_of(alloc, local)?;
+            Ok(Ok((Frame::Hello(hello), Place::Rests)))
+        }
+        (Place::Rests, Frame::Round { offered, .. }) => {
+            Ok(Ok(begins(alloc, local, offered.as_slice())?))
+        }
+        (Place::Roots, Frame::Reply(reply)) => Ok(Ok(after_roots(alloc, local, reply)?)),
+        (Place::Walks(walk), Frame::Reply(reply)) => {
+            let walk = walk_by(alloc, local, walk, reply)?;
+            Ok(Ok(walking(local, walk)))
+        }
+        (place, frame) => {
+            drop(place);
+            Ok(Err(stray(frame)))
+        }
+    }
+}

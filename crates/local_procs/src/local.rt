@@ -1,0 +1,8 @@
+// The four processors by their names.
+
+/// A processor that the program has itself.
+#[derive(Clone, Copy, Debug, PartialEq, Eq)]
+pub enum Local {
+    /// Checks names and documentation comments; isolating.
+    Checker,
+}
