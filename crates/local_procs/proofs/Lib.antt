@@ -1,2 +1,4 @@
 pub mod Sending
 pub mod Walking
+pub mod RoundsBegun
+pub mod KeptKinds

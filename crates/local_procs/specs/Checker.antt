@@ -1,6 +1,6 @@
 -- `checker`: each type on which `apt.demo.Checked` is present, inherited or written, has a name that does not begin in lower case, and a
 -- documentation comment.
-use Rattle.std.specs.Prelude.{ℕ, Bool, true, false, ◌&&◌, nat_le, List, [], ◌∷◌, codes, Option, None, Some, is_some, if◌then◌else◌}
+use Rattle.std.specs.Prelude.{ℕ, Bool, false, ◌&&◌, nat_le, List, [], ◌∷◌, codes, Option, None, Some, is_some, if◌then◌else◌}
 use Rattle.apt_base.specs.declared.element.ElementRef.{ElementRef}
 use Rattle.frame_forms.specs.declared.question_row.ElementQuestion.TheVariants as asked
 use Rattle.wire_frames.specs.declared.reply.Info.{Info}
@@ -33,7 +33,7 @@ after_comment root answer = if is_some (text_in answer) then Ends else says_at 1
 unfoldable pub after_annotations : ElementRef → List ℕ → Reply → Plan
 after_annotations root simple answer =
     if carries checked answer then
-        (if begins_in_lower_case simple then says_at 0 root (codes "name begins in lower case") else Sends (about asked.DocComment root) (after_comment root))
+    (if begins_in_lower_case simple then says_at 0 root (codes "name begins in lower case") else Sends (about asked.DocComment root) (after_comment root))
     else Ends
 
 abbrev pub by_info : ElementRef → Option Info → Plan

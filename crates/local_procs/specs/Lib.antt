@@ -5,3 +5,4 @@ pub mod Stages
 pub mod Walks
 pub mod Says
 pub mod Places
+pub mod Kinds

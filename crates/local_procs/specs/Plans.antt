@@ -1,5 +1,5 @@
 -- What a processor does in a round: the frames that it sends, each with how it goes on by the reply.
-use Rattle.std.specs.Prelude.{ℕ, List, [], ◌∷◌, if◌then◌else◌}
+use Rattle.std.specs.Prelude.{List, [], ◌∷◌, if◌then◌else◌}
 use Rattle.apt_base.specs.declared.element.ElementRef.{ElementRef}
 use Rattle.wire_frames.specs.Limits.{is_too_large}
 use Rattle.wire_frames.specs.declared.frame.Frame.{Frame}

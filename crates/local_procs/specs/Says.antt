@@ -1,16 +1,13 @@
--- What a child with one of the four processors says to the frames of its host, one frame to each.
-use Rattle.std.specs.Prelude.{ℕ, zero, suc, Bool, true, false, List, [], ◌∷◌, ◌++◌, codes, length, flat_map, Option, None, Some, Result, Ok, Err, if◌then◌else◌}
+-- What a child with one of the processors says to the frames of its host, one frame to each.
+use Rattle.std.specs.Prelude.{ℕ, Bool, true, false, List, [], ◌∷◌, Result, Ok, Err}
 use Rattle.std.specs.List.{list_any}
 use Rattle.std.specs.Str.{bytes_eq}
-use Rattle.apt_base.specs.declared.element.ElementRef.{ElementRef}
 use Rattle.apt_base.specs.declared.kinds.Claim.{Claim}
 use Rattle.apt_base.specs.declared.kinds.Claim.TheVariants.{Always, Never, Varies}
-use Rattle.wire_frames.specs.Frames.{spelling}
 use Rattle.wire_frames.specs.declared.frame.Frame.{Frame}
 use Rattle.wire_frames.specs.declared.frame.Frame.TheVariants as frame
 use Rattle.wire_frames.specs.declared.frame.Hello.{Hello}
 use Rattle.wire_frames.specs.declared.reply.Reply.{Reply}
-use Rattle.frame_stream.specs.Streams.{frame_at}
 use Rattle.frame_breaches.specs.declared.breach.Breach.{Breach}
 use Rattle.frame_breaches.specs.Breaches.{stray}
 use Rattle.local_procs.specs.declared.local.Local.{Local}
@@ -82,31 +79,3 @@ step local Unbegun (frame.Init init) = Ok (frame.Hello (hello_of local), Rests)
 step local Rests (frame.Round number over error offered roots) = goes_on local (goes local (is_offered (annotation_of local) offered))
 step local (Waits go) (frame.Reply answer) = goes_on local (go answer)
 step local at other = Err (stray other)
-
--- ---- streams
-
-abbrev pub said_with : (At → List Frame) → Result Answer Breach → List Frame
-said_with go (Ok answer) = answer.0 ∷ go answer.1
-said_with go (Err breach) = []
-
--- what it says to these frames, one after another; behind one that may not come it says nothing more
-unfoldable pub said : Local → At → List Frame → List Frame
-said local at [] = []
-said local at (frame ∷ frames) = said_with (λ next. said local next frames) (step local at frame)
-
-abbrev pub frames_by : (List ℕ → List Frame) → Option (Frame × List ℕ) → List Frame
-frames_by go None = []
-frames_by go (Some first) = first.0 ∷ go first.1
-
--- at most this many whole frames in front of these bytes
-unfoldable pub frames_within : ℕ → List ℕ → List Frame
-frames_within zero bytes = []
-frames_within (suc n) bytes = frames_by (frames_within n) (frame_at bytes)
-
--- all that are there, since each takes a byte or more
-abbrev pub frames_in : List ℕ → List Frame
-frames_in bytes = frames_within (length bytes) bytes
-
--- all that it writes once it has read these bytes
-unfoldable pub says : Local → List ℕ → List ℕ
-says local bytes = flat_map spelling (said local Unbegun (frames_in bytes))

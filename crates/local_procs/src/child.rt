@@ -1,12 +1,9 @@
 // A child with one of the processors, frame by frame.
-ghost use Rattle.std.specs.Prelude.{◌≡◌, IfOk, option_map};
-ghost use Rattle.std.specs.List.{list_any};
-ghost use Rattle.std.specs.Str.{bytes_eq};
+ghost use Rattle.std.specs.Prelude.{◌≡◌, IfOk};
 ghost use Rattle.local_procs.specs.Plans.{Ends, sendable};
-ghost use Rattle.local_procs.specs.Says.{annotation_of, hello_of, is_offered, after_roots, done_frame, answer_by, goes};
-ghost use Rattle.local_procs.specs.Says.{step};
+ghost use Rattle.local_procs.specs.Says.{annotation_of, hello_of, is_offered, after_roots, answer_by, goes, step, Unbegun};
 ghost use Rattle.local_procs.specs.Walks.{plan_of_walk};
-ghost use Rattle.local_procs.specs.Places.{at_of, shown, answer_of};
+ghost use Rattle.local_procs.specs.Places.{at_of, shown, answer_of, stands_at, said_by, StaysLocal};
 
 use crate::Local;
 use crate::contents::{elements_in, frame_of_roots};
@@ -134,6 +131,44 @@ pub(crate) fn answer(
         (place, frame) => {
             drop(place);
             Ok(Err(stray(frame)))
+        }
+    }
+}
+
+/// A child with one of the processors. Contracts see it by `specs/Places`: where it stands, and so what it says to each
+/// frame that may come.
+#[derive(Drop)]
+pub struct Child {
+    pub(crate) local: Local,
+    pub(crate) place: Place,
+}
+
+impl Child {
+    /// A child to which nothing came yet. It takes no memory.
+    pub fn new(local: Local) -> Child
+        ensures stands { stands_at result ≡ Unbegun }
+        ensures local { result.local ≡ local }
+    {
+        Child {
+            local,
+            place: Place::Unbegun,
+        }
+    }
+
+    /// What it answers to a frame of its host: one frame, and itself as it stands then. A frame that may not come where it
+    /// stands is the breach of its tag. It fails only when memory runs out.
+    pub fn answer(
+        self,
+        alloc: Global,
+        frame: &Frame,
+    ) -> Result<Result<(Frame, Child), Breach>, NoMemory>
+        ensures said { IfOk result (λ said. said_by said ≡ step self.local (stands_at self) frame.now) }
+        ensures same { IfOk result (StaysLocal self.local) }
+    {
+        let Child { local, place } = self;
+        match answer(alloc, local, place, frame)? {
+            Ok((frame, place)) => Ok(Ok((frame, Child { local, place }))),
+            Err(breach) => Ok(Err(breach)),
         }
     }
 }

@@ -1,14 +1,14 @@
 // What a reply holds, and the frames that are sent.
-ghost use Rattle.std.specs.Prelude.{◌≡◌, Bool, true, is_some, IfOk};
+ghost use Rattle.std.specs.Prelude.{◌≡◌, is_some, IfOk};
 ghost use Rattle.std.specs.Option.{option_copied};
 ghost use Rattle.type_mirror.specs.declared.mirror.BaseMirror.{out-BaseMirror};
-ghost use Rattle.local_procs.specs.Contents.{elements_in, info_in, annotations_in, text_in, mirror_in, is_accepted, is_unit_itself, is_declared_of, is_type_of, carries, about, message_at, source_of, roots_frame};
+ghost use Rattle.local_procs.specs.Contents.{elements_in, info_in, annotations_in, text_in, is_unit_itself, is_declared_of, is_type_of, carries, about, message_at, roots_frame};
 
 use apt_base::{ElementRef, List, Name, NoMemory};
 use frame_forms::ElementQuestion;
 use std::alloc::Global;
 use type_mirror::{Annotation, BaseMirror, Mirror};
-use wire_frames::{Creation, Created, Frame, Info, Message, Question, Reply};
+use wire_frames::{Frame, Info, Message, Question, Reply};
 
 /// The facts of an element, where the reply has them.
 pub(crate) fn info_in(reply: &Reply) -> Option<&Info>
@@ -104,15 +104,21 @@ pub(crate) fn message_at(
     }))
 }
 
+fn copied(alloc: Global, elements: &[ElementRef]) -> Result<List<ElementRef>, NoMemory>
+    ensures { IfOk result (λ list. list ≡ elements.now) }
+{
+    let mut copies = List::new(alloc);
+    for each in elements {
+        copies.push(each.copy(alloc)?)?;
+    }
+    Ok(copies)
+}
+
 /// The elements of a reply.
 pub(crate) fn elements_in(alloc: Global, reply: &Reply) -> Result<List<ElementRef>, NoMemory>
     ensures { IfOk result (λ elements. elements ≡ elements_in reply.now) }
 {
-    let mut copies = List::new(alloc);
-    for each in elements_of(reply) {
-        copies.push(each.copy(alloc)?)?;
-    }
-    Ok(copies)
+    copied(alloc, elements_of(reply))
 }
 
 fn elements_of(reply: &Reply) -> &[ElementRef]

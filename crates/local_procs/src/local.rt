@@ -1,4 +1,4 @@
-// The four processors by their names.
+// The processors by their names.
 
 /// A processor that the program has itself.
 #[derive(Clone, Copy, Debug, PartialEq, Eq)]

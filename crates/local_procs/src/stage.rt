@@ -39,12 +39,7 @@ fn first_of(alloc: Global, local: Local, root: &ElementRef) -> Result<Step, NoMe
 }
 
 /// What it does next, by the reply for which it waits.
-fn next_of(
-    alloc: Global,
-    root: &ElementRef,
-    stage: Stage,
-    reply: &Reply,
-) -> Result<Step, NoMemory>
+fn next_of(alloc: Global, root: &ElementRef, stage: Stage, reply: &Reply) -> Result<Step, NoMemory>
     ensures plan { IfOk result (λ step. plan_by (go_of root.now) step ≡ go_of root.now stage reply.now) }
     ensures falls { IfOk result (Falls rank_of (rank_of stage)) }
 {
