@@ -1,17 +1,16 @@
 -- The kinds of the processors.
-use Rattle.std.proofs.Common.{◌≡◌, ◌≢◌, ℕ, zero, suc, Bool, true, false, List, codes, Option, None, Some, is_some, refl, if◌then◌else◌}
+use Rattle.std.proofs.Common.{◌≢◌, ℕ, zero, suc, Bool, true, false, List, codes, Option, None, Some, is_some, refl, if◌then◌else◌}
 use Rattle.apt_base.specs.declared.element.ElementRef.{ElementRef}
 use Rattle.apt_base.specs.declared.kinds.Claim.TheVariants.{Never, Varies}
 use Rattle.frame_forms.specs.declared.question_row.ElementQuestion.{ElementQuestion}
 use Rattle.frame_forms.specs.declared.question_row.ElementQuestion.TheVariants as asked
 use Rattle.wire_frames.specs.declared.reply.Info.{Info}
 use Rattle.wire_frames.specs.declared.reply.Reply.{Reply}
-use Rattle.local_procs.specs.declared.local.Local.{Local}
 use Rattle.local_procs.specs.declared.local.Local.TheVariants.{Checker}
 use Rattle.local_procs.specs.Plans.{Plan, Ends, Sends}
 use Rattle.local_procs.specs.Contents.{info_in, text_in, carries, about}
 use Rattle.local_procs.specs.Checker as checker
-use Rattle.local_procs.specs.Kinds.{GivesFor, IsShort, KeepsKind, AllKeepKinds}
+use Rattle.local_procs.specs.Kinds.{GivesFor, IsShort, AllKeepKinds}
 
 either : (P : Plan → Type 0) (b : Bool) (p q : Plan) → P p → P q → P (if b then p else q)
 either P true p q h k = h

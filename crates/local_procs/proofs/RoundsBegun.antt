@@ -1,10 +1,10 @@
 -- What a round begins with.
-use Rattle.std.proofs.Common.{◌≡◌, ℕ, Bool, true, false, List, refl, sym, ap, ◌∙◌}
+use Rattle.std.proofs.Common.{◌≡◌, ℕ, Bool, true, false, List, sym, ap, ◌∙◌}
 use Rattle.wire_frames.specs.Limits.{is_too_large}
 use Rattle.wire_frames.specs.declared.frame.Frame.{Frame}
 use Rattle.local_procs.specs.declared.local.Local.{Local}
 use Rattle.local_procs.specs.Contents.{roots_frame}
-use Rattle.local_procs.specs.Plans.{Plan, Ends, Sends, sendable, nothing}
+use Rattle.local_procs.specs.Plans.{Ends, Sends, sendable, nothing}
 use Rattle.local_procs.specs.Says.{Answer, Waits, annotation_of, is_offered, goes, after_roots}
 use Rattle.local_procs.proofs.Sending.{ends_sent, small_sent, large_sent}
 

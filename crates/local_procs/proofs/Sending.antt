@@ -1,5 +1,5 @@
 -- What of a plan is sent, where a frame is too large and where it isn't.
-use Rattle.std.proofs.Common.{◌≡◌, Bool, true, false, refl, sym, ap, ◌∙◌}
+use Rattle.std.proofs.Common.{◌≡◌, Bool, true, false, refl}
 use Rattle.wire_frames.specs.Limits.{is_too_large}
 use Rattle.wire_frames.specs.declared.frame.Frame.{Frame}
 use Rattle.wire_frames.specs.declared.reply.Reply.{Reply}

@@ -1,7 +1,7 @@
 -- One root after another.
-use Rattle.std.proofs.Common.{◌≡◌, ℕ, zero, suc, ◌+◌, List, [], ◌∷◌, drop, Some, None, slice_get, refl, sym, ap, ◌∙◌, arith}
+use Rattle.std.proofs.Common.{◌≡◌, ℕ, zero, suc, ◌+◌, List, [], ◌∷◌, drop, Some, None, slice_get, refl, sym, ap, arith}
 use Rattle.apt_base.specs.declared.element.ElementRef.{ElementRef}
-use Rattle.local_procs.specs.Plans.{Plan, Ends, then_, sendable, each_of}
+use Rattle.local_procs.specs.Plans.{Plan, Ends, sendable, each_of}
 use Rattle.local_procs.proofs.Sending.{ends_sent, sent_before, then_sent}
 
 rest_nil : {A : Type 0} (n : ℕ) → drop n (let none : List A = [] in none) ≡ []

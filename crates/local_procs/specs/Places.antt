@@ -6,7 +6,6 @@ use Rattle.local_procs.specs.declared.child.Child.{Child}
 use Rattle.local_procs.specs.declared.child.Place.{Place}
 use Rattle.local_procs.specs.declared.child.Place.TheVariants as places
 use Rattle.local_procs.specs.declared.local.Local.{Local}
-use Rattle.local_procs.specs.Plans.{Plan, Ends}
 use Rattle.local_procs.specs.Says.{At, Unbegun, Rests, Waits, Answer, after_roots}
 use Rattle.local_procs.specs.Walks.{walk_go}
 

@@ -1,5 +1,5 @@
 -- What a processor does by the reply for which it waits, of the root that it handles.
-use Rattle.std.specs.Prelude.{◌≡◌, ℕ, ◌<◌, Option, None, Some}
+use Rattle.std.specs.Prelude.{ℕ, ◌<◌, Option, None, Some}
 use Rattle.apt_base.specs.declared.element.ElementRef.{ElementRef}
 use Rattle.wire_frames.specs.declared.frame.Frame.{Frame}
 use Rattle.wire_frames.specs.declared.reply.Reply.{Reply}

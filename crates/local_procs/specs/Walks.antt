@@ -1,5 +1,5 @@
 -- What a processor that goes from root to root does by the reply for which it waits.
-use Rattle.std.specs.Prelude.{ℕ, drop, Option, None, Some}
+use Rattle.std.specs.Prelude.{drop, Option, None, Some}
 use Rattle.wire_frames.specs.declared.frame.Frame.{Frame}
 use Rattle.wire_frames.specs.declared.reply.Reply.{Reply}
 use Rattle.local_procs.specs.declared.local.Local.{Local}

@@ -1,4 +1,4 @@
-use Rattle.std.proofs.Common.{refl, sym, ap, ◌∙◌}
+use Rattle.std.proofs.Common.{sym, ap, ◌∙◌}
 use Rattle.local_procs.specs.Plans.{sendable}
 use Rattle.local_procs.specs.Stages.{plan_by, go_of}
 use Rattle.local_procs.proofs.Sending.{ends_sent, small_sent, large_sent}

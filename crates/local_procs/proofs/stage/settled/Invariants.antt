@@ -1,4 +1,4 @@
-use Rattle.std.proofs.Common.{◌≡◌, ℕ, suc, zero}
+use Rattle.std.proofs.Common.{◌≡◌, ℕ, suc}
 use Rattle.std.specs.Prelude.{Some, None}
 use Rattle.local_procs.specs.Plans.{sendable}
 use Rattle.local_procs.specs.Stages.{Step, plan_by, go_of, rank_of}

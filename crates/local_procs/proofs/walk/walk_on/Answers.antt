@@ -1,4 +1,4 @@
-use Rattle.std.proofs.Common.{Some, sym, ap, ◌∙◌, refl}
+use Rattle.std.proofs.Common.{Some, sym, ap, ◌∙◌}
 use Rattle.local_procs.specs.Stages.{plan_by, go_of, plan_for}
 use Rattle.local_procs.proofs.Walking.{all_done, one_begun}
 use Rattle.local_procs.proofs.walk.walk_on.Goals as goal
