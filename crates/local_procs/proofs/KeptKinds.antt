@@ -1,15 +1,17 @@
 -- The kinds of the processors.
-use Rattle.std.proofs.Common.{◌≢◌, ℕ, zero, suc, Bool, true, false, List, codes, Option, None, Some, is_some, refl, if◌then◌else◌}
+use Rattle.std.proofs.Common.{◌≢◌, ℕ, zero, suc, Bool, true, false, List, ◌++◌, codes, Option, None, Some, is_some, refl, if◌then◌else◌}
 use Rattle.apt_base.specs.declared.element.ElementRef.{ElementRef}
-use Rattle.apt_base.specs.declared.kinds.Claim.TheVariants.{Never, Varies}
+use Rattle.apt_base.specs.declared.kinds.Claim.TheVariants.{Always, Never, Varies}
 use Rattle.frame_forms.specs.declared.question_row.ElementQuestion.{ElementQuestion}
 use Rattle.frame_forms.specs.declared.question_row.ElementQuestion.TheVariants as asked
 use Rattle.wire_frames.specs.declared.reply.Info.{Info}
 use Rattle.wire_frames.specs.declared.reply.Reply.{Reply}
-use Rattle.local_procs.specs.declared.local.Local.TheVariants.{Checker}
+use Rattle.local_procs.specs.declared.local.Local.TheVariants.{Chain, Checker}
 use Rattle.local_procs.specs.Plans.{Plan, Ends, Sends}
 use Rattle.local_procs.specs.Contents.{info_in, text_in, carries, about}
 use Rattle.local_procs.specs.Checker as checker
+use Rattle.local_procs.specs.Chain as chain
+use Rattle.local_procs.specs.ClassText.{is_class, source_of}
 use Rattle.local_procs.specs.Kinds.{GivesFor, IsShort, AllKeepKinds}
 
 either : (P : Plan → Type 0) (b : Bool) (p q : Plan) → P p → P q → P (if b then p else q)
@@ -104,8 +106,68 @@ info_short root answer = by_info_short root (info_in answer)
 checks_short : (root : ElementRef) → IsShort 4 (checker.checks root)
 checks_short root = question_short 3 root asked.Info (checker.after_info root) (info_short root)
 
+-- ---- what chain gives, and how much it sends
+
+gives_file : (root : ElementRef) (name content : List ℕ) → GivesFor root (Sends (source_of root name content) chain.after_last)
+unfolding GivesFor
+gives_file root name content = (refl, λ answer. tt)
+
+gives_number : (root : ElementRef) (info : Info) (number : Option ℕ) → GivesFor root (chain.by_number root info number)
+gives_number root info None = gives_nothing root
+gives_number root info (Some n) = gives_file root (info.canonical ++ codes "_") (chain.text_of info n)
+
+gives_links : (root : ElementRef) (info : Info) (answer : Reply) → GivesFor root (chain.after_annotations root info answer)
+unfolding chain.after_annotations
+gives_links root info answer = gives_number root info (chain.links_in answer)
+
+gives_class : (root : ElementRef) (info : Option Info) → GivesFor root (chain.by_info root info)
+gives_class root None = gives_nothing root
+gives_class root (Some info) =
+    either (GivesFor root) (is_class info.kind) _ Ends
+    (gives_question root asked.Annotations (chain.after_annotations root info) (gives_links root info))
+    (gives_nothing root)
+
+gives_class_info : (root : ElementRef) (answer : Reply) → GivesFor root (chain.after_info root answer)
+unfolding chain.after_info
+gives_class_info root answer = gives_class root (info_in answer)
+
+gives_chains : (root : ElementRef) → GivesFor root (chain.chains root)
+gives_chains root = gives_question root asked.Info (chain.after_info root) (gives_class_info root)
+
+file_short : (root : ElementRef) (name content : List ℕ) → IsShort (suc (suc zero)) (Sends (source_of root name content) chain.after_last)
+unfolding IsShort
+file_short root name content = λ answer. tt
+
+number_short : (root : ElementRef) (info : Info) (number : Option ℕ) → IsShort (suc (suc zero)) (chain.by_number root info number)
+number_short root info None = ends_short (suc (suc zero))
+number_short root info (Some n) = file_short root (info.canonical ++ codes "_") (chain.text_of info n)
+
+links_short : (root : ElementRef) (info : Info) (answer : Reply) → IsShort (suc (suc zero)) (chain.after_annotations root info answer)
+unfolding chain.after_annotations
+links_short root info answer = number_short root info (chain.links_in answer)
+
+class_short : (root : ElementRef) (info : Option Info) → IsShort (suc (suc (suc zero))) (chain.by_info root info)
+class_short root None = ends_short (suc (suc (suc zero)))
+class_short root (Some info) =
+    either (IsShort (suc (suc (suc zero)))) (is_class info.kind) _ Ends
+    (question_short (suc (suc zero)) root asked.Annotations (chain.after_annotations root info) (links_short root info))
+    (ends_short (suc (suc (suc zero))))
+
+class_info_short : (root : ElementRef) (answer : Reply) → IsShort (suc (suc (suc zero))) (chain.after_info root answer)
+unfolding chain.after_info
+class_info_short root answer = class_short root (info_in answer)
+
+chains_short : (root : ElementRef) → IsShort 4 (chain.chains root)
+chains_short root = question_short 3 root asked.Info (chain.after_info root) (class_info_short root)
+
+-- ---- both
+
 never_varies : Never ≢ Varies
 never_varies e = absurd (cc)
 
+always_varies : Always ≢ Varies
+always_varies e = absurd (cc)
+
 pub all_keep_kinds : AllKeepKinds
 all_keep_kinds Checker = record { constant = never_varies; attributed = gives_checks; short = checks_short }
+all_keep_kinds Chain = record { constant = always_varies; attributed = gives_chains; short = chains_short }

@@ -1,6 +1,8 @@
 pub mod Plans
 pub mod Contents
 pub mod Checker
+pub mod ClassText
+pub mod Chain
 pub mod Stages
 pub mod Walks
 pub mod Says

@@ -11,9 +11,10 @@ use Rattle.wire_frames.specs.declared.reply.Reply.{Reply}
 use Rattle.frame_breaches.specs.declared.breach.Breach.{Breach}
 use Rattle.frame_breaches.specs.Breaches.{stray}
 use Rattle.local_procs.specs.declared.local.Local.{Local}
-use Rattle.local_procs.specs.declared.local.Local.TheVariants.{Checker}
+use Rattle.local_procs.specs.declared.local.Local.TheVariants.{Checker, Chain}
 use Rattle.local_procs.specs.Plans.{Plan, Ends, Sends, sendable, each_of}
 use Rattle.local_procs.specs.Contents.{elements_in, roots_frame}
+use Rattle.local_procs.specs.Chain.{chained}
 use Rattle.local_procs.specs.Checker.{checked}
 use Rattle.local_procs.specs.Stages.{plan_for}
 
@@ -22,12 +23,15 @@ use Rattle.local_procs.specs.Stages.{plan_for}
 -- the annotation that it supports
 abbrev pub annotation_of : Local → List ℕ
 annotation_of Checker = checked
+annotation_of Chain = chained
 
 abbrev pub options_of : Local → List (List ℕ)
 options_of Checker = []
+options_of Chain = []
 
 abbrev pub claim_of : Local → Claim
 claim_of Checker = Never
+claim_of Chain = Always
 
 abbrev pub hello_of : Local → Hello
 hello_of local = record { patterns = annotation_of local ∷ []; options = options_of local; claim = claim_of local }

@@ -11,6 +11,9 @@ use Rattle.local_procs.specs.declared.stage.Stage.{Stage}
 use Rattle.local_procs.specs.declared.stage.Stage.TheVariants as stages
 use Rattle.local_procs.specs.Plans.{Plan, Sends, Ends}
 use Rattle.local_procs.specs.Checker as checker
+use Rattle.local_procs.specs.Chain as chain
+use Rattle.local_procs.specs.declared.chain.ChainStage.{ChainStage}
+use Rattle.local_procs.specs.declared.chain.ChainStage.TheVariants as chains
 
 -- a step: nothing more is sent for the root, or a frame is
 abbrev pub Step : Type 0 → Type 0
@@ -40,14 +43,29 @@ check_rank (checks.Annotations simple) = 2
 check_rank checks.Comment = 1
 check_rank checks.Last = 0
 
+-- ---- chain
+
+abbrev pub chain_go : ElementRef → ChainStage → Reply → Plan
+chain_go root chains.Info = chain.after_info root
+chain_go root (chains.Annotations info) = chain.after_annotations root info
+chain_go root chains.Last = chain.after_last
+
+abbrev pub chain_rank : ChainStage → ℕ
+chain_rank chains.Info = 2
+chain_rank (chains.Annotations info) = 1
+chain_rank chains.Last = 0
+
 -- ---- all
 
 abbrev pub go_of : ElementRef → Stage → Reply → Plan
 go_of root (stages.Checks stage) = check_go root stage
+go_of root (stages.Chains stage) = chain_go root stage
 
 abbrev pub rank_of : Stage → ℕ
 rank_of (stages.Checks stage) = check_rank stage
+rank_of (stages.Chains stage) = chain_rank stage
 
 -- what a processor does for a root
 abbrev pub plan_for : Local → ElementRef → Plan
 plan_for locals.Checker root = checker.checks root
+plan_for locals.Chain root = chain.chains root

@@ -1,7 +1,7 @@
 // A child with one of the processors, frame by frame.
 ghost use Rattle.std.specs.Prelude.{◌≡◌, IfOk};
 ghost use Rattle.local_procs.specs.Plans.{Ends, sendable};
-ghost use Rattle.local_procs.specs.Says.{annotation_of, hello_of, is_offered, after_roots, answer_by, goes, step, Unbegun};
+ghost use Rattle.local_procs.specs.Says.{annotation_of, claim_of, hello_of, is_offered, after_roots, answer_by, goes, step, Unbegun};
 ghost use Rattle.local_procs.specs.Walks.{plan_of_walk};
 ghost use Rattle.local_procs.specs.Places.{at_of, shown, answer_of, stands_at, said_by, StaysLocal};
 
@@ -35,6 +35,16 @@ fn annotation_of(local: Local) -> &'static str
 {
     match local {
         Local::Checker => "apt.demo.Checked",
+        Local::Chain => "apt.demo.Chain",
+    }
+}
+
+fn claim_of(local: Local) -> Claim
+    ensures { result ≡ claim_of local }
+{
+    match local {
+        Local::Checker => Claim::Never,
+        Local::Chain => Claim::Always,
     }
 }
 
@@ -46,7 +56,7 @@ fn hello_of(alloc: Global, local: Local) -> Result<Hello, NoMemory>
     Ok(Hello {
         patterns,
         options: List::new(alloc),
-        claim: Claim::Never,
+        claim: claim_of(local),
     })
 }
 
@@ -66,6 +76,7 @@ fn done(local: Local) -> Said
 {
     match local {
         Local::Checker => (Frame::Done { claimed: false }, Place::Rests),
+        Local::Chain => (Frame::Done { claimed: true }, Place::Rests),
     }
 }
 

@@ -2,7 +2,7 @@
 ghost use Rattle.std.specs.Prelude.{◌≡◌, is_some, IfOk};
 ghost use Rattle.std.specs.Option.{option_copied};
 ghost use Rattle.type_mirror.specs.declared.mirror.BaseMirror.{out-BaseMirror};
-ghost use Rattle.local_procs.specs.Contents.{elements_in, info_in, annotations_in, text_in, is_unit_itself, is_declared_of, is_type_of, carries, about, message_at, roots_frame};
+ghost use Rattle.local_procs.specs.Contents.{elements_in, info_in, annotations_in, text_in, is_unit_itself, is_declared_of, is_type_of, is_annotation_of, carries, about, message_at, roots_frame};
 
 use apt_base::{ElementRef, List, Name, NoMemory};
 use frame_forms::ElementQuestion;
@@ -30,7 +30,8 @@ pub(crate) fn has_text(reply: &Reply) -> bool
     }
 }
 
-fn annotations_in(reply: &Reply) -> &[Annotation]
+/// The annotations of a reply.
+pub(crate) fn annotations_in(reply: &Reply) -> &[Annotation]
     ensures { result.now ≡ annotations_in reply.now }
 {
     match reply {
@@ -60,6 +61,13 @@ fn is_type_of(name: &str, mirror: &Mirror) -> bool
     ensures { result ≡ is_type_of name.now mirror.now }
 {
     mirror.around.is_empty() && is_declared_of(name, &mirror.base)
+}
+
+/// Whether an annotation has this name.
+pub(crate) fn is_annotation_of(name: &str, annotation: &Annotation) -> bool
+    ensures { result ≡ is_annotation_of name.now annotation.now }
+{
+    is_type_of(name, &annotation.annotation_type)
 }
 
 /// Whether an annotation of this name is among those of a reply.

@@ -10,8 +10,10 @@
 //! Not promised: that memory is there.
 #![tactic(auto)]
 
+mod chain;
 mod checker;
 mod child;
+mod class_text;
 mod contents;
 mod laws;
 mod local;

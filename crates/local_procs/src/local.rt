@@ -5,4 +5,6 @@
 pub enum Local {
     /// Checks names and documentation comments; isolating.
     Checker,
+    /// Creates a class for a class, as often as it says; isolating.
+    Chain,
 }

@@ -5,6 +5,7 @@ ghost use Rattle.local_procs.specs.Plans.{sendable};
 ghost use Rattle.local_procs.specs.Stages.{plan_by, Falls, go_of, rank_of, plan_for};
 
 use crate::Local;
+use crate::chain::{ChainStage, chain_first, chain_next};
 use crate::checker::{CheckStage, check_first, check_next};
 use apt_base::{ElementRef, NoMemory};
 use std::alloc::Global;
@@ -15,6 +16,8 @@ use wire_frames::{Frame, Refused, Reply, is_too_large};
 pub(crate) enum Stage {
     /// `checker`.
     Checks(CheckStage),
+    /// `chain`.
+    Chains(ChainStage),
 }
 
 /// The frame that is sent, and what is waited for then; nothing where the root is done.
@@ -29,12 +32,22 @@ fn checking(step: Option<(Frame, CheckStage)>) -> Step
     }
 }
 
+fn chaining(step: Option<(Frame, ChainStage)>) -> Step
+    ensures { result ≡ option_map (λ x. (x.0, stages.Chains x.1)) step }
+{
+    match step {
+        Some((frame, stage)) => Some((frame, Stage::Chains(stage))),
+        None => None,
+    }
+}
+
 /// What a processor does for a root first.
 fn first_of(alloc: Global, local: Local, root: &ElementRef) -> Result<Step, NoMemory>
     ensures { IfOk result (λ step. plan_by (go_of root.now) step ≡ plan_for local root.now) }
 {
     match local {
         Local::Checker => Ok(checking(check_first(alloc, root)?)),
+        Local::Chain => Ok(chaining(chain_first(alloc, root)?)),
     }
 }
 
@@ -45,6 +58,7 @@ fn next_of(alloc: Global, root: &ElementRef, stage: Stage, reply: &Reply) -> Res
 {
     match stage {
         Stage::Checks(stage) => Ok(checking(check_next(alloc, root, stage, reply)?)),
+        Stage::Chains(stage) => Ok(chaining(chain_next(alloc, root, stage, reply)?)),
     }
 }
 
