@@ -263,7 +263,8 @@ def arrays(number):
     # Each step to a supertype takes one array away.
     near = lambda reply: reply if number <= 65 else "refused TooDeep"  # noqa: E731
     return ["empty"], [
-        (f"ArrayType {mirror}", fits(f"mirrors []/{mirror}", number + 1)), (f"Erasure {mirror}", fits(f"mirrors {mirror}", number)), (f"PrintType {mirror}", f"texts int{'[]' * (number - 1)}"),
+        (f"ArrayType {mirror}", fits(f"mirrors []/{mirror}", number + 1)), (f"Erasure {mirror}", fits(f"mirrors {mirror}", number)),
+        (f"PrintType {mirror}", f"texts int{'[]' * (number - 1)}"),
         (f"SameType {mirror} {mirror}", "truth yes"), (f"Subtype {mirror} error=java.lang.Object", near("truth yes")), (f"Assignable {mirror} []/{mirror}", near("truth no")),
         (f"AsElement {mirror}", "elements none"), (f"Contains ?extends/{mirror} {mirror}", "truth yes"),
     ]
@@ -292,7 +293,8 @@ def one_type(number):
     """So many fields in one type, and below it."""
     entering = [file_of(f"package w; class A {{ {' '.join(f'int f{at};' for at in range(number))} }} class B extends A {{ int f0; }}")]
     return entering, [("Enclosed w.A", f"elements {' '.join(f'w.A:{at}' for at in range(number + 1))}"),
-                      ("AllMembers w.B", f"elements w.B:0 w.B:1 {' '.join(f'w.A:{at}' for at in range(1, number))}"), (f"Info w.A:{number - 1}", f"info field none f{number - 1} - fixed")]
+                      ("AllMembers w.B", f"elements w.B:0 w.B:1 {' '.join(f'w.A:{at}' for at in range(1, number))}"),
+                      (f"Info w.A:{number - 1}", f"info field none f{number - 1} - fixed")]
 
 
 def chain(number):

@@ -65,7 +65,8 @@ class Mixed:
         return f"{self.doc(indent)}{indent}{self.note()}{front}{self.any_type()} {declared}\n"
 
     def constant(self, indent):
-        of, value = self.pick(("int", "5"), ("long", "7L"), ("String", '"a" + "b"'), ("char", "'c'"), ("boolean", "true"), ("double", "1.5"), ("int", "1 + 2"), ("byte", "3"), ("float", "2f"))
+        of, value = self.pick(("int", "5"), ("long", "7L"), ("String", '"a" + "b"'), ("char", "'c'"), ("boolean", "true"), ("double", "1.5"), ("int", "1 + 2"),
+                              ("byte", "3"), ("float", "2f"))
         return f"{self.doc(indent)}{indent}{self.pick('static final ', 'public static final ', 'final ')}{of} {self.name('K')} = {value};\n"
 
     def parameters(self):
@@ -86,7 +87,9 @@ class Mixed:
                 f"{thrown} {{ throw null; }}\n")
 
     def constructor(self, indent, name):
-        return f"{self.doc(indent)}{indent}{self.note()}{self.pick('', 'public ', 'protected ', 'private ')}{self.variables()}{name}({', '.join(['int[][][] first', *filter(None, [self.parameters()])])}){self.pick('', ' throws Exception')} {{ }}\n"
+        front = f"{self.doc(indent)}{indent}{self.note()}{self.pick('', 'public ', 'protected ', 'private ')}{self.variables()}"
+        parameters = ", ".join(["int[][][] first", *filter(None, [self.parameters()])])
+        return f"{front}{name}({parameters}){self.pick('', ' throws Exception')} {{ }}\n"
 
     def members(self, indent, most=5):
         made = [self.pick(self.field, self.method, self.method, self.constant)(indent) for _ in range(self.random.randint(1, most))]
@@ -100,7 +103,8 @@ class Mixed:
         constants = f"{self.doc('    ')}    {self.note()}LOW(1){body},\n{self.doc('    ')}    HIGH(2), NONE;\n"
         others = f"    {self.pick('', 'private ')}Kind(int... numbers) {{ }}\n    public String label() {{ return null; }}\n{self.members('    ')}"
         plain = f"{self.note()}enum Plain {{ A, B{self.pick('', ',', ';')} }}"
-        return f"package s;\n{self.imports('s')}{self.doc('')}{self.note()}public enum Kind implements Shape {{\n{constants};\n{others}    {self.pick('', 'static ', 'private ')}{plain}\n}}\n"
+        return (f"package s;\n{self.imports('s')}{self.doc('')}{self.note()}public enum Kind implements Shape {{\n{constants};\n{others}"
+                f"    {self.pick('', 'static ', 'private ')}{plain}\n}}\n")
 
     def imports(self, package):
         names = {"s": "import t.*;\n", "t": "import s.*;\nimport static s.Kind.*;\n"}

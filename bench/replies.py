@@ -50,18 +50,20 @@ OPTIONS = ("-encoding", "UTF-8", "-source", "11")
 STUBS = {
     "java.lang.Object": "public class Object { public Object() {} public boolean equals(Object other) { return true; } public int hashCode() { return 0; } "
                         "public String toString() { return null; } public final native Class<?> getClass(); protected native Object clone() throws CloneNotSupportedException; }",
-    "java.lang.String": "public final class String implements java.io.Serializable, Comparable<String>, CharSequence { public int length() { return 0; } public int compareTo(String other) { return 0; } }",
+    "java.lang.String": "public final class String implements java.io.Serializable, Comparable<String>, CharSequence { public int length() { return 0; } "
+                        "public int compareTo(String other) { return 0; } }",
     "java.lang.CharSequence": "public interface CharSequence { int length(); String toString(); }",
     "java.lang.Comparable": "public interface Comparable<T> { int compareTo(T other); }",
     "java.lang.Cloneable": "public interface Cloneable {}",
     "java.io.Serializable": "public interface Serializable {}",
     "java.lang.Number": "public abstract class Number implements java.io.Serializable { public abstract int intValue(); }",
-    **{f"java.lang.{name}": f"public final class {name} extends Number implements Comparable<{name}> {{ public int intValue() {{ return 0; }} public int compareTo({name} other) {{ return 0; }} }}"
+    **{f"java.lang.{name}": f"public final class {name} extends Number implements Comparable<{name}> {{ public int intValue() {{ return 0; }} "
+                            f"public int compareTo({name} other) {{ return 0; }} }}"
        for name in ("Integer", "Long", "Short", "Byte", "Double", "Float")},
     **{f"java.lang.{name}": f"public final class {name} implements java.io.Serializable, Comparable<{name}> {{ public int compareTo({name} other) {{ return 0; }} }}"
        for name in ("Boolean", "Character")},
-    "java.lang.Enum": "public abstract class Enum<E extends Enum<E>> implements Comparable<E>, java.io.Serializable { private final int ordinal; protected Enum(String name, int ordinal) {} "
-                      "public final String name() { return null; } public final int compareTo(E other) { return 0; } }",
+    "java.lang.Enum": "public abstract class Enum<E extends Enum<E>> implements Comparable<E>, java.io.Serializable { private final int ordinal; "
+                      "protected Enum(String name, int ordinal) {} public final String name() { return null; } public final int compareTo(E other) { return 0; } }",
     "java.lang.Class": "public final class Class<T> implements java.io.Serializable {}",
     "java.lang.Iterable": "public interface Iterable<T> {}",
     "java.lang.AutoCloseable": "public interface AutoCloseable { void close() throws Exception; }",

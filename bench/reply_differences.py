@@ -41,6 +41,7 @@ SENTENCES = {
     "between": "A package-private method is overridden by one of its package also where a class of another package is between the two:",
     "signature": "For subsignatures neither names nor the bounds of type parameters are compared (JLS 8.4.2 compares both), nor results and what is thrown.",
     "interfaces": "An interface with interfaces has these alone as its direct supertypes (JLS 4.10.2; javac's `directSupertypes` has `Object` in front of them).",
+    "bounds": "A type variable has its bounds (javac has `Object` in front of an interface).",
     "primitive": "A primitive type has the next one of its chain as its direct supertype, and `char` has `int` (JLS 4.10.1; javac's `directSupertypes` gives none).",
     "arrays": "Arrays are compared by the direct supertypes of their items, step by step.",
     "erased": "They are erased at one step.",
@@ -502,7 +503,7 @@ class Differences:
         if of[0] in PLAIN:
             return ["primitive" if not theirs and ours else None]
         if theirs[:1] == [OBJECT] and ours == theirs[1:]:
-            return ["interfaces"]
+            return ["bounds" if of[0] == "variable" else "interfaces"]
         if len(ours) == len(theirs):
             found = self.mirrors()
             if None in found and self.is_raw(of):
