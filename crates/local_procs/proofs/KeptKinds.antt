@@ -6,12 +6,13 @@ use Rattle.frame_forms.specs.declared.question_row.ElementQuestion.{ElementQuest
 use Rattle.frame_forms.specs.declared.question_row.ElementQuestion.TheVariants as asked
 use Rattle.wire_frames.specs.declared.reply.Info.{Info}
 use Rattle.wire_frames.specs.declared.reply.Reply.{Reply}
-use Rattle.local_procs.specs.declared.local.Local.TheVariants.{Chain, Checker}
+use Rattle.local_procs.specs.declared.local.Local.TheVariants.{Builder, Chain, Checker}
 use Rattle.local_procs.specs.Plans.{Plan, Ends, Sends}
 use Rattle.local_procs.specs.Contents.{info_in, text_in, carries, about}
 use Rattle.local_procs.specs.Checker as checker
 use Rattle.local_procs.specs.Chain as chain
 use Rattle.local_procs.specs.ClassText.{is_class, source_of}
+use Rattle.local_procs.proofs.BuilderKind.{gives_builds, builds_short}
 use Rattle.local_procs.specs.Kinds.{GivesFor, IsShort, AllKeepKinds}
 
 either : (P : Plan → Type 0) (b : Bool) (p q : Plan) → P p → P q → P (if b then p else q)
@@ -160,7 +161,7 @@ class_info_short root answer = class_short root (info_in answer)
 chains_short : (root : ElementRef) → IsShort 4 (chain.chains root)
 chains_short root = question_short 3 root asked.Info (chain.after_info root) (class_info_short root)
 
--- ---- both
+-- ---- all
 
 never_varies : Never ≢ Varies
 never_varies e = absurd (cc)
@@ -170,4 +171,5 @@ always_varies e = absurd (cc)
 
 pub all_keep_kinds : AllKeepKinds
 all_keep_kinds Checker = record { constant = never_varies; attributed = gives_checks; short = checks_short }
+all_keep_kinds Builder = record { constant = always_varies; attributed = gives_builds; short = builds_short }
 all_keep_kinds Chain = record { constant = always_varies; attributed = gives_chains; short = chains_short }

@@ -1,4 +1,6 @@
 pub mod Sending
 pub mod Walking
+pub mod MembersLeft
 pub mod RoundsBegun
+pub mod BuilderKind
 pub mod KeptKinds

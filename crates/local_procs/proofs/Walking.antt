@@ -8,12 +8,12 @@ rest_nil : {A : Type 0} (n : ℕ) → drop n (let none : List A = [] in none) �
 rest_nil zero = refl
 rest_nil (suc n) = refl
 
-rest_none : {A : Type 0} (xs : List A) (n : ℕ) → slice_get xs n ≡ None → drop n xs ≡ []
+pub rest_none : {A : Type 0} (xs : List A) (n : ℕ) → slice_get xs n ≡ None → drop n xs ≡ []
 rest_none [] n e = rest_nil n
 rest_none (x ∷ xs) zero e = absurd (cc)
 rest_none (x ∷ xs) (suc n) e = rest_none xs n e
 
-rest_some : {A : Type 0} (xs : List A) (n : ℕ) (x : A) → slice_get xs n ≡ Some x → drop n xs ≡ x ∷ drop (suc n) xs
+pub rest_some : {A : Type 0} (xs : List A) (n : ℕ) (x : A) → slice_get xs n ≡ Some x → drop n xs ≡ x ∷ drop (suc n) xs
 rest_some [] n x e = absurd (cc)
 rest_some (y ∷ ys) zero x e = let is : y ≡ x = cc in ap (λ z. z ∷ ys) is
 rest_some (y ∷ ys) (suc n) x e = rest_some ys n x e

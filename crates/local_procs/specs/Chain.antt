@@ -1,6 +1,6 @@
 -- `chain`: beside each class on which `apt.demo.Chain(n)` is written with n from 1 to 1,000, a class on which
 -- `apt.demo.Chain(n - 1)` is.
-use Rattle.std.specs.Prelude.{ℕ, ◌-◌, ◌&&◌, nat_le, ℤ, pos, negsuc, List, [], ◌∷◌, ◌++◌, filter_map, codes, decimal, Option, None, Some, if◌then◌else◌}
+use Rattle.std.specs.Prelude.{ℕ, ◌-◌, ◌&&◌, nat_le, ℤ, pos, negsuc, List, ◌++◌, filter_map, codes, decimal, Option, None, Some, if◌then◌else◌}
 use Rattle.std.specs.Str.{bytes_eq}
 use Rattle.apt_base.specs.declared.element.ElementRef.{ElementRef}
 use Rattle.type_mirror.specs.declared.value.Annotation.{Annotation, out-Annotation}

@@ -1,5 +1,5 @@
 -- What a reply holds. One that was not expected holds nothing.
-use Rattle.std.specs.Prelude.{ℕ, Bool, false, ◌&&◌, ◌==◌, length, List, [], ◌∷◌, Option, None, Some}
+use Rattle.std.specs.Prelude.{ℕ, Bool, true, false, ◌&&◌, ◌==◌, length, List, [], ◌∷◌, Option, None, Some}
 use Rattle.std.specs.List.{list_any}
 use Rattle.std.specs.Str.{bytes_eq}
 use Rattle.apt_base.specs.declared.element.ElementRef.{ElementRef}
@@ -13,6 +13,7 @@ use Rattle.frame_forms.specs.declared.question_row.ElementQuestion.{ElementQuest
 use Rattle.wire_frames.specs.declared.frame.Frame.{Frame}
 use Rattle.wire_frames.specs.declared.frame.Frame.TheVariants as frame
 use Rattle.wire_frames.specs.declared.question.Question.TheVariants as question
+use Rattle.wire_frames.specs.declared.reply.Created.TheVariants as created
 use Rattle.wire_frames.specs.declared.reply.Info.{Info}
 use Rattle.wire_frames.specs.declared.reply.Reply.{Reply}
 use Rattle.wire_frames.specs.declared.reply.Reply.TheVariants as reply
@@ -36,6 +37,14 @@ annotations_in answer = []
 abbrev pub text_in : Reply → Option (List ℕ)
 text_in (reply.Texts texts) = first_in texts
 text_in answer = None
+
+abbrev pub mirror_in : Reply → Option Mirror
+mirror_in (reply.Mirrors mirrors) = first_in mirrors
+mirror_in answer = None
+
+abbrev pub is_accepted : Reply → Bool
+is_accepted (reply.Created created.Accepted) = true
+is_accepted answer = false
 
 -- ---- annotations
 

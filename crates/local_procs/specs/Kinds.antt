@@ -8,6 +8,7 @@ use Rattle.wire_frames.specs.declared.frame.Frame.{Frame}
 use Rattle.wire_frames.specs.declared.frame.Frame.TheVariants as frame
 use Rattle.wire_frames.specs.declared.reply.Reply.{Reply}
 use Rattle.local_procs.specs.declared.local.Local.{Local}
+use Rattle.local_procs.specs.declared.local.Local.TheVariants.{Builder, Checker, Chain}
 use Rattle.local_procs.specs.Plans.{Plan, Ends, Sends}
 use Rattle.local_procs.specs.Stages.{plan_for}
 use Rattle.local_procs.specs.Says.{claim_of}
@@ -31,13 +32,15 @@ IsShort zero (Sends sent go) = ⊥
 IsShort (suc n) (Sends sent go) = (answer : Reply) → IsShort n (go answer)
 
 -- the most frames for a root
-abbrev pub most_frames : ℕ
-most_frames = 4
+abbrev pub most_frames : Local → ℕ
+most_frames Builder = 3005
+most_frames Checker = 4
+most_frames Chain = 4
 
 pub record KeepsKind (local : Local) : Type 0 where
   pub constant : claim_of local ≢ Varies
   pub attributed : (root : ElementRef) → GivesFor root (plan_for local root)
-  pub short : (root : ElementRef) → IsShort most_frames (plan_for local root)
+  pub short : (root : ElementRef) → IsShort (most_frames local) (plan_for local root)
 
 abbrev pub AllKeepKinds : Type 0
 AllKeepKinds = (local : Local) → KeepsKind local

@@ -1,5 +1,6 @@
 pub mod Plans
 pub mod Contents
+pub mod Builder
 pub mod Checker
 pub mod ClassText
 pub mod Chain

@@ -1,5 +1,5 @@
 -- What a child with one of the processors says to the frames of its host, one frame to each.
-use Rattle.std.specs.Prelude.{ℕ, Bool, true, false, List, [], ◌∷◌, Result, Ok, Err}
+use Rattle.std.specs.Prelude.{ℕ, Bool, true, false, List, [], ◌∷◌, codes, Result, Ok, Err}
 use Rattle.std.specs.List.{list_any}
 use Rattle.std.specs.Str.{bytes_eq}
 use Rattle.apt_base.specs.declared.kinds.Claim.{Claim}
@@ -11,9 +11,10 @@ use Rattle.wire_frames.specs.declared.reply.Reply.{Reply}
 use Rattle.frame_breaches.specs.declared.breach.Breach.{Breach}
 use Rattle.frame_breaches.specs.Breaches.{stray}
 use Rattle.local_procs.specs.declared.local.Local.{Local}
-use Rattle.local_procs.specs.declared.local.Local.TheVariants.{Checker, Chain}
+use Rattle.local_procs.specs.declared.local.Local.TheVariants.{Builder, Checker, Chain}
 use Rattle.local_procs.specs.Plans.{Plan, Ends, Sends, sendable, each_of}
 use Rattle.local_procs.specs.Contents.{elements_in, roots_frame}
+use Rattle.local_procs.specs.Builder.{built}
 use Rattle.local_procs.specs.Chain.{chained}
 use Rattle.local_procs.specs.Checker.{checked}
 use Rattle.local_procs.specs.Stages.{plan_for}
@@ -22,14 +23,17 @@ use Rattle.local_procs.specs.Stages.{plan_for}
 
 -- the annotation that it supports
 abbrev pub annotation_of : Local → List ℕ
+annotation_of Builder = built
 annotation_of Checker = checked
 annotation_of Chain = chained
 
 abbrev pub options_of : Local → List (List ℕ)
+options_of Builder = codes "org.gradle.annotation.processing.isolating" ∷ []
 options_of Checker = []
 options_of Chain = []
 
 abbrev pub claim_of : Local → Claim
+claim_of Builder = Always
 claim_of Checker = Never
 claim_of Chain = Always
 

@@ -1,5 +1,5 @@
 -- What a processor does by the reply for which it waits, of the root that it handles.
-use Rattle.std.specs.Prelude.{ℕ, ◌<◌, Option, None, Some}
+use Rattle.std.specs.Prelude.{ℕ, ◌+◌, ◌*◌, ◌<◌, List, drop, length, Option, None, Some}
 use Rattle.apt_base.specs.declared.element.ElementRef.{ElementRef}
 use Rattle.wire_frames.specs.declared.frame.Frame.{Frame}
 use Rattle.wire_frames.specs.declared.reply.Reply.{Reply}
@@ -11,6 +11,10 @@ use Rattle.local_procs.specs.declared.stage.Stage.{Stage}
 use Rattle.local_procs.specs.declared.stage.Stage.TheVariants as stages
 use Rattle.local_procs.specs.Plans.{Plan, Sends, Ends}
 use Rattle.local_procs.specs.Checker as checker
+use Rattle.local_procs.specs.Builder as builder
+use Rattle.local_procs.specs.declared.builder.Building.{Building}
+use Rattle.local_procs.specs.declared.builder.BuildStage.{BuildStage}
+use Rattle.local_procs.specs.declared.builder.BuildStage.TheVariants as builds
 use Rattle.local_procs.specs.Chain as chain
 use Rattle.local_procs.specs.declared.chain.ChainStage.{ChainStage}
 use Rattle.local_procs.specs.declared.chain.ChainStage.TheVariants as chains
@@ -55,17 +59,50 @@ chain_rank chains.Info = 2
 chain_rank (chains.Annotations info) = 1
 chain_rank chains.Last = 0
 
+-- ---- builder
+
+-- for each member that is left
+abbrev pub rest_rank : Building → ℕ
+rest_rank building = 4 * length (drop building.next building.members)
+
+-- what is left of its members, by the text so far
+abbrev pub rest_of : ElementRef → Building → List ℕ → Plan
+rest_of root building = builder.members root building.canonical (drop building.next building.members)
+
+abbrev pub build_go : ElementRef → BuildStage → Reply → Plan
+build_go root builds.Info = builder.after_info root
+build_go root (builds.Annotations info) = builder.after_annotations root info
+build_go root (builds.Enclosed info) = builder.after_enclosed root info
+build_go root (builds.Member building member) = builder.after_member (rest_of root building) building.text member
+build_go root (builds.Type building name) = builder.after_type (rest_of root building) building.text name
+build_go root (builds.Print building name) = builder.after_print (rest_of root building) building.text name
+build_go root builds.Creation = builder.after_creation root
+build_go root builds.Last = builder.after_warning
+
+abbrev pub build_rank : BuildStage → ℕ
+build_rank builds.Info = 4004
+build_rank (builds.Annotations info) = 4003
+build_rank (builds.Enclosed info) = 4002
+build_rank (builds.Member building member) = rest_rank building + 5
+build_rank (builds.Type building name) = rest_rank building + 4
+build_rank (builds.Print building name) = rest_rank building + 3
+build_rank builds.Creation = 1
+build_rank builds.Last = 0
+
 -- ---- all
 
 abbrev pub go_of : ElementRef → Stage → Reply → Plan
 go_of root (stages.Checks stage) = check_go root stage
+go_of root (stages.Builds stage) = build_go root stage
 go_of root (stages.Chains stage) = chain_go root stage
 
 abbrev pub rank_of : Stage → ℕ
 rank_of (stages.Checks stage) = check_rank stage
+rank_of (stages.Builds stage) = build_rank stage
 rank_of (stages.Chains stage) = chain_rank stage
 
 -- what a processor does for a root
 abbrev pub plan_for : Local → ElementRef → Plan
 plan_for locals.Checker root = checker.checks root
+plan_for locals.Builder root = builder.builds root
 plan_for locals.Chain root = chain.chains root

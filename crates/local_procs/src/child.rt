@@ -1,7 +1,7 @@
 // A child with one of the processors, frame by frame.
 ghost use Rattle.std.specs.Prelude.{◌≡◌, IfOk};
 ghost use Rattle.local_procs.specs.Plans.{Ends, sendable};
-ghost use Rattle.local_procs.specs.Says.{annotation_of, claim_of, hello_of, is_offered, after_roots, answer_by, goes, step, Unbegun};
+ghost use Rattle.local_procs.specs.Says.{annotation_of, claim_of, options_of, hello_of, is_offered, after_roots, answer_by, goes, step, Unbegun};
 ghost use Rattle.local_procs.specs.Walks.{plan_of_walk};
 ghost use Rattle.local_procs.specs.Places.{at_of, shown, answer_of, stands_at, said_by, StaysLocal};
 
@@ -34,6 +34,7 @@ fn annotation_of(local: Local) -> &'static str
     ensures { result.now ≡ annotation_of local }
 {
     match local {
+        Local::Builder => "apt.demo.Builder",
         Local::Checker => "apt.demo.Checked",
         Local::Chain => "apt.demo.Chain",
     }
@@ -43,8 +44,24 @@ fn claim_of(local: Local) -> Claim
     ensures { result ≡ claim_of local }
 {
     match local {
+        Local::Builder => Claim::Always,
         Local::Checker => Claim::Never,
         Local::Chain => Claim::Always,
+    }
+}
+
+fn options_of(alloc: Global, local: Local) -> Result<List<Name>, NoMemory>
+    ensures { IfOk result (λ options. options ≡ options_of local) }
+{
+    let mut options = List::new(alloc);
+    match local {
+        Local::Builder => {
+            let isolating = Name::new(alloc, "org.gradle.annotation.processing.isolating")?;
+            options.push(isolating)?;
+            Ok(options)
+        }
+        Local::Checker => Ok(options),
+        Local::Chain => Ok(options),
     }
 }
 
@@ -55,7 +72,7 @@ fn hello_of(alloc: Global, local: Local) -> Result<Hello, NoMemory>
     patterns.push(Name::new(alloc, annotation_of(local))?)?;
     Ok(Hello {
         patterns,
-        options: List::new(alloc),
+        options: options_of(alloc, local)?,
         claim: claim_of(local),
     })
 }
@@ -75,6 +92,7 @@ fn done(local: Local) -> Said
     ensures { answer_of local result ≡ answer_by local Ends }
 {
     match local {
+        Local::Builder => (Frame::Done { claimed: true }, Place::Rests),
         Local::Checker => (Frame::Done { claimed: false }, Place::Rests),
         Local::Chain => (Frame::Done { claimed: true }, Place::Rests),
     }

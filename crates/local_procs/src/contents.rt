@@ -1,14 +1,14 @@
 // What a reply holds, and the frames that are sent.
-ghost use Rattle.std.specs.Prelude.{◌≡◌, is_some, IfOk};
+ghost use Rattle.std.specs.Prelude.{◌≡◌, is_some, take, IfOk};
 ghost use Rattle.std.specs.Option.{option_copied};
 ghost use Rattle.type_mirror.specs.declared.mirror.BaseMirror.{out-BaseMirror};
-ghost use Rattle.local_procs.specs.Contents.{elements_in, info_in, annotations_in, text_in, is_unit_itself, is_declared_of, is_type_of, is_annotation_of, carries, about, message_at, roots_frame};
+ghost use Rattle.local_procs.specs.Contents.{elements_in, info_in, annotations_in, text_in, mirror_in, is_accepted, is_unit_itself, is_declared_of, is_type_of, is_annotation_of, carries, about, message_at, roots_frame};
 
 use apt_base::{ElementRef, List, Name, NoMemory};
 use frame_forms::ElementQuestion;
 use std::alloc::Global;
 use type_mirror::{Annotation, BaseMirror, Mirror};
-use wire_frames::{Frame, Info, Message, Question, Reply};
+use wire_frames::{Created, Frame, Info, Message, Question, Reply};
 
 /// The facts of an element, where the reply has them.
 pub(crate) fn info_in(reply: &Reply) -> Option<&Info>
@@ -143,4 +143,58 @@ pub(crate) fn frame_of_roots() -> Frame
     ensures { result ≡ roots_frame }
 {
     Frame::Ask(Question::Roots)
+}
+
+fn first_copied(
+    alloc: Global,
+    most: usize,
+    elements: &[ElementRef],
+) -> Result<List<ElementRef>, NoMemory>
+    ensures { IfOk result (λ list. list ≡ take most elements.now) }
+{
+    if elements.len() <= most {
+        return copied(alloc, elements);
+    }
+    copied(alloc, &elements[..most])
+}
+
+/// The first elements of a reply, at most this many.
+pub(crate) fn first_elements(
+    alloc: Global,
+    most: usize,
+    reply: &Reply,
+) -> Result<List<ElementRef>, NoMemory>
+    ensures { IfOk result (λ elements. elements ≡ take most (elements_in reply.now)) }
+{
+    first_copied(alloc, most, elements_of(reply))
+}
+
+/// The first type of a reply.
+pub(crate) fn first_mirror(reply: &Reply) -> Option<&Mirror>
+    ensures { option_copied result ≡ mirror_in reply.now }
+{
+    match reply {
+        Reply::Mirrors(mirrors) => mirrors.get(0),
+        _ => None,
+    }
+}
+
+/// The first text of a reply.
+pub(crate) fn first_text(reply: &Reply) -> Option<&Name>
+    ensures { option_copied result ≡ text_in reply.now }
+{
+    match reply {
+        Reply::Texts(texts) => texts.get(0),
+        _ => None,
+    }
+}
+
+/// Whether a creation was accepted.
+pub(crate) fn is_accepted(reply: &Reply) -> bool
+    ensures { result ≡ is_accepted reply.now }
+{
+    match reply {
+        Reply::Created(Created::Accepted) => true,
+        _ => false,
+    }
 }

@@ -1,15 +1,17 @@
 //! Processors that the program has itself, as functions of the frames that their host sends.
 //!
-//! A `Child` is such a processor in a session: it answers each frame of its host by one frame, or says how that frame
-//! leaves the protocol. `specs/Plans` says what a processor does in a round: the frames that it sends, each with how it
-//! goes on by the reply. `checker` goes from root to root, and what it does for a root is a plan of its own
-//! (`specs/Checker`), so that a round is the plans of its roots one after another. `specs/Says` has the first frame and
-//! each further one. `kinds_hold` carries the laws on all processors: their claims are constant, they send few frames
-//! for a root, and what they give for it has it as its origin.
+//! A `Child` is such a processor in a session: it answers each frame of its host by one frame, or says how that
+//! frame leaves the protocol. `specs/Plans` says what a processor does in a round: the frames that it sends, each
+//! with how it goes on by the reply. `builder`, `checker` and `chain` go from root to root, and what they do for a
+//! root is a plan of its own (`specs/Builder`, `specs/Checker`, `specs/Chain`), so that a round is the plans of its
+//! roots one after another. `specs/Says` has the first frame and each further one. `kinds_hold` carries the laws on
+//! all processors: their claims are constant, they send few frames for a root, and what they give for it has it as
+//! its origin.
 //!
 //! Not promised: that memory is there.
 #![tactic(auto)]
 
+mod builder;
 mod chain;
 mod checker;
 mod child;

@@ -5,6 +5,7 @@ ghost use Rattle.local_procs.specs.Plans.{sendable};
 ghost use Rattle.local_procs.specs.Stages.{plan_by, Falls, go_of, rank_of, plan_for};
 
 use crate::Local;
+use crate::builder::{BuildStage, build_first, build_next};
 use crate::chain::{ChainStage, chain_first, chain_next};
 use crate::checker::{CheckStage, check_first, check_next};
 use apt_base::{ElementRef, NoMemory};
@@ -16,6 +17,8 @@ use wire_frames::{Frame, Refused, Reply, is_too_large};
 pub(crate) enum Stage {
     /// `checker`.
     Checks(CheckStage),
+    /// `builder`.
+    Builds(BuildStage),
     /// `chain`.
     Chains(ChainStage),
 }
@@ -28,6 +31,15 @@ fn checking(step: Option<(Frame, CheckStage)>) -> Step
 {
     match step {
         Some((frame, stage)) => Some((frame, Stage::Checks(stage))),
+        None => None,
+    }
+}
+
+fn building(step: Option<(Frame, BuildStage)>) -> Step
+    ensures { result ≡ option_map (λ x. (x.0, stages.Builds x.1)) step }
+{
+    match step {
+        Some((frame, stage)) => Some((frame, Stage::Builds(stage))),
         None => None,
     }
 }
@@ -47,6 +59,7 @@ fn first_of(alloc: Global, local: Local, root: &ElementRef) -> Result<Step, NoMe
 {
     match local {
         Local::Checker => Ok(checking(check_first(alloc, root)?)),
+        Local::Builder => Ok(building(build_first(alloc, root)?)),
         Local::Chain => Ok(chaining(chain_first(alloc, root)?)),
     }
 }
@@ -58,6 +71,7 @@ fn next_of(alloc: Global, root: &ElementRef, stage: Stage, reply: &Reply) -> Res
 {
     match stage {
         Stage::Checks(stage) => Ok(checking(check_next(alloc, root, stage, reply)?)),
+        Stage::Builds(stage) => Ok(building(build_next(alloc, root, stage, reply)?)),
         Stage::Chains(stage) => Ok(chaining(chain_next(alloc, root, stage, reply)?)),
     }
 }
