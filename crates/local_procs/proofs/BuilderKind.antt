@@ -12,20 +12,20 @@ use Rattle.wire_frames.specs.declared.question.Question.{Question}
 use Rattle.wire_frames.specs.declared.question.Question.TheVariants as question
 use Rattle.wire_frames.specs.declared.reply.Info.{Info}
 use Rattle.wire_frames.specs.declared.reply.Reply.{Reply}
-use Rattle.local_procs.specs.Plans.{Plan, Ends, Sends}
+use Rattle.local_procs.specs.Plans.{Plan, Sends, done}
 use Rattle.local_procs.specs.Contents.{elements_in, info_in, mirror_in, text_in, is_accepted, carries, about}
 use Rattle.local_procs.specs.ClassText.{is_class, source_of}
 use Rattle.local_procs.specs.Builder as builder
 use Rattle.local_procs.specs.Kinds.{GivesFor, IsShort}
 
-either : (P : Plan → Type 0) (b : Bool) (p q : Plan) → P p → P q → P (if b then p else q)
+pub either : (P : Plan → Type 0) (b : Bool) (p q : Plan) → P p → P q → P (if b then p else q)
 either P true p q h k = h
 either P false p q h k = k
 
 -- ---- what it gives
 
 module _ (root : ElementRef) where
-  gives_nothing : GivesFor root Ends
+  gives_nothing : GivesFor root done
   unfolding GivesFor
   gives_nothing = tt
 
@@ -39,7 +39,7 @@ module _ (root : ElementRef) where
 
   gives_after_creation : (answer : Reply) → GivesFor root (builder.after_creation root answer)
   unfolding builder.after_creation
-  gives_after_creation answer = either (GivesFor root) (is_accepted answer) Ends (builder.warns root) gives_nothing gives_warning
+  gives_after_creation answer = either (GivesFor root) (is_accepted answer) done (builder.warns root) gives_nothing gives_warning
 
   gives_source : (name content : List ℕ) → GivesFor root (Sends (source_of root name content) (builder.after_creation root))
   unfolding GivesFor
@@ -77,13 +77,13 @@ module _ (root : ElementRef) where
   gives_annotations : (info : Info) (answer : Reply) → GivesFor root (builder.after_annotations root info answer)
   unfolding builder.after_annotations
   gives_annotations info answer =
-      either (GivesFor root) (carries builder.built answer) _ Ends
+      either (GivesFor root) (carries builder.built answer) _ done
       (gives_question (question.Element asked.Enclosed root) (builder.after_enclosed root info) (gives_enclosed info)) gives_nothing
 
   gives_class : (info : Option Info) → GivesFor root (builder.by_info root info)
   gives_class None = gives_nothing
   gives_class (Some info) =
-      either (GivesFor root) (is_class info.kind) _ Ends
+      either (GivesFor root) (is_class info.kind) _ done
       (gives_question (question.Element asked.Annotations root) (builder.after_annotations root info) (gives_annotations info)) gives_nothing
 
   gives_info : (answer : Reply) → GivesFor root (builder.after_info root answer)
@@ -95,7 +95,7 @@ gives_builds root = gives_question root (question.Element asked.Info root) (buil
 
 -- ---- how much it sends, where it may send n frames or more
 
-ends_short : (n : ℕ) → IsShort n Ends
+ends_short : (n : ℕ) → IsShort n done
 unfolding IsShort
 ends_short n = tt
 
@@ -109,7 +109,7 @@ warns_short root n h = sends_short n 0 _ builder.after_warning (omega (arith, h)
 
 created_short : (root : ElementRef) (n : ℕ) → 1 ≤ n → (answer : Reply) → IsShort n (builder.after_creation root answer)
 unfolding builder.after_creation
-created_short root n h answer = either (IsShort n) (is_accepted answer) Ends (builder.warns root) (ends_short n) (warns_short root n h)
+created_short root n h answer = either (IsShort n) (is_accepted answer) done (builder.warns root) (ends_short n) (warns_short root n h)
 
 file_short : (root : ElementRef) (canonical content : List ℕ) (n : ℕ) → 2 ≤ n → IsShort n (builder.creates root canonical content)
 file_short root canonical content n h =
@@ -149,13 +149,13 @@ enclosed_short root info n h answer = members_short root info.canonical (take 10
 annotations_short : (root : ElementRef) (info : Info) (n : ℕ) → 3003 ≤ n → (answer : Reply) → IsShort n (builder.after_annotations root info answer)
 unfolding builder.after_annotations
 annotations_short root info n h answer =
-    either (IsShort n) (carries builder.built answer) _ Ends
+    either (IsShort n) (carries builder.built answer) _ done
     (sends_short n 3002 (about asked.Enclosed root) (builder.after_enclosed root info) h (λ k l reply. enclosed_short root info k l reply)) (ends_short n)
 
 class_short : (root : ElementRef) (info : Option Info) (n : ℕ) → 3004 ≤ n → IsShort n (builder.by_info root info)
 class_short root None n h = ends_short n
 class_short root (Some info) n h =
-    either (IsShort n) (is_class info.kind) _ Ends
+    either (IsShort n) (is_class info.kind) _ done
     (sends_short n 3003 (about asked.Annotations root) (builder.after_annotations root info) h (λ k l reply. annotations_short root info k l reply)) (ends_short n)
 
 info_short : (root : ElementRef) (n : ℕ) → 3004 ≤ n → (answer : Reply) → IsShort n (builder.after_info root answer)

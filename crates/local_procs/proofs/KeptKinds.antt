@@ -6,13 +6,14 @@ use Rattle.frame_forms.specs.declared.question_row.ElementQuestion.{ElementQuest
 use Rattle.frame_forms.specs.declared.question_row.ElementQuestion.TheVariants as asked
 use Rattle.wire_frames.specs.declared.reply.Info.{Info}
 use Rattle.wire_frames.specs.declared.reply.Reply.{Reply}
-use Rattle.local_procs.specs.declared.local.Local.TheVariants.{Builder, Chain, Checker}
-use Rattle.local_procs.specs.Plans.{Plan, Ends, Sends}
+use Rattle.local_procs.specs.declared.local.Local.TheVariants.{Builder, Chain, Checker, Registry}
+use Rattle.local_procs.specs.Plans.{Plan, Sends, done}
 use Rattle.local_procs.specs.Contents.{info_in, text_in, carries, about}
 use Rattle.local_procs.specs.Checker as checker
 use Rattle.local_procs.specs.Chain as chain
 use Rattle.local_procs.specs.ClassText.{is_class, source_of}
 use Rattle.local_procs.proofs.BuilderKind.{gives_builds, builds_short}
+use Rattle.local_procs.proofs.RegistryKind.{gives_gathered, gathered_short}
 use Rattle.local_procs.specs.Kinds.{GivesFor, IsShort, AllKeepKinds}
 
 either : (P : Plan → Type 0) (b : Bool) (p q : Plan) → P p → P q → P (if b then p else q)
@@ -25,14 +26,14 @@ gives_text : (kind : ℕ) (root : ElementRef) (text : List ℕ) → GivesFor roo
 unfolding GivesFor
 gives_text kind root text = (refl, λ answer. tt)
 
-gives_nothing : (root : ElementRef) → GivesFor root Ends
+gives_nothing : (root : ElementRef) → GivesFor root done
 unfolding GivesFor
 gives_nothing root = tt
 
 gives_comment : (root : ElementRef) (answer : Reply) → GivesFor root (checker.after_comment root answer)
 unfolding checker.after_comment
 gives_comment root answer =
-    either (GivesFor root) (is_some (text_in answer)) Ends (checker.says_at 1 root (codes "no doc comment")) (gives_nothing root)
+    either (GivesFor root) (is_some (text_in answer)) done (checker.says_at 1 root (codes "no doc comment")) (gives_nothing root)
     (gives_text 1 root (codes "no doc comment"))
 
 gives_question : (root : ElementRef) (question : ElementQuestion) (go : Reply → Plan) → ((answer : Reply) → GivesFor root (go answer))
@@ -43,7 +44,7 @@ gives_question root question go h = (tt, h)
 gives_annotations : (root : ElementRef) (simple : List ℕ) (answer : Reply) → GivesFor root (checker.after_annotations root simple answer)
 unfolding checker.after_annotations
 gives_annotations root simple answer =
-    either (GivesFor root) (carries checker.checked answer) _ Ends
+    either (GivesFor root) (carries checker.checked answer) _ done
     (either (GivesFor root) (checker.begins_in_lower_case simple) (checker.says_at 0 root (codes "name begins in lower case")) _
     (gives_text 0 root (codes "name begins in lower case"))
     (gives_question root asked.DocComment (checker.after_comment root) (gives_comment root)))
@@ -52,7 +53,7 @@ gives_annotations root simple answer =
 gives_by_info : (root : ElementRef) (info : Option Info) → GivesFor root (checker.by_info root info)
 gives_by_info root None = gives_nothing root
 gives_by_info root (Some info) =
-    either (GivesFor root) (checker.is_type info.kind) _ Ends
+    either (GivesFor root) (checker.is_type info.kind) _ done
     (gives_question root asked.AllAnnotations (checker.after_annotations root info.simple) (gives_annotations root info.simple))
     (gives_nothing root)
 
@@ -65,7 +66,7 @@ gives_checks root = gives_question root asked.Info (checker.after_info root) (gi
 
 -- ---- how much it sends
 
-ends_short : (n : ℕ) → IsShort n Ends
+ends_short : (n : ℕ) → IsShort n done
 unfolding IsShort
 ends_short n = tt
 
@@ -81,13 +82,13 @@ question_short n root question go h = h
 comment_short : (root : ElementRef) (answer : Reply) → IsShort (suc zero) (checker.after_comment root answer)
 unfolding checker.after_comment
 comment_short root answer =
-    either (IsShort (suc zero)) (is_some (text_in answer)) Ends (checker.says_at 1 root (codes "no doc comment")) (ends_short (suc zero))
+    either (IsShort (suc zero)) (is_some (text_in answer)) done (checker.says_at 1 root (codes "no doc comment")) (ends_short (suc zero))
     (text_short zero 1 root (codes "no doc comment"))
 
 annotations_short : (root : ElementRef) (simple : List ℕ) (answer : Reply) → IsShort (suc (suc zero)) (checker.after_annotations root simple answer)
 unfolding checker.after_annotations
 annotations_short root simple answer =
-    either (IsShort (suc (suc zero))) (carries checker.checked answer) _ Ends
+    either (IsShort (suc (suc zero))) (carries checker.checked answer) _ done
     (either (IsShort (suc (suc zero))) (checker.begins_in_lower_case simple) (checker.says_at 0 root (codes "name begins in lower case")) _
     (text_short (suc zero) 0 root (codes "name begins in lower case"))
     (question_short (suc zero) root asked.DocComment (checker.after_comment root) (comment_short root)))
@@ -96,7 +97,7 @@ annotations_short root simple answer =
 by_info_short : (root : ElementRef) (info : Option Info) → IsShort (suc (suc (suc zero))) (checker.by_info root info)
 by_info_short root None = ends_short (suc (suc (suc zero)))
 by_info_short root (Some info) =
-    either (IsShort (suc (suc (suc zero)))) (checker.is_type info.kind) _ Ends
+    either (IsShort (suc (suc (suc zero)))) (checker.is_type info.kind) _ done
     (question_short (suc (suc zero)) root asked.AllAnnotations (checker.after_annotations root info.simple) (annotations_short root info.simple))
     (ends_short (suc (suc (suc zero))))
 
@@ -124,7 +125,7 @@ gives_links root info answer = gives_number root info (chain.links_in answer)
 gives_class : (root : ElementRef) (info : Option Info) → GivesFor root (chain.by_info root info)
 gives_class root None = gives_nothing root
 gives_class root (Some info) =
-    either (GivesFor root) (is_class info.kind) _ Ends
+    either (GivesFor root) (is_class info.kind) _ done
     (gives_question root asked.Annotations (chain.after_annotations root info) (gives_links root info))
     (gives_nothing root)
 
@@ -150,7 +151,7 @@ links_short root info answer = number_short root info (chain.links_in answer)
 class_short : (root : ElementRef) (info : Option Info) → IsShort (suc (suc (suc zero))) (chain.by_info root info)
 class_short root None = ends_short (suc (suc (suc zero)))
 class_short root (Some info) =
-    either (IsShort (suc (suc (suc zero)))) (is_class info.kind) _ Ends
+    either (IsShort (suc (suc (suc zero)))) (is_class info.kind) _ done
     (question_short (suc (suc zero)) root asked.Annotations (chain.after_annotations root info) (links_short root info))
     (ends_short (suc (suc (suc zero))))
 
@@ -173,3 +174,4 @@ pub all_keep_kinds : AllKeepKinds
 all_keep_kinds Checker = record { constant = never_varies; attributed = gives_checks; short = checks_short }
 all_keep_kinds Builder = record { constant = always_varies; attributed = gives_builds; short = builds_short }
 all_keep_kinds Chain = record { constant = always_varies; attributed = gives_chains; short = chains_short }
+all_keep_kinds Registry = record { constant = always_varies; gathered = gives_gathered; short = gathered_short }

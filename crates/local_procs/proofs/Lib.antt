@@ -3,4 +3,6 @@ pub mod Walking
 pub mod MembersLeft
 pub mod RoundsBegun
 pub mod BuilderKind
+pub mod Registering
+pub mod RegistryKind
 pub mod KeptKinds

@@ -4,7 +4,7 @@ use Rattle.wire_frames.specs.Limits.{is_too_large}
 use Rattle.wire_frames.specs.declared.frame.Frame.{Frame}
 use Rattle.local_procs.specs.declared.local.Local.{Local}
 use Rattle.local_procs.specs.Contents.{roots_frame}
-use Rattle.local_procs.specs.Plans.{Ends, Sends, sendable, nothing}
+use Rattle.local_procs.specs.Plans.{Sends, done, sendable, nothing}
 use Rattle.local_procs.specs.Says.{Answer, Waits, annotation_of, is_offered, goes, after_roots}
 use Rattle.local_procs.proofs.Sending.{ends_sent, small_sent, large_sent}
 
@@ -18,7 +18,7 @@ roots_test frame found b is same test = ap is_too_large (sym is) ∙ sym same �
 abbrev pub waits_with : Local → Frame → Answer
 waits_with local frame = (frame, Waits (after_roots local))
 
-pub not_offered : (local : Local) (there : Bool) → there ≡ false → sendable (goes local there) ≡ Ends
+pub not_offered : (local : Local) (there : Bool) → there ≡ false → sendable (goes local there) ≡ done
 not_offered local there h = rw h ends_sent
 
 pub roots_small : (local : Local) (there : Bool) → there ≡ true → is_too_large roots_frame ≡ false → sendable (goes local there) ≡ Sends roots_frame (after_roots local)

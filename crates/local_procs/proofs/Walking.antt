@@ -1,7 +1,7 @@
 -- One root after another.
 use Rattle.std.proofs.Common.{◌≡◌, ℕ, zero, suc, ◌+◌, List, [], ◌∷◌, drop, Some, None, slice_get, refl, sym, ap, arith}
 use Rattle.apt_base.specs.declared.element.ElementRef.{ElementRef}
-use Rattle.local_procs.specs.Plans.{Plan, Ends, sendable, each_of}
+use Rattle.local_procs.specs.Plans.{Plan, done, sendable, each_of}
 use Rattle.local_procs.proofs.Sending.{ends_sent, sent_before, then_sent}
 
 rest_nil : {A : Type 0} (n : ℕ) → drop n (let none : List A = [] in none) ≡ []
@@ -19,7 +19,7 @@ rest_some (y ∷ ys) zero x e = let is : y ≡ x = cc in ap (λ z. z ∷ ys) is
 rest_some (y ∷ ys) (suc n) x e = rest_some ys n x e
 
 module _ (plan : ElementRef → Plan) (xs : List ElementRef) (n : ℕ) where
-  pub all_done : None ≡ slice_get xs n → Ends ≡ sendable (each_of plan (drop n xs))
+  pub all_done : None ≡ slice_get xs n → done ≡ sendable (each_of plan (drop n xs))
   unfolding each_of
   all_done e = rw (rest_none xs n (sym e)) (sym ends_sent)
 

@@ -8,7 +8,7 @@ use Rattle.wire_frames.specs.declared.frame.Frame.TheVariants as frame
 use Rattle.wire_frames.specs.declared.question.Question.TheVariants as question
 use Rattle.wire_frames.specs.declared.reply.Info.{Info}
 use Rattle.wire_frames.specs.declared.reply.Reply.{Reply}
-use Rattle.local_procs.specs.Plans.{Plan, Sends, Ends}
+use Rattle.local_procs.specs.Plans.{Plan, Sends, done}
 use Rattle.local_procs.specs.Contents.{elements_in, info_in, mirror_in, text_in, is_accepted, carries, about, message_at}
 use Rattle.local_procs.specs.ClassText.{is_class, package_of, package_line, source_of}
 
@@ -29,13 +29,13 @@ with_line text name (Some type) = text ++ codes "  public " ++ type ++ codes " "
 -- ---- the plan
 
 abbrev pub after_warning : Reply → Plan
-after_warning answer = Ends
+after_warning answer = done
 
 abbrev pub warns : ElementRef → Plan
 warns root = Sends (message_at 1 root (codes "builder not created")) after_warning
 
 unfoldable pub after_creation : ElementRef → Reply → Plan
-after_creation root answer = if is_accepted answer then Ends else warns root
+after_creation root answer = if is_accepted answer then done else warns root
 
 -- the most bytes of a source
 abbrev pub most_bytes : ℕ
@@ -83,11 +83,11 @@ unfoldable pub after_enclosed : ElementRef → Info → Reply → Plan
 after_enclosed root info answer = members root info.canonical (take 1000 (elements_in answer)) (heading_of info)
 
 unfoldable pub after_annotations : ElementRef → Info → Reply → Plan
-after_annotations root info answer = if carries built answer then Sends (about asked.Enclosed root) (after_enclosed root info) else Ends
+after_annotations root info answer = if carries built answer then Sends (about asked.Enclosed root) (after_enclosed root info) else done
 
 abbrev pub by_info : ElementRef → Option Info → Plan
-by_info root None = Ends
-by_info root (Some info) = if is_class info.kind then Sends (about asked.Annotations root) (after_annotations root info) else Ends
+by_info root None = done
+by_info root (Some info) = if is_class info.kind then Sends (about asked.Annotations root) (after_annotations root info) else done
 
 unfoldable pub after_info : ElementRef → Reply → Plan
 after_info root answer = by_info root (info_in answer)

@@ -10,7 +10,7 @@ use Rattle.type_mirror.specs.declared.value.Value.TheOpen.{Value-F}
 use Rattle.frame_forms.specs.declared.question_row.ElementQuestion.TheVariants as asked
 use Rattle.wire_frames.specs.declared.reply.Info.{Info}
 use Rattle.wire_frames.specs.declared.reply.Reply.{Reply}
-use Rattle.local_procs.specs.Plans.{Plan, Sends, Ends}
+use Rattle.local_procs.specs.Plans.{Plan, Sends, done}
 use Rattle.local_procs.specs.Contents.{first_in, info_in, annotations_in, is_annotation_of, about}
 use Rattle.local_procs.specs.ClassText.{is_class, package_of, package_line, source_of}
 
@@ -47,18 +47,18 @@ text_of info n =
 
 -- what is asked or said last
 abbrev pub after_last : Reply → Plan
-after_last answer = Ends
+after_last answer = done
 
 abbrev pub by_number : ElementRef → Info → Option ℕ → Plan
-by_number root info None = Ends
+by_number root info None = done
 by_number root info (Some n) = Sends (source_of root (info.canonical ++ codes "_") (text_of info n)) after_last
 
 unfoldable pub after_annotations : ElementRef → Info → Reply → Plan
 after_annotations root info answer = by_number root info (links_in answer)
 
 abbrev pub by_info : ElementRef → Option Info → Plan
-by_info root None = Ends
-by_info root (Some info) = if is_class info.kind then Sends (about asked.Annotations root) (after_annotations root info) else Ends
+by_info root None = done
+by_info root (Some info) = if is_class info.kind then Sends (about asked.Annotations root) (after_annotations root info) else done
 
 unfoldable pub after_info : ElementRef → Reply → Plan
 after_info root answer = by_info root (info_in answer)

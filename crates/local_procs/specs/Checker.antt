@@ -5,7 +5,7 @@ use Rattle.apt_base.specs.declared.element.ElementRef.{ElementRef}
 use Rattle.frame_forms.specs.declared.question_row.ElementQuestion.TheVariants as asked
 use Rattle.wire_frames.specs.declared.reply.Info.{Info}
 use Rattle.wire_frames.specs.declared.reply.Reply.{Reply}
-use Rattle.local_procs.specs.Plans.{Plan, Sends, Ends}
+use Rattle.local_procs.specs.Plans.{Plan, Sends, done}
 use Rattle.local_procs.specs.Contents.{info_in, text_in, carries, about, message_at}
 
 abbrev pub checked : List ℕ
@@ -22,23 +22,23 @@ begins_in_lower_case (byte ∷ others) = nat_le 97 byte && nat_le byte 122
 
 -- what is asked or said last
 abbrev pub after_last : Reply → Plan
-after_last answer = Ends
+after_last answer = done
 
 abbrev pub says_at : ℕ → ElementRef → List ℕ → Plan
 says_at kind root text = Sends (message_at kind root text) after_last
 
 unfoldable pub after_comment : ElementRef → Reply → Plan
-after_comment root answer = if is_some (text_in answer) then Ends else says_at 1 root (codes "no doc comment")
+after_comment root answer = if is_some (text_in answer) then done else says_at 1 root (codes "no doc comment")
 
 unfoldable pub after_annotations : ElementRef → List ℕ → Reply → Plan
 after_annotations root simple answer =
     if carries checked answer then
     (if begins_in_lower_case simple then says_at 0 root (codes "name begins in lower case") else Sends (about asked.DocComment root) (after_comment root))
-    else Ends
+    else done
 
 abbrev pub by_info : ElementRef → Option Info → Plan
-by_info root None = Ends
-by_info root (Some info) = if is_type info.kind then Sends (about asked.AllAnnotations root) (after_annotations root info.simple) else Ends
+by_info root None = done
+by_info root (Some info) = if is_type info.kind then Sends (about asked.AllAnnotations root) (after_annotations root info.simple) else done
 
 unfoldable pub after_info : ElementRef → Reply → Plan
 after_info root answer = by_info root (info_in answer)

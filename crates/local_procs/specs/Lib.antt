@@ -4,6 +4,7 @@ pub mod Builder
 pub mod Checker
 pub mod ClassText
 pub mod Chain
+pub mod Registry
 pub mod Stages
 pub mod Walks
 pub mod Says

@@ -7,13 +7,15 @@ use Rattle.local_procs.specs.declared.child.Place.{Place}
 use Rattle.local_procs.specs.declared.child.Place.TheVariants as places
 use Rattle.local_procs.specs.declared.local.Local.{Local}
 use Rattle.local_procs.specs.Says.{At, Unbegun, Rests, Waits, Answer, after_roots}
+use Rattle.local_procs.specs.Stages.{registry_go}
 use Rattle.local_procs.specs.Walks.{walk_go}
 
 abbrev pub at_of : Local → Place → At
 at_of local places.Unbegun = Unbegun
-at_of local places.Rests = Rests
+at_of local (places.Rests kept) = Rests kept
 at_of local places.Roots = Waits (after_roots local)
 at_of local (places.Walks walk) = Waits (walk_go local walk)
+at_of local (places.Registers stage) = Waits (registry_go stage)
 
 abbrev pub answer_of : Local → Frame × Place → Answer
 answer_of local said = (said.0, at_of local said.1)

@@ -1,4 +1,4 @@
--- What a processor does by the reply for which it waits, of the root that it handles.
+-- What a processor does by the reply for which it waits, of the root that it handles or of its round.
 use Rattle.std.specs.Prelude.{ℕ, ◌+◌, ◌*◌, ◌<◌, List, drop, length, Option, None, Some}
 use Rattle.apt_base.specs.declared.element.ElementRef.{ElementRef}
 use Rattle.wire_frames.specs.declared.frame.Frame.{Frame}
@@ -9,7 +9,7 @@ use Rattle.local_procs.specs.declared.local.Local.{Local}
 use Rattle.local_procs.specs.declared.local.Local.TheVariants as locals
 use Rattle.local_procs.specs.declared.stage.Stage.{Stage}
 use Rattle.local_procs.specs.declared.stage.Stage.TheVariants as stages
-use Rattle.local_procs.specs.Plans.{Plan, Sends, Ends}
+use Rattle.local_procs.specs.Plans.{Plan, Sends, Ends, done}
 use Rattle.local_procs.specs.Checker as checker
 use Rattle.local_procs.specs.Builder as builder
 use Rattle.local_procs.specs.declared.builder.Building.{Building}
@@ -18,6 +18,11 @@ use Rattle.local_procs.specs.declared.builder.BuildStage.TheVariants as builds
 use Rattle.local_procs.specs.Chain as chain
 use Rattle.local_procs.specs.declared.chain.ChainStage.{ChainStage}
 use Rattle.local_procs.specs.declared.chain.ChainStage.TheVariants as chains
+use Rattle.local_procs.specs.Registry as registry
+use Rattle.local_procs.specs.declared.registry.RegistryStage.{RegistryStage}
+use Rattle.local_procs.specs.declared.registry.RegistryStage.TheVariants as registers
+use Rattle.local_procs.specs.declared.registry.RegistryStep.{RegistryStep}
+use Rattle.local_procs.specs.declared.registry.RegistryStep.TheVariants as registry_steps
 
 -- a step: nothing more is sent for the root, or a frame is
 abbrev pub Step : Type 0 → Type 0
@@ -25,7 +30,7 @@ Step S = Option (Frame × S)
 
 -- go says how a stage goes on
 abbrev pub plan_by : {S : Type 0} → (S → Reply → Plan) → Step S → Plan
-plan_by go None = Ends
+plan_by go None = done
 plan_by go (Some x) = Sends x.0 (go x.1)
 
 -- the stage that follows is nearer to the end
@@ -89,6 +94,16 @@ build_rank (builds.Print building name) = rest_rank building + 3
 build_rank builds.Creation = 1
 build_rank builds.Last = 0
 
+-- ---- registry, of its round
+
+abbrev pub registry_go : RegistryStage → Reply → Plan
+registry_go (registers.Registered over kept) = registry.after_registered over kept
+registry_go (registers.File kept) = registry.after_file kept
+
+abbrev pub registry_plan : RegistryStep → Plan
+registry_plan (registry_steps.Sends sent stage) = Sends sent (registry_go stage)
+registry_plan (registry_steps.Ends kept) = Ends kept
+
 -- ---- all
 
 abbrev pub go_of : ElementRef → Stage → Reply → Plan
@@ -101,8 +116,9 @@ rank_of (stages.Checks stage) = check_rank stage
 rank_of (stages.Builds stage) = build_rank stage
 rank_of (stages.Chains stage) = chain_rank stage
 
--- what a processor does for a root
+-- what a processor does for a root: registry handles none
 abbrev pub plan_for : Local → ElementRef → Plan
 plan_for locals.Checker root = checker.checks root
 plan_for locals.Builder root = builder.builds root
 plan_for locals.Chain root = chain.chains root
+plan_for locals.Registry root = done

@@ -1,14 +1,16 @@
 // A child with one of the processors, frame by frame.
 ghost use Rattle.std.specs.Prelude.{◌≡◌, IfOk};
-ghost use Rattle.local_procs.specs.Plans.{Ends, sendable};
-ghost use Rattle.local_procs.specs.Says.{annotation_of, claim_of, options_of, hello_of, is_offered, after_roots, answer_by, goes, step, Unbegun};
+ghost use Rattle.local_procs.specs.Plans.{Ends, done, sendable};
+ghost use Rattle.local_procs.specs.Says.{annotation_of, claim_of, options_of, hello_of, is_offered, after_roots, answer_by, goes, begins, step, Unbegun};
+ghost use Rattle.local_procs.specs.Stages.{registry_plan};
 ghost use Rattle.local_procs.specs.Walks.{plan_of_walk};
 ghost use Rattle.local_procs.specs.Places.{at_of, shown, answer_of, stands_at, said_by, StaysLocal};
 
 use crate::Local;
 use crate::contents::{elements_in, frame_of_roots};
+use crate::registry::{RegistryStage, RegistryStep, registers, registry_next};
 use crate::walk::{Walk, walk_by, walk_on};
-use apt_base::{Claim, List, Name, NoMemory};
+use apt_base::{Claim, List, Name, Names, NoMemory};
 use frame_breaches::{Breach, stray};
 use std::alloc::Global;
 use wire_frames::{Frame, Hello, Refused, Reply, is_too_large};
@@ -18,12 +20,14 @@ use wire_frames::{Frame, Hello, Refused, Reply, is_too_large};
 pub(crate) enum Place {
     /// Nothing came yet.
     Unbegun,
-    /// Between rounds.
-    Rests,
+    /// Between rounds, with the names that it remembers.
+    Rests(Names),
     /// It waits for the roots of its round.
     Roots,
     /// It goes from root to root.
     Walks(Walk),
+    /// It is `registry`, and waits in its round.
+    Registers(RegistryStage),
 }
 
 /// A frame that a child sends, and where it stands then.
@@ -37,6 +41,7 @@ fn annotation_of(local: Local) -> &'static str
         Local::Builder => "apt.demo.Builder",
         Local::Checker => "apt.demo.Checked",
         Local::Chain => "apt.demo.Chain",
+        Local::Registry => "apt.demo.Registered",
     }
 }
 
@@ -47,6 +52,7 @@ fn claim_of(local: Local) -> Claim
         Local::Builder => Claim::Always,
         Local::Checker => Claim::Never,
         Local::Chain => Claim::Always,
+        Local::Registry => Claim::Always,
     }
 }
 
@@ -62,6 +68,11 @@ fn options_of(alloc: Global, local: Local) -> Result<List<Name>, NoMemory>
         }
         Local::Checker => Ok(options),
         Local::Chain => Ok(options),
+        Local::Registry => {
+            let aggregating = Name::new(alloc, "org.gradle.annotation.processing.aggregating")?;
+            options.push(aggregating)?;
+            Ok(options)
+        }
     }
 }
 
@@ -88,23 +99,41 @@ fn is_offered(name: &str, offered: &[Name]) -> bool
     false
 }
 
-fn done(local: Local) -> Said
-    ensures { answer_of local result ≡ answer_by local Ends }
+// The round is done, and these names are remembered.
+fn done_with(local: Local, kept: Names) -> Said
+    ensures { answer_of local result ≡ answer_by local (Ends kept) }
 {
     match local {
-        Local::Builder => (Frame::Done { claimed: true }, Place::Rests),
-        Local::Checker => (Frame::Done { claimed: false }, Place::Rests),
-        Local::Chain => (Frame::Done { claimed: true }, Place::Rests),
+        Local::Builder => (Frame::Done { claimed: true }, Place::Rests(kept)),
+        Local::Checker => (Frame::Done { claimed: false }, Place::Rests(kept)),
+        Local::Chain => (Frame::Done { claimed: true }, Place::Rests(kept)),
+        Local::Registry => (Frame::Done { claimed: true }, Place::Rests(kept)),
     }
 }
 
+fn done(alloc: Global, local: Local) -> Said
+    ensures { answer_of local result ≡ answer_by local done }
+{
+    done_with(local, Names::new(alloc))
+}
+
 // What is said by where the walk over the roots stands.
-fn walking(local: Local, walk: Option<(Frame, Walk)>) -> Said
+fn walking(alloc: Global, local: Local, walk: Option<(Frame, Walk)>) -> Said
     ensures { answer_of local result ≡ answer_by local (plan_of_walk local walk) }
 {
     match walk {
         Some((frame, walk)) => (frame, Place::Walks(walk)),
-        None => done(local),
+        None => done(alloc, local),
+    }
+}
+
+// What is said by what `registry` does next.
+fn registering(local: Local, step: RegistryStep) -> Said
+    ensures { answer_of local result ≡ answer_by local (registry_plan step) }
+{
+    match step {
+        RegistryStep::Sends(frame, stage) => (frame, Place::Registers(stage)),
+        RegistryStep::Ends(kept) => done_with(local, kept),
     }
 }
 
@@ -114,16 +143,15 @@ fn after_roots(alloc: Global, local: Local, reply: &Reply) -> Result<Said, NoMem
 {
     let roots = elements_in(alloc, reply)?;
     let walk = walk_on(alloc, local, roots, 0)?;
-    Ok(walking(local, walk))
+    Ok(walking(alloc, local, walk))
 }
 
-// A round that begins.
-fn begins(alloc: Global, local: Local, offered: &[Name]) -> Result<Said, NoMemory>
-    ensures { IfOk result (λ said. answer_of local said
-        ≡ answer_by local (sendable (goes local (is_offered (annotation_of local) offered.now)))) }
+// A round of one that goes from root to root.
+fn goes(alloc: Global, local: Local, there: bool) -> Result<Said, NoMemory>
+    ensures { IfOk result (λ said. answer_of local said ≡ answer_by local (sendable (goes local there))) }
 {
-    if !is_offered(annotation_of(local), offered) {
-        return Ok(done(local));
+    if !there {
+        return Ok(done(alloc, local));
     }
     let frame = frame_of_roots();
     if is_too_large(&frame) {
@@ -131,6 +159,30 @@ fn begins(alloc: Global, local: Local, offered: &[Name]) -> Result<Said, NoMemor
         return after_roots(alloc, local, &Reply::Refused(Refused::TooLarge));
     }
     Ok((frame, Place::Roots))
+}
+
+// A round that begins.
+fn begins(
+    alloc: Global,
+    local: Local,
+    offered: &[Name],
+    over: bool,
+    kept: Names,
+) -> Result<Said, NoMemory>
+    ensures { IfOk result (λ said. answer_of local said
+        ≡ answer_by local (sendable (begins local (is_offered (annotation_of local) offered.now) over kept))) }
+{
+    let there = is_offered(annotation_of(local), offered);
+    match local {
+        Local::Registry => {
+            let step = registers(alloc, there, over, kept)?;
+            Ok(registering(local, step))
+        }
+        Local::Builder | Local::Checker | Local::Chain => {
+            drop(kept);
+            goes(alloc, local, there)
+        }
+    }
 }
 
 /// What a child answers to a frame of its host, and where it stands then. A frame that may not come where it stands is
@@ -147,15 +199,20 @@ pub(crate) fn answer(
     match (place, frame) {
         (Place::Unbegun, Frame::Init(_)) => {
             let hello = hello_of(alloc, local)?;
-            Ok(Ok((Frame::Hello(hello), Place::Rests)))
+            Ok(Ok((Frame::Hello(hello), Place::Rests(Names::new(alloc)))))
         }
-        (Place::Rests, Frame::Round { offered, .. }) => {
-            Ok(Ok(begins(alloc, local, offered.as_slice())?))
+        (Place::Rests(kept), Frame::Round { over, offered, .. }) => {
+            let said = begins(alloc, local, offered.as_slice(), *over, kept)?;
+            Ok(Ok(said))
         }
         (Place::Roots, Frame::Reply(reply)) => Ok(Ok(after_roots(alloc, local, reply)?)),
         (Place::Walks(walk), Frame::Reply(reply)) => {
             let walk = walk_by(alloc, local, walk, reply)?;
-            Ok(Ok(walking(local, walk)))
+            Ok(Ok(walking(alloc, local, walk)))
+        }
+        (Place::Registers(stage), Frame::Reply(reply)) => {
+            let step = registry_next(alloc, stage, reply)?;
+            Ok(Ok(registering(local, step)))
         }
         (place, frame) => {
             drop(place);

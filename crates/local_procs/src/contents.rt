@@ -129,7 +129,8 @@ pub(crate) fn elements_in(alloc: Global, reply: &Reply) -> Result<List<ElementRe
     copied(alloc, elements_of(reply))
 }
 
-fn elements_of(reply: &Reply) -> &[ElementRef]
+/// The same where they stand.
+pub(crate) fn elements_of(reply: &Reply) -> &[ElementRef]
     ensures { result.now ≡ elements_in reply.now }
 {
     match reply {

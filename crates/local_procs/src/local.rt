@@ -9,4 +9,6 @@ pub enum Local {
     Checker,
     /// Creates a class for a class, as often as it says; isolating.
     Chain,
+    /// Lists the types that are registered, in one file; aggregating.
+    Registry,
 }

@@ -61,6 +61,7 @@ fn first_of(alloc: Global, local: Local, root: &ElementRef) -> Result<Step, NoMe
         Local::Checker => Ok(checking(check_first(alloc, root)?)),
         Local::Builder => Ok(building(build_first(alloc, root)?)),
         Local::Chain => Ok(chaining(chain_first(alloc, root)?)),
+        Local::Registry => Ok(None),
     }
 }
 
