@@ -150,10 +150,7 @@ pub(crate) fn registers(
         drop(frame);
         return after_registered(alloc, over, kept, &Reply::Refused(Refused::TooLarge));
     }
-    Ok(RegistryStep::Sends(
-        frame,
-        RegistryStage::Registered { over, kept },
-    ))
+    Ok(RegistryStep::Sends(frame, RegistryStage::Registered { over, kept }))
 }
 
 /// What it does next, by the reply for which it waits.
