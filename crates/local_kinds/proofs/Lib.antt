@@ -1,0 +1,13 @@
+pub mod FramesRead
+pub mod Hearing
+pub mod Exchanges
+pub mod Turns
+pub mod PlanFrames
+pub mod RoundExchanges
+pub mod SessionsHeard
+pub mod Origins
+pub mod Carriers
+pub mod CarriedNames
+pub mod OfferedNames
+pub mod ReadingFrames
+pub mod KindsKept
