@@ -5,22 +5,24 @@
 
 PART is `util`, `growth`, `forms` or the name of a form; all are measured where none is named. PATH is the program of cases. Where it is
 left out, tests/cases.py builds it at -O3, which takes some minutes, and it is kept in bench/built. Its table `answer_cases` has the calls
-`collect` and `frames`, by which one value of `Answering` is asked many questions many times and spells the frame of each reply, and
+`collect` and `frames`, by which one value of `Answering` is asked many questions many times for the frame of each reply, and
 `alone`, which makes a value for each question. The time of a round of questions is the processor time of a run with many rounds less that of a run with one; so
-what a run does once, as reading the files, is not in it, and what a value remembers was found in the first round. The program tests each
-index and each sum, as every one that is built without proofs.
+what a run does once, as reading the files, is not in it, and what a value remembers was found in the first round: a question that was
+asked before is answered by a copy of the frame. What a first question takes is the time of `alone`, where nothing is remembered. The
+program tests each index and each sum, as every one that is built without proofs.
 
 - `util` asks Info, TypeOf and Annotations of each type, member and parameter that the JDK's java.util declares, Enclosed and AllMembers
   of each type, and Subtype of each type with its direct supertypes and theirs, as they are and erased, and with ten other types. The
   table has all files below java of ARCHIVE, the src.zip of a JDK, that have units. A processor in a warm javac makes the same calls of
   the same elements (AnswerBench.java), in turn in one run: once the calls alone, of which lists are counted, and once with each answer
-  gone through, down to the elements in its types and values. The ratio says how many replies the program gives where javac makes one call.
-- `growth` asks the same of 240 types, in a table of 5,000 and of 50,000 types, less the 50 of a package.
+  gone through, down to the elements in its types and values. The ratios say how many replies the program gives where javac makes one call,
+  to questions that were asked before, and to first ones.
+- `growth` asks the same of 240 types, in a table of 5,000 and of 50,000 types, less the 50 of a package, again and for the first time.
 - `forms` are deep and wide declarations and questions, which grow in one number. Each question has one reply, which is known; a line has
   the milliseconds of one, as which power of the number the time grew from a smaller one, and the aim. The program has a stack of 8 MiB.
 
 The aims: 0.5 replies for a call that looks up (Info, Enclosed, TypeOf, Annotations), 1 for Subtype and AllMembers; from 5,000 to 50,000
-types at most 1.6 times the time of a question; and what FORMS says. The exit status is 1 where a reply of a form is not the one that is
+types at most 1.6 times the time of a question, first or not; and what FORMS says. The exit status is 1 where a reply of a form is not the one that is
 known, else 0. No test depends on the times.
 """
 import argparse
@@ -52,6 +54,9 @@ WARM = 3
 
 SIZES, GROWTH, ASKED, IN_PACKAGE = (5_000, 50_000), 1.6, 240, 50
 STACK = 8 << 20
+
+# The calls that are measured: of one value, and of one for each question.
+CALLS = ("frames", "alone")
 
 # How many times a number has to be the former one for a growth to be told.
 STEP = 1.5
@@ -101,19 +106,22 @@ class Frames:
         if wrong:
             sys.exit(f"the program refuses {wrong[0][-80:]}")
         _, self.bytes = map(int, printed[len(self.lines)].split(" = ")[1].split(" "))
-        one = self.take(1)
-        self.rounds = rounds_of(lambda rounds: self.take(1 + rounds) - one, LEAST)
+        self.rounds = {call: self.rounds_that_last(call) for call in CALLS}
 
-    def run(self, rounds):
-        return run([*self.lines, f"frames {rounds}"])
+    def run(self, rounds, call="frames"):
+        return run([*self.lines, f"{call} {rounds}"])
 
-    def take(self, rounds):
-        return self.run(rounds)[1]
+    def take(self, rounds, call):
+        return self.run(rounds, call)[1]
 
-    def seconds(self):
-        """What a question takes."""
-        one = self.take(1)
-        return (self.take(1 + self.rounds) - one) / self.rounds / self.questions
+    def rounds_that_last(self, call):
+        one = self.take(1, call)
+        return rounds_of(lambda rounds: self.take(1 + rounds, call) - one, LEAST)
+
+    def seconds(self, call="frames"):
+        """What a question takes, of one value or of one of its own."""
+        one, rounds = self.take(1, call), self.rounds[call]
+        return (self.take(1 + rounds, call) - one) / rounds / self.questions
 
 
 class Calls:
@@ -159,7 +167,7 @@ def files_below(folder, sources):
 
 
 def measure_util(sources):
-    print("\n| Question | Questions | Replies a second | Bytes of a frame | For each call of javac | For each answer that is gone through | Aim |\n|---|---|---|---|---|---|---|")
+    print("\n| Question | Questions | Replies a second | Bytes of a frame | For each call of javac | For each answer that is gone through | Aim | First replies a second | For each call |\n|---|---|---|---|---|---|---|---|---|")
     with tempfile.TemporaryDirectory(prefix="apt-bench-answers-") as folder:
         jdk.compile_some(folder, ("Javac", "ElementWords", "ReplyWords", "AnswerBench"))
         texts, listed = files_below(folder, sources)
@@ -171,9 +179,10 @@ def measure_util(sources):
 
 
 def measure_row(row, aim, frames, calls):
-    taken = [(frames.seconds(), calls.seconds(row, "calls"), calls.seconds(row, "read")) for _ in range(TURNS)]
-    ours, called, read = (statistics.median(each) for each in zip(*taken))
-    print(f"| {row} | {frames.questions:,} | {1 / ours:,.0f} | {frames.bytes / frames.questions:,.0f} | {called / ours:.4f} | {read / ours:.4f} | at least {aim} |", flush=True)
+    taken = [(frames.seconds(), frames.seconds("alone"), calls.seconds(row, "calls"), calls.seconds(row, "read")) for _ in range(TURNS)]
+    ours, first, called, read = (statistics.median(each) for each in zip(*taken))
+    print(f"| {row} | {frames.questions:,} | {1 / ours:,.0f} | {frames.bytes / frames.questions:,.0f} | {called / ours:.4f} | {read / ours:.4f} | at least {aim} "
+          f"| {1 / first:,.0f} | {called / first:.4f} |", flush=True)
 
 
 # ---- tables of many types
@@ -212,7 +221,7 @@ def questions_of_sample(types):
 
 
 def measure_growth():
-    print(f"\n| Question | Questions | One with {SIZES[0]:,} types | With {SIZES[1]:,} | Times as long | Aim |\n|---|---|---|---|---|---|")
+    print(f"\n| Question | Questions | Value | One with {SIZES[0]:,} types | With {SIZES[1]:,} | Times as long | Aim |\n|---|---|---|---|---|---|---|")
     tables = []
     for types in SIZES:
         entering = ["empty", *(f"stub_file {annotations.word(text)}" for text in STUBS),
@@ -220,9 +229,10 @@ def measure_growth():
         tables.append((entering, questions_of_sample(types)))
     for row in ROWS:
         small, large = (Frames(entering, questions[row]) for entering, questions in tables)
-        taken = [(small.seconds(), large.seconds()) for _ in range(TURNS)]
-        of_small, of_large = (statistics.median(each) for each in zip(*taken))
-        print(f"| {row} | {small.questions:,} | {of_small * 1e6:,.2f} us | {of_large * 1e6:,.2f} us | {of_large / of_small:.2f} | at most {GROWTH} |", flush=True)
+        for call in CALLS:
+            taken = [(small.seconds(call), large.seconds(call)) for _ in range(TURNS)]
+            of_small, of_large = (statistics.median(each) for each in zip(*taken))
+            print(f"| {row} | {small.questions:,} | {call} | {of_small * 1e6:,.2f} us | {of_large * 1e6:,.2f} us | {of_large / of_small:.2f} | at most {GROWTH} |", flush=True)
 
 
 # ---- deep and wide: the lines that enter a form with a number, and its questions with their replies

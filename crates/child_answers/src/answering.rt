@@ -1,5 +1,5 @@
 // The replies over one table, of which what was found out is remembered.
-ghost use Rattle.std.specs.Prelude.{◌≡◌, true, IfOk};
+ghost use Rattle.std.specs.Prelude.{◌≡◌, true, IfOk, IfSome};
 ghost use Rattle.annotation_values.specs.ElementValues as elements;
 ghost use Rattle.wire_frames.specs.Frames.{spelling};
 ghost use Rattle.wire_frames.specs.declared.frame.Frame.TheVariants as frames;
@@ -9,11 +9,13 @@ ghost use Rattle.child_questions.specs.WantedKinds.{is_admitted, is_element};
 ghost use Rattle.frame_forms.specs.QuestionTable.{asked_of_element};
 ghost use Rattle.child_answers.specs.Replies.{answer_to, element_answer, judged_answer, mirrors_answer, reply_by};
 ghost use Rattle.child_answers.specs.Replies.{reply_of, values_answer, with_value};
+ghost use Rattle.child_answers.specs.Remembered.{frame_of};
 
 use crate::annotated::unnamed;
 use crate::answers::{admitted, fault_of};
 use crate::comparing::{about_mirrors, truth};
 use crate::elements::about_element;
+use crate::known_frames::KnownFrames;
 use crate::relations::Relations;
 use crate::replies::{framed, refused, unless_too_large};
 use annotation_values::ElementValues;
@@ -29,20 +31,23 @@ use type_mirror::Mirror;
 use type_queries::QueryFault;
 use wire_frames::{Question, Reply};
 
-/// The replies over one table, which remembers what it found out for earlier questions: what annotations and
-/// constants are worth, the types of questions on subtypes and contained arguments with their direct supertypes, and
-/// the answers to these. So it may last as long as the table. Contracts see the table alone, since no reply depends
-/// on what was asked before.
+/// The replies over one table, which remembers what it found out for earlier questions: the frames of their replies,
+/// what annotations and constants are worth, the types of questions on subtypes and contained arguments with their
+/// direct supertypes, and the answers to these. So it may last as long as the table. Contracts see the table alone,
+/// since no reply depends on what was asked before.
 ///
-/// What is remembered is bounded: when a question is asked, at most `MOST_TYPES` types, else all of them are
-/// forgotten first; at most 1,048,576 answers; and of values what `ElementValues` remembers. Where a question is out
-/// of memory, all is forgotten and it is asked once more. So a budget that earlier questions used up refuses none.
+/// What is remembered is bounded: at most `MOST_FRAMES` frames, which count with their questions as at most
+/// `MOST_FRAME_BYTES`, else all of them are forgotten before one more; when a question is asked, at most `MOST_TYPES`
+/// types, else all of them are forgotten first; at most 1,048,576 answers; and of values what `ElementValues`
+/// remembers. Where a question is out of memory, all is forgotten and it is asked once more. So a budget that earlier
+/// questions used up refuses none.
 #[derive(Drop)]
 pub struct Answering<'a> {
     alloc: Global,
     table: &'a Table,
     values: ElementValues<'a>,
     relations: Relations<'a>,
+    frames: KnownFrames,
 }
 
 impl<'a> Model for Answering<'a> {
@@ -56,7 +61,7 @@ impl<'a> Model for Answering<'a> {
 
     ghost view = { λ a. a.table.now };
 
-    ghost invariant = { λ a. AreOver a.table.now a.values a.relations };
+    ghost invariant = { λ a. AreOver a.table.now a.values a.relations a.frames };
 }
 
 impl<'a> Answering<'a> {
@@ -71,6 +76,7 @@ impl<'a> Answering<'a> {
             table,
             values,
             relations,
+            frames: KnownFrames::new(alloc),
         })
     }
 
@@ -81,10 +87,19 @@ impl<'a> Answering<'a> {
         self.table
     }
 
+    // Forgets all frames.
+    fn forget_frames(&mut self)
+        ensures { self.new ≡ self.old }
+    {
+        let many = mem::replace(&mut self.frames, KnownFrames::new(self.alloc));
+        drop(many);
+    }
+
     // Forgets all.
     fn forget(&mut self) -> Result<(), NoMemory>
         ensures { self.new ≡ self.old }
     {
+        self.forget_frames();
         let none = ElementValues::new(self.alloc, self.table)?;
         let many = mem::replace(&mut self.values, none);
         drop(many);
@@ -259,15 +274,56 @@ impl<'a> Answering<'a> {
         Ok(told)
     }
 
-    /// The bytes of the frame of the reply, as they are sent. The only error is `NoMemory`.
+    // ---- frames
+
+    // The frame of the reply, if it is remembered, and memory is there for a copy.
+    fn known_frame(&self, env: &RoundEnv, question: &Question) -> Option<List<u8>>
+        ensures { IfSome result (λ bytes. bytes ≡ frame_of self.now env.now.roots question.now) }
+    {
+        let frame = self.frames.find(self.table, &env.roots, question)?;
+        match Vec::from_slice(self.alloc, frame.as_slice()) {
+            Ok(bytes) => Some(List::from_vec(bytes)),
+            Err(_) => None,
+        }
+    }
+
+    // Remembers the frame of the reply. Out of memory forgets all frames.
+    fn remember(&mut self, env: &RoundEnv, question: &Question, frame: &List<u8>)
+        requires { frame.now ≡ frame_of self.old env.now.roots question.now }
+        ensures { self.new ≡ self.old }
+    {
+        match self
+            .frames
+            .remember(self.table, &env.roots, question, frame)
+        {
+            Ok(()) => {}
+            Err(_) => self.forget_frames(),
+        }
+    }
+
+    // The frame of the reply.
     #[tactic(auto, unfolding(crate::specs::Replies::reply_of))]
+    fn new_frame(&mut self, env: &RoundEnv, question: &Question) -> Result<List<u8>, NoMemory>
+        ensures value { IfOk result (λ bytes. bytes ≡ frame_of self.old env.now.roots question.now) }
+        ensures kept { self.new ≡ self.old }
+    {
+        let given = self.reply(env, question)?;
+        let bytes = framed(self.alloc, given)?;
+        Ok(bytes)
+    }
+
+    /// The bytes of the frame of the reply, as they are sent: of a question that was asked before those that were sent
+    /// then, where they are remembered. The only error is `NoMemory`.
     pub fn frame(&mut self, env: &RoundEnv, question: &Question) -> Result<List<u8>, NoMemory>
         ensures value { IfOk result
             (λ bytes. bytes ≡ spelling (frames.Reply (reply_of self.old env.now.roots question.now))) }
         ensures kept { self.new ≡ self.old }
     {
-        let given = self.reply(env, question)?;
-        let bytes = framed(self.alloc, given)?;
+        if let Some(bytes) = self.known_frame(env, question) {
+            return Ok(bytes);
+        }
+        let bytes = self.new_frame(env, question)?;
+        self.remember(env, question, &bytes);
         Ok(bytes)
     }
 }

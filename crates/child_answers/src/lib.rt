@@ -6,8 +6,8 @@
 //! question means the crates of elements (`element_facts`, `element_table`), types (`type_relations`, `type_subtypes`,
 //! `type_members`, `type_overriding`, `type_listing`), values (`annotation_values`) and rounds (`round_env`).
 //!
-//! `answer` remembers nothing. An `Answering` remembers what it found out for earlier questions over its table
-//! (`specs/Remembered`), and its replies are those of `answer`. `specs/ReplyLaws` says what holds of every reply.
+//! `answer` remembers nothing. An `Answering` remembers what it found out for earlier questions over its table, and the
+//! frames of their replies (`specs/Remembered`), and its replies are those of `answer`. `specs/ReplyLaws` says what holds of every reply.
 //!
 //! Not promised: that memory is there. Each crate says where it is out of memory by a budget.
 #![tactic(auto)]
@@ -16,15 +16,20 @@ mod annotated;
 mod answering;
 mod answers;
 mod comparing;
+mod digest;
 mod elements;
+mod known_frames;
 mod laws;
 mod lists;
 mod mirrors;
 mod names;
+mod places;
 mod relations;
 mod replies;
+mod same_question;
 
 pub use answering::Answering;
+pub use known_frames::{MOST_FRAME_BYTES, MOST_FRAMES};
 pub use laws::{replies_agree_with_calls, replies_are_of_their_frames, replies_fit};
 pub use relations::MOST_TYPES;
 pub use replies::answer;
