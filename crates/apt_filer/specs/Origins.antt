@@ -7,12 +7,20 @@ use Rattle.apt_base.specs.declared.element.ElementRef.{ElementRef}
 use Rattle.wire_frames.specs.declared.frame.Creation.{Creation}
 use Rattle.wire_frames.specs.declared.frame.Creation.TheVariants.{Source, Resource, Class}
 use Rattle.wire_frames.specs.declared.frame.Message.{Message}
+use Rattle.apt_filer.specs.declared.origins.Origin as code
+use Rattle.apt_filer.specs.declared.origins.Origin.TheVariants as origin
 
 pub data Origin : Type 0 where
   -- all its originating elements are in this unit
   One : (unit : List ℕ) → Origin
   Several : Origin
   Missing : Origin
+
+-- what the code gives
+abbrev pub shown_origin : code.Origin → Origin
+shown_origin (origin.One unit) = One unit.now
+shown_origin origin.Several = Several
+shown_origin origin.Missing = Missing
 
 unfoldable pub origin_of : List ElementRef → Origin
 origin_of [] = Missing
