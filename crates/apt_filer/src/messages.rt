@@ -75,7 +75,7 @@ fn sort(messages: &mut Vec<Placed>) -> Result<(), NoMemory>
 /// order does not tell apart stay as they stand.
 ///
 /// Whatever the result, these are the same messages. It fails only when memory runs out, and they then
-/// stand as they stood. It compares messages `n * log n` times.
+/// stand as they stood. It makes some `n * log n` comparisons.
 pub fn report_order(alloc: Global, messages: &mut List<Placed>) -> Result<(), NoMemory>
     ensures permutation { IsPermutation messages.old messages.new }
     ensures sorted { OnOk result (IsSorted report_cmp messages.new) }
