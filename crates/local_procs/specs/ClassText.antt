@@ -9,7 +9,7 @@ use Rattle.wire_frames.specs.declared.reply.Info.{Info}
 abbrev pub is_class : ℕ → Bool
 is_class kind = kind == 2
 
--- What stands before the last `.` of a class's canonical name: nothing where it is in the unnamed package.
+-- A class's canonical name without its simple name and the `.` in front of that: nothing where it is in the unnamed package.
 abbrev pub package_of : Info → List ℕ
 package_of info = take (length info.canonical - length info.simple - 1) info.canonical
 
