@@ -3,7 +3,7 @@ ghost use Rattle.std.specs.Prelude.{◌≡◌, ◌<◌, ◌^◌, length, map, sl
 ghost use Rattle.std.specs.List.{AllByRecursion};
 ghost use Rattle.project_units.specs.Refusals.{NamesAmong};
 ghost use Rattle.project_units.specs.Faults.{stop_of, HasReason};
-ghost use Rattle.round_engine.specs.Run.{env_of, most_questions, showing};
+ghost use Rattle.round_engine.specs.Run.{env_of, most_questions, present_in, showing};
 ghost use Rattle.processor_claims.specs.Turns.{IsWithin, waiting_count};
 ghost use Rattle.round_engine.specs.Shown.{AreListed, HasEach, AllLive, AttendsAll, IsDueStop, IsTurnOf};
 ghost use Rattle.round_engine.specs.Moments.{Over, AsksOne, Asks};
@@ -148,6 +148,43 @@ fn turn_of(
     Turn::new(alloc, &run.supported, &contributed, present, round.over)
 }
 
+// Asks those whom the turn of a round asks, one after another, over the table of the round.
+fn ask_in_turn<C: Children>(
+    alloc: Global,
+    children: &mut C,
+    run: &Discovered,
+    round: &Round,
+    answering: &mut Answering<'_>,
+    present: &List<Name>,
+    mut turn: Turn,
+    so_far: &mut Progress,
+) -> Result<(), Refusal>
+    requires listed { AreListed run.now }
+    requires each { HasEach run.now so_far.old }
+    requires lives { AllLive run.now.group (C.state children.old) }
+    requires table { answering.old ≡ round.now.table }
+    requires names { present.now ≡ present_in round.now }
+    requires coming { IsTurnOf run.now round.now so_far.old present.now turn }
+    requires within { IsWithin (length run.now.supported) (length present.now) turn }
+    requires waiting { waiting_count turn ≡ length run.now.supported }
+    ensures reason { HasReason (C.faults children.old) (C.faults children.new) result }
+    ensures named { IfErr result (λ refusal. NamesAmong run.now.names (stop_of refusal)) }
+    ensures due { IfErr result (λ refusal. IsDueStop (stop_of refusal)) }
+    ensures starts { (C.state children.new).starts ≡ (C.state children.old).starts }
+    ensures live { (C.state children.new).live ≡ (C.state children.old).live }
+    ensures still { HasEach run.now so_far.new }
+    ensures attends { Over C.Children children.old children.new (AttendsAll run.now.group) }
+    ensures asks { Asks C.Children run.now round.now so_far.old so_far.new children.old children.new result }
+{
+    let mut claimed = false;
+    while let Some(number) = turn.next(claimed) {
+        let offered = offered_names(alloc, present.as_slice(), turn.offered().as_slice())?;
+        let env = env_of(alloc, round, offered)?;
+        claimed = ask(alloc, children, run, answering, number, env, so_far)?;
+    }
+    Ok(())
+}
+
 /// Asks all processors that the round asks, one after another: whether one claims what it is offered decides what is offered to
 /// those behind it (JSR 269, the discovery process). The table is lent to the questions of all of them, and what was found out for
 /// one is remembered for the others.
@@ -171,13 +208,18 @@ pub(crate) fn ask_all<C: Children>(
     ensures asks { Asks C.Children run.now round.now so_far.old so_far.new children.old children.new result }
 {
     let present = present(alloc, &round.table, &round.roots)?;
+    let turn = turn_of(alloc, run, round, so_far, &present)?;
     let mut answering = Answering::new(alloc, &round.table)?;
-    let mut turn = turn_of(alloc, run, round, so_far, &present)?;
-    let mut claimed = false;
-    while let Some(number) = turn.next(claimed) {
-        let offered = offered_names(alloc, present.as_slice(), turn.offered().as_slice())?;
-        let env = env_of(alloc, round, offered)?;
-        claimed = ask(alloc, children, run, &mut answering, number, env, so_far)?;
-    }
-    Ok(())
+    let asked = ask_in_turn(
+        alloc,
+        children,
+        run,
+        round,
+        &mut answering,
+        &present,
+        turn,
+        so_far,
+    );
+    drop(answering);
+    asked
 }

@@ -4,7 +4,7 @@ use Rattle.processor_claims.specs.Turns.{IsWithin, waiting_count}
 use Rattle.round_engine.specs.Run.{present_in}
 use Rattle.round_engine.specs.Shown.{HasEach, AttendsAll}
 use Rattle.round_engine.proofs.TurnsOfARound.{AsksOn}
-use Rattle.round_engine.proofs.asking.ask_all.Given as goal
+use Rattle.round_engine.proofs.asking.ask_in_turn.Given as goal
 
 -- some have answered, and the turn asks the others
 abbrev pub invariant-loop-number : goal.invariant-loop-number
