@@ -151,17 +151,18 @@ class Project:
         """All bytes that a scripted child read."""
         return self.read(record)
 
-    def run(self, words, stdout=subprocess.PIPE, stderr=subprocess.PIPE, before=(), environment=None):
+    def run(self, words, stdout=subprocess.PIPE, stderr=subprocess.PIPE, before=(), environment=None,
+            seconds=SECONDS):
         """Runs the program, and sees that no child outlives it."""
         command = [*before, program(), *words]
         host = subprocess.Popen(command, cwd=self.folder, stdin=subprocess.DEVNULL, stdout=stdout,
                                 stderr=stderr, start_new_session=True, env=environment)
         try:
-            output, messages = host.communicate(timeout=SECONDS)
+            output, messages = host.communicate(timeout=seconds)
         except subprocess.TimeoutExpired:
             end_session(host.pid)
             host.communicate()
-            raise Failure(f"no end after {SECONDS} seconds") from None
+            raise Failure(f"no end after {seconds} seconds") from None
         left = processes_of(host.pid)
         end_session(host.pid)
         expect("processes that are left", left, [])

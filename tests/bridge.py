@@ -1,0 +1,242 @@
+#!/usr/bin/env python3
+"""Builds the jar of kits/java, and tries its bridge: processors that were written for javac, as children of the host.
+
+    tests/bridge.py [PROGRAM]
+
+PROGRAM is crates/apt_cli/out/apt_cli where it is left out. Each case prints a line. The first that fails ends the
+run with status 1. The last line is 'bridge: N passed, M failed'. Without a JDK nothing can be tried, and that is a
+failed case. No jar is needed but the JDK's and the one that is built.
+
+What is expected of a processor is what javac gives of it: the same files, and the same messages.
+"""
+import ast
+import functools
+import os
+import re
+import shutil
+import subprocess
+import sys
+
+from beside_javac import CLASSES, bridge, compare, compiled, stubs_of_the_jdk, under_host, under_javac, use
+from host import HERE, Cases, expect, frames
+from stubs import FAST, JAR, KIT, put
+
+DOCUMENT = os.path.join(HERE, "..", "docs", "PROTOCOL.md")
+TABLE = os.path.join(HERE, "..", "crates", "vector_tables", "src", "frame_table.rt")
+SOURCES = os.path.join(HERE, "bridge")
+DONE, FAILED, WRONG_WORDS = 0, 1, 2
+NEVER, VARIES = 1, 2
+# A file that is opened and never closed, which javac leaves empty and the host doesn't have.
+UNCLOSED = os.path.join("made", "Open.java")
+
+case = Cases("bridge")
+
+
+# ---- what the cases share
+
+
+@functools.cache
+def classes():
+    """The folder of the processors' classes, and of those of the annotations that they have as objects."""
+    return compiled(SOURCES, os.path.join(SOURCES, "processors"), os.path.join(SOURCES, "objects", "o"))
+
+
+def both(project, names, folder, *options):
+    """What processors give of a project under the host, and what under javac."""
+    use(project, os.path.join(SOURCES, folder), stubs=stubs_of_the_jdk())
+    commands = {name: bridge(name, class_path=classes()) for name in names}
+    own = under_host(project, commands, options)
+    javac = under_javac(project, names, classes(), options=options)
+    javac.files.pop(UNCLOSED, None)
+    return own, javac
+
+
+def same(project, names, folder, *options, different=()):
+    """The outcome of both, which is the same."""
+    own, javac = both(project, names, folder, *options)
+    compare(own, javac, different)
+    return own
+
+
+def echo(pieces):
+    """What is said of pieces of bytes: the frames, as they are written again, or why they are none."""
+    data = b"".join(frames.bytes_field(piece) for piece in pieces)
+    run = subprocess.run(["java", *FAST, "-cp", os.pathsep.join([classes(), JAR]), "FrameEcho"], input=data,
+                         stdout=subprocess.PIPE, check=True)
+    return run.stdout.decode().splitlines()
+
+
+def talk(words, *sent, class_path=""):
+    """The bytes that a bridge says where it is sent these frames and then no more; its status and its messages."""
+    run = subprocess.run(bridge(*words, class_path=class_path), input=b"".join(sent), stdout=subprocess.PIPE,
+                         stderr=subprocess.PIPE, check=False)
+    return run.stdout, run.returncode, run.stderr.decode()
+
+
+def hello(options):
+    """What a processor of all annotations says that may claim them or not."""
+    fields = frames.texts_field(["*"]) + frames.texts_field(options) + bytes([VARIES])
+    return frames.frame(frames.HELLO, fields)
+
+
+# ---- frames
+
+
+def document_frames():
+    """The frames that the document writes out."""
+    found = []
+    with open(DOCUMENT, encoding="utf-8") as file:
+        for line in file:
+            match = re.fullmatch(r" {4}\w+ +([0-9a-f ]+)\n", line)
+            if match:
+                found.append(bytes.fromhex(match.group(1)))
+    return found
+
+
+@case
+def the_frames_of_the_document(_project):
+    found = document_frames()
+    expect("the number of tags", len({frame[4] for frame in found}), 54)
+    expect("the frames", echo(found), [frame.hex() for frame in found])
+
+
+def table_frames(verdict):
+    """The bytes of the table's cases with this verdict, each with the kind of what is bad."""
+    with open(TABLE, encoding="utf-8") as file:
+        text = file.read()
+    row = r'bytes: (b"(?:[^"\\]|\\.)*"),\s*expected: Verdict::(\w+)(?: \{\s*place: \d+,\s*kind: BadKind::(\w+))?'
+    rows = re.findall(row, text)
+    return [(ast.literal_eval(data), kind) for data, word, kind in rows if word == verdict]
+
+
+@case
+def the_table_of_frames(_project):
+    whole = [data for data, _ in table_frames("Whole")]
+    expect("whether there are many frames", len(whole) > 50, True)
+    expect("the frames", echo(whole), [data.hex() for data in whole])
+    # What follows a bad byte doesn't matter. The order of texts and the form of patterns are for a host to test.
+    bad = [data + bytes(100) for data, kind in table_frames("Bad") if kind in ("Length", "Tag", "Rest")]
+    begun = [data for data, _ in table_frames("Begun") if data]
+    expect("whether there are both", len(bad) > 3 and len(begun) > 3, True)
+    for data, said in zip([*bad, *begun], echo([*bad, *begun])):
+        expect(f"what is said of {data.hex()[:80]}", said[:5], "none:")
+
+
+# ---- a talk
+
+
+@case
+def a_talk_without_questions(_project):
+    said, status, messages = talk(["Failing"], frames.init("x"), class_path=classes())
+    expect("what it says", said, hello([]))
+    expect("the status and the messages", (status, messages), (DONE, ""))
+    said, _, _ = talk(["--claim", "never", "InInit"], frames.init("x"), class_path=classes())
+    expect("what is said of options", said.hex()[-2:], f"{NEVER:02x}")
+    expect("whether both options are there", b"asked" in said and b"late" in said, True)
+
+
+@case
+def the_kind_that_a_jar_says(project):
+    put(project.folder, "kinds/META-INF/gradle/incremental.annotation.processors",
+        "# kinds\nFailing , ISOLATING # own\nInInit,dynamic\n")
+    path = os.pathsep.join([project.path("kinds"), classes()])
+    said, _, _ = talk(["Failing"], frames.init("x"), class_path=path)
+    expect("what it says", said, hello(["org.gradle.annotation.processing.isolating"]))
+    said, _, _ = talk(["InInit"], frames.init("x"), class_path=path)
+    expect("whether a dynamic one says a kind", b"gradle" in said, False)
+
+
+@case
+def words(_project):
+    for words_of in ([], ["a", "b"], ["--claim", "A"], ["--claim", "sometimes", "A"], ["--claim", "never"],
+                     ["--claim", "never", "A", "B"]):
+        said, status, messages = talk(words_of)
+        expect(f"the status of {words_of}", status, WRONG_WORDS)
+        expect("the first line", messages.splitlines()[0].split()[0], "usage:")
+        expect("what it says", said, b"")
+    for name, message in [("Absent", "no class Absent on the class path"),
+                          ("java.lang.String", "java.lang.String is no annotation processor")]:
+        expect(f"the talk of {name}", talk([name]), (b"", FAILED, message + "\n"))
+
+
+# ---- processors
+
+
+@case
+def the_model(project):
+    """All that a processor sees of declarations and types; a constant is one for the host by the form of its text."""
+    own = same(project, ["Everything"], "model", "key=value", different=[
+        ("    constant: Integer 12", "    constant: none"),  # 3 * 4
+        ("    constant: Long 1099511627776L", "    constant: none"),  # 1L << 40
+        ('    constant: String "a12"', "    constant: none"),  # "a" and the first one
+        ("    constant: Boolean true", "    constant: none"),  # !false
+    ])
+    lines = own.files["everything.txt"].decode().splitlines()
+    print(f"  {len(lines)} lines on the model are the same")
+
+
+@case
+def annotations_as_objects(project):
+    own = same(project, ["AsObjects"], "objects")
+    expect("whether an unknown value is said to be", b"AnnotationTypeMismatchException" in own.files["objects.txt"],
+           True)
+
+
+@case
+def expressions_of_literals(project):
+    same(project, ["Everything"], "constants")
+
+
+@case
+def files_and_messages(project):
+    own = same(project, ["Making"], "files", "given=x", "open=yes", "other=y")
+    expect("whether there are files of two rounds", "made/Old__.java" in own.files, True)
+    expect("whether the version is warned of", "less than -source" in str(own.messages), True)
+
+
+@case
+def types_in_init(project):
+    own = same(project, ["InInit"], "files")
+    expect("whether a type was found", ("note", "initialised with java.lang.Object") in own.messages, True)
+
+
+@case
+def several_processors(project):
+    same(project, ["Making", "InInit", "Everything"], "files")
+
+
+@case
+def a_processor_that_claims_all(project):
+    own = same(project, ["InInit", "Making", "Everything"], "files")
+    expect("the files", own.files, {})
+
+
+@case
+def a_processor_that_fails(project):
+    use(project, os.path.join(SOURCES, "files"), stubs=stubs_of_the_jdk())
+    own = under_host(project, {"maker": bridge("Failing", class_path=classes())})
+    expect("the files", own.files, {})
+    (kind, text), = own.messages
+    expect("the error", (kind, text.splitlines()[0]),
+           ("error", "the processor Failing failed: java.lang.IllegalStateException: on purpose"))
+    expect("whether the trace is there", "\n  at Failing.process(Failing.java" in text, True)
+
+
+def main():
+    missing = [name for name in ("java", "javac", "jar") if shutil.which(name) is None]
+    try:
+        if missing:
+            print(f"there is no {missing[0]}, which a JDK has")
+        elif subprocess.run([os.path.join(KIT, "build")], check=False).returncode != 0:
+            print("kits/java/build failed")
+        else:
+            case.main()
+            return
+    finally:
+        shutil.rmtree(CLASSES, ignore_errors=True)
+    print("bridge: 0 passed, 1 failed")
+    sys.exit(1)
+
+
+if __name__ == "__main__":
+    main()

@@ -1,0 +1,1 @@
+/** Doc of d. */ @Deprecated package d;

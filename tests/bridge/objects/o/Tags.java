@@ -1,0 +1,5 @@
+package o;
+
+public @interface Tags {
+    Tag[] value();
+}

@@ -1,0 +1,6 @@
+package p;
+
+import o.Mark;
+
+@Mark
+class Plain {}

@@ -1,0 +1,4 @@
+package p;
+
+@o.Tag("alone")
+class Single {}
