@@ -68,6 +68,7 @@ public final class Making extends AbstractProcessor {
         attempt("package", () -> write(filer.createSourceFile("made.package-info"), "package made;\n"));
         attempt("before", () -> read(filer.getResource(StandardLocation.CLASS_OUTPUT, "q", "a/b.txt")));
         attempt("resource", () -> write(filer.createResource(StandardLocation.CLASS_OUTPUT, "q", "a/b.txt"), "é\n"));
+        attempt("after", () -> read(filer.getResource(StandardLocation.CLASS_OUTPUT, "q", "a/b.txt")));
         attempt("resource again", () -> filer.createResource(StandardLocation.CLASS_OUTPUT, "q", "a/b.txt"));
         attempt("bad resource", () -> filer.createResource(StandardLocation.CLASS_OUTPUT, "", "../b"));
         attempt("no output", () -> filer.createResource(StandardLocation.CLASS_PATH, "", "b"));
