@@ -5,7 +5,7 @@ use Rattle.tree_store.specs.declared.fault.StoreFault.TheVariants as store
 use Rattle.project_units.specs.Refusals.{Refusal}
 use Rattle.project_units.specs.Units.{and_then}
 use Rattle.project_reading.specs.declared.status.Status.{Status}
-use Rattle.project_reading.specs.Verdicts.{Verdict, Done, Errors, Refused, Failed, Memory, OrMemory, verdict}
+use Rattle.project_reading.specs.Verdicts.{Verdict, Done, Errors, Refused, Failed, Input, Memory, OrMemory, verdict}
 use Rattle.project_reading.specs.Endings.{of_store}
 use Rattle.project_reading.specs.Entering.{RefusesAs, ComesAs}
 
@@ -18,6 +18,7 @@ module _ {A : Type 0} (due : Result A Refusal) where
   pub refuses_then : {B : Type 0} (v : Verdict) (next : A → Result B Refusal) → RefusesAs due v → RefusesAs (and_then due next) v
   refuses_then (Refused refusal) next is = ap (λ o. and_then o next) is
   refuses_then (Failed object) next is = is
+  refuses_then (Input fault) next is = absurd is
   refuses_then Memory next is = tt
   refuses_then Done next is = absurd is
   refuses_then (Errors count) next is = absurd is

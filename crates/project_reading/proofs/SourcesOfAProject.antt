@@ -21,7 +21,7 @@ use Rattle.project_reading.specs.declared.sources.ReadSources.{ReadSources}
 use Rattle.project_reading.specs.declared.sources.Tables.{Tables}
 use Rattle.project_reading.specs.declared.sources.EnteredSource.{EnteredSource}
 use Rattle.project_reading.specs.declared.status.Status.{Status}
-use Rattle.project_reading.specs.Verdicts.{Verdict, Done, Errors, Refused, Failed, Memory, OrMemory, verdict}
+use Rattle.project_reading.specs.Verdicts.{Verdict, Done, Errors, Refused, Failed, Input, Memory, OrMemory, verdict}
 use Rattle.project_reading.specs.Project.{bad_at, read_by, read_source, read_from, read_all, read_beside, read_both, Filled, enter_by, enter_next, enter_all, nothing_entered, enter_behind, enter_both, tables_of, StopsAt}
 use Rattle.project_reading.specs.Entering.{of_unread, of_units, RefusesAs, IsDueRead, ComesTo, filled, StopsLeast}
 use Rattle.project_reading.proofs.Refusing.{refuses_or, refuses_then, refuses_behind}
@@ -203,6 +203,7 @@ due_refused outcome Done due refuses = absurd refuses
 due_refused outcome (Errors count) due refuses = absurd refuses
 due_refused outcome (Refused refusal) due refuses = subst IsDueOutcome refuses due
 due_refused outcome (Failed object) due refuses = tt
+due_refused outcome (Input fault) due refuses = absurd refuses
 due_refused outcome Memory due refuses = tt
 
 due_result : {A : Type 0} (outcome : Result A Refusal) (result : Result A Status) → IsDueOutcome outcome → ComesTo outcome result → IfErr result (λ status. IsDueRead (verdict status))

@@ -6,7 +6,7 @@ use Rattle.project_units.specs.Refusals as refusal
 use Rattle.project_units.specs.Refusals.{Object}
 use Rattle.project_reading.specs.declared.status.Status.{Status}
 use Rattle.project_reading.specs.declared.status.Status.TheVariants as code
-use Rattle.project_reading.specs.Verdicts.{Verdict, Done, Errors, Refused, Failed, Memory, verdict}
+use Rattle.project_reading.specs.Verdicts.{Verdict, Done, Errors, Refused, Failed, Input, Memory, verdict}
 
 -- a fault of the store
 abbrev pub of_store : StoreFault → Status
@@ -28,4 +28,5 @@ EndsEarly is Done = ⊥
 EndsEarly is (Errors count) = ⊥
 EndsEarly is (Refused refusal) = IsOfBuild refusal
 EndsEarly is (Failed object) = is object ≡ true
+EndsEarly is (Input fault) = ⊥
 EndsEarly is Memory = Unit {0}

@@ -26,7 +26,7 @@ use Rattle.project_reading.specs.declared.sources.EnteredSource.{EnteredSource}
 use Rattle.project_reading.specs.declared.status.Status.{Status}
 use Rattle.project_reading.specs.Configuration.{Configuration, refusal_by, IsPlaceOf}
 use Rattle.project_reading.specs.Project.{Filled, unread_at, first_with, StopsAt}
-use Rattle.project_reading.specs.Verdicts.{Verdict, Done, Errors, Refused, Failed, Memory, verdict, is_tree}
+use Rattle.project_reading.specs.Verdicts.{Verdict, Done, Errors, Refused, Failed, Input, Memory, verdict, is_tree}
 
 -- ---- faults, as the end of the call
 
@@ -74,6 +74,7 @@ of_units before path unit.Memory = Memory
 abbrev pub RefusesAs : {A : Type 0} → Result A stop.Refusal → Verdict → Type 0
 RefusesAs due (Refused refusal) = due ≡ Err refusal
 RefusesAs due (Failed object) = is_tree object ≡ true
+RefusesAs due (Input fault) = ⊥
 RefusesAs due Memory = Unit {0}
 RefusesAs due Done = ⊥
 RefusesAs due (Errors count) = ⊥

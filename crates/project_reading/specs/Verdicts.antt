@@ -11,6 +11,13 @@ use Rattle.project_reading.specs.declared.status.Place.TheVariants as code_place
 use Rattle.project_reading.specs.declared.status.Status.{Status}
 use Rattle.project_reading.specs.declared.status.Status.TheVariants as code
 
+-- why the input was not taken to its end
+pub data InputFault : Type 0 where
+  -- the source failed
+  SourceFails : InputFault
+  -- the bytes of the host of a processor leave the protocol, at the first place where they do
+  HostLeaves : (breach : Breach) → InputFault
+
 pub data Verdict : Type 0 where
   Done : Verdict
   -- this many errors were printed
@@ -18,6 +25,8 @@ pub data Verdict : Type 0 where
   Refused : (refusal : Refusal) → Verdict
   -- the object failed
   Failed : (object : Object) → Verdict
+  -- so did the input, which `serve` alone reads
+  Input : (fault : InputFault) → Verdict
   -- out of memory
   Memory : Verdict
 
@@ -45,16 +54,19 @@ verdict (code.DuplicateType name first second) = Refused (DuplicateType name fir
 verdict (code.Refused refusal) = stopped (stop_of refusal)
 verdict code.TreeFault = Failed Tree
 verdict code.SinkFault = Failed Sink
+verdict code.SourceFault = Input SourceFails
+verdict (code.HostBreach breach) = Input (HostLeaves breach)
 verdict code.Memory = Memory
 
 -- ---- its kinds
 
--- a fault outside or out of memory, which may come at any point
+-- a fault outside or out of memory, which may come at any point of a build; a build has no input
 abbrev pub is_free : Verdict → Bool
 is_free Done = false
 is_free (Errors count) = false
 is_free (Refused refusal) = false
 is_free (Failed object) = true
+is_free (Input fault) = false
 is_free Memory = true
 
 -- this is the verdict, unless it is a free one
@@ -71,6 +83,7 @@ is_finished Done = true
 is_finished (Errors count) = true
 is_finished (Refused refusal) = false
 is_finished (Failed object) = false
+is_finished (Input fault) = false
 is_finished Memory = false
 
 -- ---- faults outside
@@ -96,6 +109,7 @@ has_run Done = true
 has_run (Errors count) = true
 has_run (Refused refusal) = false
 has_run (Failed object) = is_sink object
+has_run (Input fault) = false
 has_run Memory = false
 
 -- what a build writes to
@@ -120,16 +134,32 @@ pub record HasCause (is : Object → Bool) (v : Verdict) (before now : ℕ) : Ty
   pub later : before ≤ now
   pub rose : fails is v ≡ true → Rose before now
 
+-- the input failed, or its bytes leave the protocol
+abbrev pub is_input : Verdict → Bool
+is_input (Input fault) = true
+is_input other = false
+
+-- the source failed
+abbrev pub fails_source : Verdict → Bool
+fails_source (Input SourceFails) = true
+fails_source other = false
+
+-- the same of the count of the source
+pub record HasSourceCause (v : Verdict) (before now : ℕ) : Type 0 where
+  pub later : before ≤ now
+  pub rose : fails_source v ≡ true → Rose before now
+
 -- ---- its number
 
-abbrev pub number_of_breach : Breach → ℕ
-number_of_breach (Ended got) = 8
-number_of_breach (Bad place kind) = 9
-number_of_breach (Wrong tag) = 10
+-- of bytes that leave the protocol, given the number of those that end too early
+abbrev pub number_of_breach : ℕ → Breach → ℕ
+number_of_breach ended (Ended got) = ended
+number_of_breach ended (Bad place kind) = 9
+number_of_breach ended (Wrong tag) = 10
 
 abbrev pub number_of : Refusal → ℕ
 number_of (BadWords at) = 2
-number_of (LeavesProtocol processor breach) = number_of_breach breach
+number_of (LeavesProtocol processor breach) = number_of_breach 8 breach
 number_of (TooManyQuestions processor most) = 11
 number_of (ClaimBroken processor declared said) = 12
 number_of (BadConfig path place) = 13
@@ -147,6 +177,10 @@ number_of_failure Tree = 4
 number_of_failure Sink = 5
 number_of_failure (Children processor) = 7
 
+abbrev pub number_of_input : InputFault → ℕ
+number_of_input SourceFails = 6
+number_of_input (HostLeaves breach) = number_of_breach 24 breach
+
 -- the exit status
 abbrev pub code_of : Verdict → ℕ
 code_of Done = 0
@@ -154,3 +188,4 @@ code_of (Errors count) = 1
 code_of (Refused refusal) = number_of refusal
 code_of Memory = 3
 code_of (Failed object) = number_of_failure object
+code_of (Input fault) = number_of_input fault

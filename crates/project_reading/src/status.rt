@@ -35,7 +35,8 @@ impl Place {
     }
 }
 
-/// How a call of `run` ends. A fault of the tree, the sink or the children comes only where its count rose in the call.
+/// How a call of `run` ends. A fault of the tree, the sink, the source or the children comes only where its count rose
+/// in the call.
 #[derive(Drop)]
 pub enum Status {
     /// The build is published.
@@ -95,6 +96,14 @@ pub enum Status {
     TreeFault,
     /// A call of the sink failed.
     SinkFault,
+    /// A call of the source failed, from which `serve` alone reads.
+    SourceFault,
+    /// The host to which `serve` is a child left the protocol.
+    HostBreach {
+        /// How its bytes do, at the first place: they end before the first frame or within one, one of them is bad, or
+        /// a whole frame may not come where it stands.
+        breach: Breach,
+    },
     /// Out of memory.
     Memory,
 }
@@ -177,6 +186,8 @@ impl Status {
             Status::Refused(refusal) => Ok(Status::Refused(refusal.copy()?)),
             Status::TreeFault => Ok(Status::TreeFault),
             Status::SinkFault => Ok(Status::SinkFault),
+            Status::SourceFault => Ok(Status::SourceFault),
+            Status::HostBreach { breach } => Ok(Status::HostBreach { breach: *breach }),
             Status::Memory => Ok(Status::Memory),
         }
     }
@@ -192,6 +203,8 @@ impl Status {
             Status::Memory => 3,
             Status::TreeFault => 4,
             Status::SinkFault => 5,
+            Status::SourceFault => 6,
+            Status::HostBreach { breach } => code_of_breach(24, *breach),
             Status::BadConfig { .. } => 13,
             Status::BadStub { .. } => 14,
             Status::BadSource { .. } => 15,
@@ -202,12 +215,12 @@ impl Status {
     }
 }
 
-// The exit status of a program whose child left the protocol.
-fn code_of_breach(breach: Breach) -> u8
-    ensures { result ≡ number_of_breach breach }
+// The exit status of a program whose peer left the protocol, given that of one whose bytes end too early.
+fn code_of_breach(ended: u8, breach: Breach) -> u8
+    ensures { result ≡ number_of_breach ended breach }
 {
     match breach {
-        Breach::Ended { .. } => 8,
+        Breach::Ended { .. } => ended,
         Breach::Bad { .. } => 9,
         Breach::Wrong { .. } => 10,
     }
@@ -220,7 +233,7 @@ fn code_of_run(refusal: &Refusal) -> u8
     match refusal {
         Refusal::Memory => 3,
         Refusal::ChildFault { .. } => 7,
-        Refusal::Breach { breach, .. } => code_of_breach(*breach),
+        Refusal::Breach { breach, .. } => code_of_breach(8, *breach),
         Refusal::TooManyQuestions { .. } => 11,
         Refusal::ClaimBroken { .. } => 12,
         Refusal::BadGenerated { .. } => 18,
