@@ -39,7 +39,7 @@ fn call<R: Files + AllocGlobal + Input + Processes<Started = SystemProcess>, W: 
     let mut children = PipeChildren::new(alloc, rt, messages);
     let mut input = StdinSource::new(rt.reader(), messages);
     let status = run(alloc, words, &mut tree, &mut children, &mut input, output);
-    say_ending(rt, messages, &status, &children.talk);
+    say_ending(rt, messages, words, &status, &children.talk);
     status
 }
 

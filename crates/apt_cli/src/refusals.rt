@@ -3,6 +3,7 @@ use crate::files::read_front;
 use apt_base::MAX_FILE_BYTES;
 use apt_host::{Place, Refusal, Status};
 use cli_messages::{Talk, say_item, say_java_fault, say_line, say_no_object};
+use frame_breaches::Breach;
 use std::alloc::Global;
 use std::fs;
 use std::io::{ErrorKind, Stderr};
@@ -13,7 +14,13 @@ pub const CONFIGURATION: &str = "apt.json";
 
 /// Says why the call ended, where there is more to say than its status. A line that can't be written, or for which
 /// there is no memory, is left out.
-pub fn say_ending<R: Files + AllocGlobal>(rt: &R, messages: Stderr, status: &Status, talk: &Talk) {
+pub fn say_ending<R: Files + AllocGlobal>(
+    rt: &R,
+    messages: Stderr,
+    words: &[String],
+    status: &Status,
+    talk: &Talk,
+) {
     match status {
         Status::BadWords { .. } => say_usage(messages),
         Status::BadSource { path, place } | Status::BadStub { path, place } => {
@@ -21,9 +28,36 @@ pub fn say_ending<R: Files + AllocGlobal>(rt: &R, messages: Stderr, status: &Sta
         }
         Status::BadConfig { path, place } => say_bad_config(rt, messages, path.as_str(), place),
         Status::Refused(refusal) => say_refusal(rt.alloc(), messages, refusal, talk),
-        Status::Done => say_missing_project(rt, messages),
+        Status::HostBreach { breach } => say_host_breach(messages, *breach),
+        Status::Done if is_build(words) => say_missing_project(rt, messages),
         _ => {}
     }
+}
+
+/// Whether these words, which have a command, are those of a build.
+fn is_build(words: &[String]) -> bool {
+    match words.first() {
+        Some(word) => word.as_str() == "build",
+        None => false,
+    }
+}
+
+/// Says how the host of `serve` left the protocol.
+fn say_host_breach(messages: Stderr, breach: Breach) {
+    let _ = match breach {
+        Breach::Ended { got: 0 } => {
+            eprintln!(messages; "apt_cli: the input ended before its first frame")
+        }
+        Breach::Ended { got } => {
+            eprintln!(messages; "apt_cli: the input ended after {got} bytes of a frame")
+        }
+        Breach::Bad { place, .. } => {
+            eprintln!(messages; "apt_cli: a frame of the input is bad, at byte {place} of it")
+        }
+        Breach::Wrong { tag } => {
+            eprintln!(messages; "apt_cli: a frame with tag {tag} may not come there in the input")
+        }
+    };
 }
 
 /// Says why the run was refused, where there is more to say.
@@ -45,6 +79,10 @@ pub fn say_usage(messages: Stderr) {
     let _ = eprintln!(messages; "apt_cli: usage: build [--full] [KEY=VALUE]..");
     let _ = eprintln!(messages;
         "apt_cli: builds the project in the current folder; KEY=VALUE is an option of its processors"
+    );
+    let _ = eprintln!(messages; "apt_cli: usage: serve NAME");
+    let _ = eprintln!(messages;
+        "apt_cli: is the processor NAME, one of the program's own, for the host at its input and output"
     );
 }
 

@@ -33,7 +33,7 @@ use Rattle.project_reading.specs.Project.{Read, read_of}
 use Rattle.apt_host.specs.CleanBuild.{Summary, summary, Outcome, outcome_of, outcome_of_run, clean, verdict_of}
 use Rattle.apt_host.specs.CleanBuild as outcome
 use Rattle.apt_host.specs.Report.{report_of, errors_report, report_text}
-use Rattle.project_reading.specs.Verdicts.{Verdict, Done, Errors, Refused, Failed, Memory, is_free, is_finished, is_children, OrFree, verdict}
+use Rattle.project_reading.specs.Verdicts.{Verdict, Done, Errors, Refused, Failed, Input, Memory, is_free, is_finished, is_children, OrFree, verdict}
 use Rattle.apt_host.specs.Listed.{listed, entry_of, numbered_of, file_of, Gains, GainsFirst, Places, FitsEntry}
 use Rattle.project_reading.specs.Endings.{of_store, EndsEarly}
 use Rattle.project_reading.specs.Entering.{RefusesAs}
@@ -65,6 +65,7 @@ either_way Done A done other = done refl
 either_way (Errors count) A done other = other (λ e. cc)
 either_way (Refused refusal) A done other = other (λ e. cc)
 either_way (Failed object) A done other = other (λ e. cc)
+either_way (Input fault) A done other = other (λ e. cc)
 either_way Memory A done other = other (λ e. cc)
 
 -- the store files of a build
@@ -73,6 +74,7 @@ stores_built files Done old new done other = done refl
 stores_built files (Errors count) old new done other = other (λ e. cc)
 stores_built files (Refused refusal) old new done other = other (λ e. cc)
 stores_built files (Failed object) old new done other = other (λ e. cc)
+stores_built files (Input fault) old new done other = other (λ e. cc)
 stores_built files Memory old new done other = other (λ e. cc)
 
 -- what is known of a file that was made is what an entry needs
@@ -179,6 +181,7 @@ ended_unfree Done done = refl
 ended_unfree (Errors count) done = refl
 ended_unfree (Refused refusal) done = refl
 ended_unfree (Failed object) done = absurd cc
+ended_unfree (Input fault) done = absurd cc
 ended_unfree Memory done = absurd cc
 
 -- ---- a build that ended before its run was finished
@@ -194,6 +197,7 @@ module _ (tells talks : Bool) (options : Options) (says : Says) (project : Files
   answer_of_read (Errors count) refuses = absurd refuses
   answer_of_read (Refused refusal) refuses = λ free. sym (ap (λ o. verdict_of (outcome_of says o)) refuses)
   answer_of_read (Failed object) refuses = λ free. absurd cc
+  answer_of_read (Input fault) refuses = absurd refuses
   answer_of_read Memory refuses = λ free. absurd cc
 
   pub answers_read : (v : Verdict) → Told tells (RefusesAs (read_of options project) v) → Answers tells talks (Build options) says project v
@@ -213,6 +217,7 @@ shows_whole P Q (Refused refusal) p = p
 shows_whole P Q (Failed Tree) p = inl p
 shows_whole P Q (Failed Sink) p = p
 shows_whole P Q (Failed (Children processor)) p = tt
+shows_whole P Q (Input fault) p = p
 shows_whole P Q Memory p = tt
 
 -- a run ended early
@@ -223,6 +228,7 @@ shows_early P Q (Refused refusal) early shown = shown refl
 shows_early P Q (Failed Tree) early shown = absurd (let e : false ≡ true = early in cc)
 shows_early P Q (Failed Sink) early shown = absurd (let e : false ≡ true = early in cc)
 shows_early P Q (Failed (Children processor)) early shown = tt
+shows_early P Q (Input fault) early shown = absurd early
 shows_early P Q Memory early shown = tt
 
 -- the child that is exempt by a verdict
@@ -231,6 +237,7 @@ exempt_is rose Done = refl
 exempt_is rose (Errors count) = refl
 exempt_is rose (Refused refusal) = refl
 exempt_is rose (Failed object) = refl
+exempt_is rose (Input fault) = refl
 exempt_is rose Memory = inl refl
 
 -- a build whose run was finished exempts none
@@ -241,6 +248,7 @@ exempts_none rose (Refused refusal) concluded = absurd concluded
 exempts_none rose (Failed Tree) concluded = refl
 exempts_none rose (Failed Sink) concluded = refl
 exempts_none rose (Failed (Children processor)) concluded = absurd cc
+exempts_none rose (Input fault) concluded = absurd concluded
 exempts_none rose Memory concluded = inl refl
 
 -- nothing was shown to a child
@@ -255,6 +263,7 @@ shows_unread rose (Ok read) state (Refused refusal) refuses = absurd (let e : Ok
 shows_unread rose (Ok read) state (Failed Tree) refuses = record { by = inr refl; exempt = None; is_exempt = refl; fronts = no_fronts read state }
 shows_unread rose (Ok read) state (Failed Sink) refuses = absurd (let e : false ≡ true = refuses in cc)
 shows_unread rose (Ok read) state (Failed (Children processor)) refuses = absurd (let e : false ≡ true = refuses in cc)
+shows_unread rose (Ok read) state (Input fault) refuses = absurd refuses
 shows_unread rose (Ok read) state Memory refuses = record { by = tt; exempt = None; is_exempt = inl refl; fronts = no_fronts read state }
 
 pub shows_store : (rose : Type 0) (read : Result Read Refusal) (state : State) (fault : StoreFault) → ShowsOver rose read state state (verdict (of_store fault))

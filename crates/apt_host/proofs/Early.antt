@@ -4,23 +4,38 @@ use Rattle.std.proofs.lemmas.Bool.{false≢true}
 use Rattle.tree_store.specs.declared.fault.StoreFault.{StoreFault}
 use Rattle.tree_store.specs.declared.fault.StoreFault.TheVariants as store
 use Rattle.project_units.specs.Refusals.{BadWords, Object, Tree, Sink, Children}
-use Rattle.project_reading.specs.Verdicts.{Verdict, Done, Errors, Refused, Failed, Memory, verdict, is_free, is_finished, has_run, is_tree, is_sink, is_children, named_in, fails}
+use Rattle.project_reading.specs.Verdicts.{Verdict, Done, Errors, Refused, Failed, Input, Memory, verdict, is_free, is_finished, has_run, is_input, is_tree, is_sink, is_children, named_in, fails}
 use Rattle.project_reading.specs.Endings.{of_store, EndsEarly}
+use Rattle.project_reading.specs.Configuration.{Options}
+use Rattle.apt_host.specs.Words.{Build}
 use Rattle.apt_host.specs.BuildEndings.{IsConcluded}
+use Rattle.apt_host.specs.Promises.{IsOwn}
 use Rattle.project_reading.specs.Entering.{IsDueRead}
 
 module _ (is : Object → Bool) where
   pub not_done_early : (v : Verdict) → EndsEarly is v → v ≢ Done
   not_done_early v early done = subst (EndsEarly is) done early
 
-  pub on_table_early : (v : Verdict) (at : ℕ) → EndsEarly is v → v ≢ Refused (BadWords at)
+  on_table_early : (v : Verdict) (at : ℕ) → EndsEarly is v → v ≢ Refused (BadWords at)
   on_table_early v at early bad = subst (EndsEarly is) bad early
+
+  no_input_early : (v : Verdict) → EndsEarly is v → is_input v ≡ false
+  no_input_early Done early = refl
+  no_input_early (Errors count) early = refl
+  no_input_early (Refused refusal) early = refl
+  no_input_early (Failed object) early = refl
+  no_input_early (Input fault) early = absurd early
+  no_input_early Memory early = refl
+
+  pub own_early : (options : Options) (v : Verdict) → EndsEarly is v → IsOwn (Build options) v
+  own_early options v early = (λ at. on_table_early v at early, no_input_early v early)
 
   pub unfinished_early : (v : Verdict) → EndsEarly is v → is_finished v ≡ false
   unfinished_early Done early = absurd early
   unfinished_early (Errors count) early = absurd early
   unfinished_early (Refused refusal) early = refl
   unfinished_early (Failed object) early = refl
+  unfinished_early (Input fault) early = absurd early
   unfinished_early Memory early = refl
 
   pub not_run_early : (v : Verdict) → is Sink ≡ false → EndsEarly is v → has_run v ≡ false
@@ -30,6 +45,7 @@ module _ (is : Object → Bool) where
   not_run_early (Failed Tree) other early = refl
   not_run_early (Failed Sink) other early = absurd (false≢true (sym other ∙ early))
   not_run_early (Failed (Children processor)) other early = refl
+  not_run_early (Input fault) other early = absurd early
   not_run_early Memory other early = refl
 
   pub no_sink_early : (v : Verdict) → is Sink ≡ false → EndsEarly is v → fails is_sink v ≡ false
@@ -39,6 +55,7 @@ module _ (is : Object → Bool) where
   no_sink_early (Failed Tree) other early = refl
   no_sink_early (Failed Sink) other early = absurd (false≢true (sym other ∙ early))
   no_sink_early (Failed (Children processor)) other early = refl
+  no_sink_early (Input fault) other early = absurd early
   no_sink_early Memory other early = refl
 
 -- a fault of the store
@@ -64,6 +81,7 @@ no_child_concluded Done concluded = refl
 no_child_concluded (Errors count) concluded = refl
 no_child_concluded (Refused refusal) concluded = absurd concluded
 no_child_concluded (Failed object) concluded = concluded
+no_child_concluded (Input fault) concluded = absurd concluded
 no_child_concluded Memory concluded = refl
 
 -- what comes behind a run names no processor
@@ -74,4 +92,17 @@ unnamed_concluded (Refused refusal) concluded = absurd concluded
 unnamed_concluded (Failed Tree) concluded = refl
 unnamed_concluded (Failed Sink) concluded = refl
 unnamed_concluded (Failed (Children processor)) concluded = absurd cc
+unnamed_concluded (Input fault) concluded = absurd concluded
 unnamed_concluded Memory concluded = refl
+
+-- nor is it an answer that another command has
+own_input : (v : Verdict) → IsConcluded v → is_input v ≡ false
+own_input Done concluded = refl
+own_input (Errors count) concluded = refl
+own_input (Refused refusal) concluded = absurd concluded
+own_input (Failed object) concluded = refl
+own_input (Input fault) concluded = absurd concluded
+own_input Memory concluded = refl
+
+pub own_concluded : (options : Options) (v : Verdict) → IsConcluded v → IsOwn (Build options) v
+own_concluded options v concluded = (λ at bad. subst IsConcluded bad concluded, own_input v concluded)

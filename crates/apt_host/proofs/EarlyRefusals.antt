@@ -8,9 +8,9 @@ use Rattle.tree_store.specs.declared.fault.StoreFault.{StoreFault}
 use Rattle.tree_store.specs.declared.fault.StoreFault.TheVariants as store
 use Rattle.project_units.specs.Refusals.{Refusal, BadWords, BadConfig, UnknownProcessor, BadStub, BadSource, DuplicateType, BadGenerated, LeavesProtocol, TooManyQuestions, ClaimBroken, GeneratedDuplicate, TooManyRounds, TooLarge}
 use Rattle.project_reading.specs.Configuration.{Options, is_of_project}
-use Rattle.apt_host.specs.Words.{Request, Build, Bad}
+use Rattle.apt_host.specs.Words.{Request, Build, Serve, Bad}
 use Rattle.project_reading.specs.Project.{read_of}
-use Rattle.project_reading.specs.Verdicts.{Verdict, Done, Errors, Refused, Failed, Memory, is_free, named_in, verdict}
+use Rattle.project_reading.specs.Verdicts.{Verdict, Done, Errors, Refused, Failed, Input, Memory, is_free, named_in, verdict}
 use Rattle.project_reading.specs.Endings.{of_store}
 use Rattle.apt_host.specs.BuildEndings.{IsConcluded}
 use Rattle.project_reading.specs.Entering.{RefusesAs, IsDueRead}
@@ -45,6 +45,7 @@ module _ (tells : Bool) (options : Options) (project : Files) (old new : State) 
 module _ (tells : Bool) (request : Request) (project : Files) (old new : State) where
   refuses_memory : (r : Request) → RefusesRead tells r project old new Memory
   refuses_memory (Build options) = refuses_free tells options project old new Memory refl
+  refuses_memory (Serve local) = tt
   refuses_memory (Bad at) = tt
 
   -- there was no memory for the words
@@ -78,6 +79,7 @@ module _ (old new : State) where
   due_project (Refused TooManyRounds) none due = tt
   due_project (Refused (TooLarge what limit)) none due = λ same. due
   due_project (Failed object) none due = tt
+  due_project (Input fault) none due = tt
   due_project Memory none due = tt
 
   pub due_store : (fault : StoreFault) → IsDue old new (verdict (of_store fault))
@@ -89,6 +91,7 @@ module _ (old new : State) where
   due_concluded (Errors count) concluded = tt
   due_concluded (Refused refusal) concluded = absurd concluded
   due_concluded (Failed object) concluded = tt
+  due_concluded (Input fault) concluded = absurd concluded
   due_concluded Memory concluded = tt
 
   pub due_finish : (v w : Verdict) → Finishes v w → IsDue old new v → IsDue old new w

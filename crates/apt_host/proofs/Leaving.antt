@@ -5,10 +5,10 @@ use Rattle.apt_outside.specs.Child.{State}
 use Rattle.tree_store.specs.Output.{StoresStand}
 use Rattle.tree_store.specs.Storing.{AddsToStore}
 use Rattle.project_units.specs.Refusals.{Refusal, Tree, Sink, Children}
-use Rattle.apt_host.specs.Words.{Request, Build, Bad}
-use Rattle.project_reading.specs.Verdicts.{Verdict, Done, Errors, Refused, Failed, Memory, OrMemory, is_children, fails}
+use Rattle.apt_host.specs.Words.{Request, Build, Serve, Bad}
+use Rattle.project_reading.specs.Verdicts.{Verdict, Done, Errors, Refused, Failed, Input, Memory, OrMemory, is_children, fails}
 use Rattle.project_reading.specs.Project.{Read, read_of}
-use Rattle.apt_host.specs.Promises.{Leaves, KeepsOutput, Finishes, ShowsOver, ShowsRun}
+use Rattle.apt_host.specs.Promises.{Leaves, LeavesBy, KeepsOutput, Finishes, ShowsOver, ShowsRun}
 use Rattle.apt_host.proofs.Writing.{memory_or_not, not_done}
 use Rattle.apt_host.specs.Exempt.{IsExempt}
 
@@ -33,6 +33,7 @@ leaves_memory (Refused refusal) old new ne leaves = adds_same old new leaves
 leaves_memory (Failed Tree) old new ne leaves = leaves
 leaves_memory (Failed Sink) old new ne leaves = leaves
 leaves_memory (Failed (Children processor)) old new ne leaves = adds_same old new leaves
+leaves_memory (Input fault) old new ne leaves = absurd leaves
 leaves_memory Memory old new ne leaves = leaves
 
 -- the former output stands where no other one was published
@@ -44,10 +45,15 @@ pub stands_by : (v : Verdict) (old new : Files) → v ≢ Done → Leaves v old 
 stands_by v old new ne leaves stand = (leaves_memory v old new ne leaves).stand stand
 
 -- a refusal leaves the same
-pub leaves_finish : (v w : Verdict) (old new : Files) → Finishes v w → Leaves v old new → Leaves w old new
+leaves_finish : (v w : Verdict) (old new : Files) → Finishes v w → Leaves v old new → Leaves w old new
 leaves_finish v w old new finishes leaves = memory_or_not w (Leaves w old new)
     (λ memory. subst (λ u. Leaves u old new) (sym memory) (leaves_memory v old new (not_done v w finishes memory) leaves))
     (λ ne. subst (λ u. Leaves u old new) (sym (finishes.same ne)) leaves)
+
+pub leaves_by_finish : (request : Request) (v w : Verdict) (old new : Files) → Finishes v w → LeavesBy request v old new → LeavesBy request w old new
+leaves_by_finish (Build options) v w old new finishes leaves = leaves_finish v w old new finishes leaves
+leaves_by_finish (Serve local) v w old new finishes leaves = leaves
+leaves_by_finish (Bad at) v w old new finishes leaves = leaves_finish v w old new finishes leaves
 
 -- out of memory stays so
 pub finishes_memory : (expected w : Verdict) → Finishes Memory w → OrMemory expected w
@@ -63,6 +69,7 @@ exempt_memory rose (Refused refusal) exempt cause is = inl is
 exempt_memory rose (Failed Tree) exempt cause is = inl is
 exempt_memory rose (Failed Sink) exempt cause is = inl is
 exempt_memory rose (Failed (Children processor)) exempt cause is = inr (cause refl)
+exempt_memory rose (Input fault) exempt cause is = inl is
 exempt_memory rose Memory exempt cause is = is
 
 module _ (rose : Type 0) where
@@ -73,6 +80,7 @@ module _ (rose : Type 0) where
 
   shows_run_memory : (request : Request) (project : Files) (v : Verdict) (old new : State) → (fails is_children v ≡ true → rose) → ShowsRun rose request project old new v → ShowsRun rose request project old new Memory
   shows_run_memory (Build options) project v old new cause shown = shown_memory (read_of options project) v old new cause shown
+  shows_run_memory (Serve local) project v old new cause shown = tt
   shows_run_memory (Bad at) project v old new cause shown = tt
 
   pub shows_finish : (request : Request) (project : Files) (v w : Verdict) (old new : State) → (fails is_children v ≡ true → rose) → Finishes v w → ShowsRun rose request project old new v → ShowsRun rose request project old new w

@@ -6,3 +6,5 @@ pub mod MakingLemmas
 pub mod Using
 pub mod Building
 pub mod UnreadWords
+pub mod ServingLemmas
+pub mod WordLemmas

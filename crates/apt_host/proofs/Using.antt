@@ -7,7 +7,8 @@ use Rattle.apt_outside.specs.Child.{Try, State}
 use Rattle.project_units.specs.declared.project.Key.{Key}
 use Rattle.project_units.specs.Plans.{tries_in, names_in}
 use Rattle.project_reading.specs.Configuration.{Options}
-use Rattle.apt_host.specs.Words.{Request, Build, Bad}
+use Rattle.local_procs.specs.declared.local.Local.{Local}
+use Rattle.apt_host.specs.Words.{Request, Build, Serve, Bad}
 use Rattle.project_reading.specs.Verdicts.{Verdict, Done, has_run, named_in}
 use Rattle.apt_host.specs.Promises.{AreRead, Uses, Finishes, processors_of}
 use Rattle.apt_host.specs.Builds.{UsesKey}
@@ -18,6 +19,7 @@ use Rattle.apt_host.proofs.Writing.{memory_or_not}
 
 are_read : (tells : Bool) (request : Request) (project : Files) → AreRead tells request project (processors_of request project)
 are_read tells (Build options) project = λ told. refl
+are_read tells (Serve local) project = refl
 are_read tells (Bad at) project = refl
 
 -- nothing was started or tried
@@ -37,6 +39,21 @@ uses_none tells talks request project v state stops none =
       all = λ run. absurd (false≢true (sym stops ∙ run));
       more = λ told. record { group = []; few = omega arith; tells = record { different = tt; unknown = tt; others = λ child outside. refl } };
     }
+
+-- neither by a child of another host, which has no processors
+pub uses_served : (tells talks : Bool) (local : Local) (project : Files) (v : Verdict) (state : State) → named_in v ≡ None → Uses tells talks (Serve local) project v state state
+uses_served tells talks local project v state none = record {
+  processors = [];
+  are = refl;
+  finished = λ run. omega arith;
+  least = omega arith;
+  most = omega arith;
+  few = omega arith;
+  named = subst (λ name. IfSome name (Contains [])) (sym none) tt;
+  tried = λ told. record { count = 0; few = omega arith; tried = sym (append-nil state.tried) };
+  all = λ run told. sym (append-nil state.tried);
+  more = λ told. record { group = []; few = omega arith; tells = record { different = tt; unknown = tt; others = λ child outside. refl } };
+}
 
 -- ---- behind a run
 

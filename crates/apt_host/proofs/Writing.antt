@@ -9,12 +9,12 @@ use Rattle.apt_outside.specs.Stream.{Appends}
 use Rattle.apt_host.specs.BuildEndings.{sink_verdict}
 use Rattle.project_units.specs.Refusals.{Refusal, BadWords, Tree, Sink, Children}
 use Rattle.round_engine.specs.Clean.{Talked}
-use Rattle.apt_host.specs.Words.{Request, Build, Bad}
+use Rattle.apt_host.specs.Words.{Request, Build, Serve, Bad, has_line}
 use Rattle.project_reading.specs.Project.{Read, read_of}
 use Rattle.apt_host.specs.CleanBuild.{Summary, Outcome, clean, verdict_of}
 use Rattle.apt_host.specs.CleanBuild as outcome
-use Rattle.project_reading.specs.Verdicts.{Verdict, Done, Errors, Refused, Failed, Memory, is_finished, is_sink, fails}
-use Rattle.apt_host.specs.Promises.{TalkedOf, IsFront, IsLine, IsOutcome, StoresBuilt, StoresOutcome, Reports, Adds, Writes, Finishes}
+use Rattle.project_reading.specs.Verdicts.{Verdict, Done, Errors, Refused, Failed, Input, Memory, is_finished, is_sink, fails}
+use Rattle.apt_host.specs.Promises.{TalkedOf, IsFront, IsLine, IsOutcome, StoresBuilt, StoresOutcome, Reports, Adds, Writes, AddsBy, WritesBy, Finishes}
 
 -- a status is out of memory, or it is not
 pub memory_or_not : (v : Verdict) (A : Type 0) → (v ≡ Memory → A) → (v ≢ Memory → A) → A
@@ -23,6 +23,7 @@ memory_or_not Done A is other = other (λ e. cc)
 memory_or_not (Errors count) A is other = other (λ e. cc)
 memory_or_not (Refused refusal) A is other = other (λ e. cc)
 memory_or_not (Failed object) A is other = other (λ e. cc)
+memory_or_not (Input fault) A is other = other (λ e. cc)
 
 -- a fact that holds holds where it is told
 talked_by : (talks : Bool) (processors : List Try) (P : Type 0) → P → Talked talks processors P
@@ -43,6 +44,7 @@ nothing_yet rose report (Refused refusal) unfinished other = refl
 nothing_yet rose report (Failed Tree) unfinished other = inl refl
 nothing_yet rose report (Failed Sink) unfinished other = absurd cc
 nothing_yet rose report (Failed (Children processor)) unfinished other = refl
+nothing_yet rose report (Input fault) unfinished other = refl
 nothing_yet rose report Memory unfinished other = inl refl
 
 -- the sink failed or memory was wanted for the report, of which a part was written
@@ -58,6 +60,7 @@ front_memory rose report (Failed Tree) text why (inl f) = inl f
 front_memory rose report (Failed Tree) text why (inr f) = inr (inl f)
 front_memory rose report (Failed Sink) text why f = inr (inr (why refl, f.1))
 front_memory rose report (Failed (Children processor)) text why f = inl f
+front_memory rose report (Input fault) text why f = inl f
 front_memory rose report Memory text why f = f
 
 pub front_more : (r s : Type 0) (report : List ℕ) (v : Verdict) (text : List ℕ) → (r → s) → IsFront r report v text → IsFront s report v text
@@ -65,6 +68,7 @@ front_more r s report Done text more f = f
 front_more r s report (Errors count) text more f = f
 front_more r s report (Refused refusal) text more f = f
 front_more r s report (Failed object) text more f = f
+front_more r s report (Input fault) text more f = f
 front_more r s report Memory text more (inl f) = inl f
 front_more r s report Memory text more (inr (inl f)) = inr (inl f)
 front_more r s report Memory text more (inr (inr f)) = inr (inr (more f.0, f.1))
@@ -86,6 +90,7 @@ built_memory files Done old new ne stores = absurd (ne refl)
 built_memory files (Errors count) old new ne stores = stores
 built_memory files (Refused refusal) old new ne stores = stores
 built_memory files (Failed object) old new ne stores = stores
+built_memory files (Input fault) old new ne stores = stores
 built_memory files Memory old new ne stores = stores
 
 stores_memory : (o : Outcome) (v : Verdict) (old new : Files) → v ≢ Done → StoresOutcome o v old new → StoresOutcome o Memory old new
@@ -134,20 +139,22 @@ module _ (tells talks : Bool) (request : Request) (project project' : Files) (be
 
   outcome_for : Request → Outcome
   outcome_for (Build options) = clean before.says options project
+  outcome_for (Serve local) = outcome.Refused (BadWords 0)
   outcome_for (Bad at) = outcome.Refused (BadWords at)
 
-  own_outcome : (r : Request) → IsOutcome tells talks r before.says project (outcome_for r)
+  own_outcome : (r : Request) → has_line r ≡ true → IsOutcome tells talks r before.says project (outcome_for r)
   unfolding outcome_for
-  own_outcome (Build options) = λ told. talked talks (read_of options project) (clean before.says options project ≡ clean before.says options project) refl
-  own_outcome (Bad at) = refl
+  own_outcome (Build options) line = λ told. talked talks (read_of options project) (clean before.says options project ≡ clean before.says options project) refl
+  own_outcome (Serve local) line = absurd (false≢true line)
+  own_outcome (Bad at) line = refl
 
   -- nothing was written yet
-  pub begins_with_nothing : (v : Verdict) (rose : Type 0) (old : List ℕ) → is_finished v ≡ false → fails is_sink v ≡ false → Adds (Written v rose) old old
-  begins_with_nothing v rose old unfinished other = (
+  pub begins_with_nothing : (v : Verdict) (rose : Type 0) (old : List ℕ) → has_line request ≡ true → is_finished v ≡ false → fails is_sink v ≡ false → Adds (Written v rose) old old
+  begins_with_nothing v rose old line unfinished other = (
     [],
     record {
       outcome = outcome_for request;
-      is_outcome = own_outcome request;
+      is_outcome = own_outcome request line;
       is_front = nothing_yet rose _ v unfinished other;
       ended = λ done. absurd (false≢true (sym unfinished ∙ done));
       counted = λ some. absurd (some refl);
@@ -155,3 +162,23 @@ module _ (tells talks : Bool) (request : Request) (project project' : Files) (be
     },
     sym (append-nil old),
   )
+
+-- ---- by what was asked for
+
+pub adds_by : (request : Request) (reports : List ℕ → Type 0) (old new : List ℕ) → Adds reports old new → AddsBy request reports old new
+adds_by (Build options) reports old new adds = adds
+adds_by (Serve local) reports old new adds = tt
+adds_by (Bad at) reports old new adds = adds
+
+-- a command that has lines writes its report and then a line
+pub writes_by : (request : Request) (reports reports' lines : List ℕ → Type 0) (old mid new : List ℕ) → AddsBy request reports old mid
+    → (Adds reports old mid → Writes reports' lines old new) → WritesBy request reports' lines old new
+writes_by (Build options) reports reports' lines old mid new adds then = then adds
+writes_by (Serve local) reports reports' lines old mid new adds then = tt
+writes_by (Bad at) reports reports' lines old mid new adds then = then adds
+
+-- `serve` has none
+pub writes_none : (request : Request) (reports lines : List ℕ → Type 0) (old new : List ℕ) → has_line request ≡ false → WritesBy request reports lines old new
+writes_none (Build options) reports lines old new none = absurd (false≢true (sym none))
+writes_none (Serve local) reports lines old new none = tt
+writes_none (Bad at) reports lines old new none = absurd (false≢true (sym none))

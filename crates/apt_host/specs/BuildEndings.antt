@@ -4,7 +4,7 @@ use Rattle.apt_outside.specs.declared.fault.Fault.{Fault}
 use Rattle.apt_outside.specs.declared.fault.Fault.TheVariants as outside
 use Rattle.project_units.specs.Refusals.{Sink}
 use Rattle.project_reading.specs.declared.status.Status.{Status}
-use Rattle.project_reading.specs.Verdicts.{Verdict, Done, Errors, Refused, Failed, Memory, verdict, is_children}
+use Rattle.project_reading.specs.Verdicts.{Verdict, Done, Errors, Refused, Failed, Input, Memory, verdict, is_children}
 use Rattle.apt_host.specs.declared.build.Ending.{Ending}
 use Rattle.apt_host.specs.declared.build.Ending.TheVariants as endings
 
@@ -28,4 +28,5 @@ IsConcluded Done = Unit {0}
 IsConcluded (Errors count) = Unit {0}
 IsConcluded (Refused refusal) = ⊥
 IsConcluded (Failed object) = is_children object ≡ false
+IsConcluded (Input fault) = ⊥
 IsConcluded Memory = Unit {0}

@@ -62,9 +62,9 @@ Makes c project old new result = Talked c.tells (tries_in project.key) (making.M
 
 -- ---- what is answered and published
 
--- no build answers that its words are off the table
-abbrev pub OnTable : {T C : Type 0} → Options → T → T → C → C → Result Ending Status → Type 0
-OnTable options tree tree' children children' result = promise.OffTable (Build options) (closed result) tree tree' children children'
+-- no build answers that its words are off the table, or that its input failed
+abbrev pub IsOwn : Options → Result Ending Status → Type 0
+IsOwn options result = promise.IsOwn (Build options) (closed result)
 
 -- the answer is the clean build's
 abbrev pub Answers : {T C : Type 0} → tree.Ghosts T → children.Ghosts C → Options → T → C → Result Ending Status → Type 0

@@ -4,6 +4,7 @@ pub mod CleanBuild
 pub mod Report
 pub mod Listed
 pub mod Promises
+pub mod Serving
 pub mod Exempt
 pub mod Making
 pub mod Calls

@@ -1,5 +1,5 @@
 -- What `run` promises, by what its words ask for.
-use Rattle.std.specs.Prelude.{◌≡◌, ◌≢◌, ◌⊎◌, ℕ, ◌+◌, ◌≤◌, Bool, true, List, [], ◌++◌, map, length, take, Contains, IfSome, Result, Ok, Err, Option}
+use Rattle.std.specs.Prelude.{◌≡◌, ◌≢◌, ◌⊎◌, ℕ, ◌+◌, ◌≤◌, Bool, true, false, List, [], ◌++◌, map, length, take, Contains, IfSome, Result, Ok, Err, Option}
 use Rattle.std.specs.FinMap as fin
 use Rattle.apt_outside.specs.Count.{Told}
 use Rattle.apt_outside.specs.Files.{Files}
@@ -17,13 +17,13 @@ use Rattle.round_engine.specs.Shown.{TriesInOrder, TellsMore, ShowsNoMore, IsDue
 use Rattle.round_engine.specs.Clean.{Talked, ShowsWhole}
 use Rattle.apt_host.specs.Exempt.{IsExempt}
 use Rattle.project_reading.specs.Configuration.{Options, IsPlaceOf, is_of_project}
-use Rattle.apt_host.specs.Words.{Request, Build, Bad}
+use Rattle.apt_host.specs.Words.{Request, Build, Serve, Bad}
 use Rattle.project_reading.specs.Project.{Read, read_of}
 use Rattle.apt_host.specs.CleanBuild.{Outcome, clean, verdict_of}
 use Rattle.apt_host.specs.CleanBuild as outcome
 use Rattle.apt_host.specs.Report.{report_text}
 use Rattle.apt_host.specs.Listed.{GainsFirst}
-use Rattle.project_reading.specs.Verdicts.{Verdict, Done, Errors, Refused, Failed, Memory, OrFree, OrMemory, is_finished, has_run, named_in}
+use Rattle.project_reading.specs.Verdicts.{Verdict, Done, Errors, Refused, Failed, Input, Memory, OrFree, OrMemory, is_finished, has_run, is_input, is_sink, named_in}
 use Rattle.apt_host.specs.RefusalLines.{refusal_of}
 
 -- ---- what is told
@@ -39,9 +39,25 @@ ToldOf tells talks options project P = Told tells (TalkedOf talks (read_of optio
 
 -- ---- the answer
 
+-- what `serve` may answer; `ServesFor` says when
+abbrev pub is_served : Verdict → Bool
+is_served Done = true
+is_served (Errors count) = false
+is_served (Refused refusal) = false
+is_served (Failed object) = is_sink object
+is_served (Input fault) = true
+is_served Memory = true
+
+-- no build answers that its words are no command, or that its input failed, and `serve` answers nothing of a build
+abbrev pub IsOwn : Request → Verdict → Type 0
+IsOwn (Build options) v = ((at : ℕ) → v ≢ Refused (BadWords at)) × (is_input v ≡ false)
+IsOwn (Serve local) v = is_served v ≡ true
+IsOwn (Bad at) v = Unit {0}
+
 -- the answer to a request over a project is the clean build's, or that of words that no command has
 abbrev pub Answers : Bool → Bool → Request → Says → Files → Verdict → Type 0
 Answers tells talks (Build options) says project v = ToldOf tells talks options project (OrFree (verdict_of (clean says options project)) v)
+Answers tells talks (Serve local) says project v = Unit {0}
 Answers tells talks (Bad at) says project v = OrMemory (Refused (BadWords at)) v
 
 -- Where the tree tells what it holds, a build that is refused before any child was started is refused as its project is, whatever the children tell. So is one whose
@@ -49,12 +65,22 @@ Answers tells talks (Bad at) says project v = OrMemory (Refused (BadWords at)) v
 abbrev pub RefusesRead : Bool → Request → Files → State → State → Verdict → Type 0
 RefusesRead tells (Build options) project old new v =
     Told tells ((refusal : Refusal) → v ≡ Refused refusal → (new.starts ≡ old.starts) ⊎ (is_of_project refusal ≡ true) → read_of options project ≡ Err refusal)
+RefusesRead tells (Serve local) project old new v = Unit {0}
 RefusesRead tells (Bad at) project old new v = Unit {0}
 
--- Words that no command has leave the tree and the children as they were. No build answers that its words are such.
-abbrev pub OffTable : {T C : Type 0} → Request → Verdict → T → T → C → C → Type 0
-OffTable (Bad at) v tree tree' children children' = (tree' ≡ tree) × (children' ≡ children)
-OffTable (Build options) v tree tree' children children' = (at : ℕ) → v ≢ Refused (BadWords at)
+-- ---- what is not touched
+
+-- `serve`, and words that no command has, leave the tree and the children as they were
+abbrev pub Untouched : {T C : Type 0} → Request → T → T → C → C → Type 0
+Untouched (Build options) tree tree' children children' = Unit {0}
+Untouched (Serve local) tree tree' children children' = (tree' ≡ tree) × (children' ≡ children)
+Untouched (Bad at) tree tree' children children' = (tree' ≡ tree) × (children' ≡ children)
+
+-- the source is read by `serve` alone; `ServesFor` says what it reads
+abbrev pub Unread : {R : Type 0} → Request → R → R → Type 0
+Unread (Build options) old new = new ≡ old
+Unread (Serve local) old new = Unit {0}
+Unread (Bad at) old new = new ≡ old
 
 -- ---- what is published
 
@@ -83,6 +109,7 @@ PublishesOutcome (outcome.Refused refusal) old new = ⊥
 -- a finished build published what the clean build gives
 abbrev pub PublishesClean : Bool → Bool → Request → Says → Files → Files → Verdict → Type 0
 PublishesClean tells talks (Build options) says old new v = ToldOf tells talks options old (v ≡ Done → PublishesOutcome (clean says options old) old new)
+PublishesClean tells talks (Serve local) says old new v = Unit {0}
 PublishesClean tells talks (Bad at) says old new v = v ≢ Done
 
 -- after any other answer the former output stands
@@ -104,7 +131,14 @@ Leaves Done old new = (files : Files) × Publishes files old new
 Leaves (Errors count) old new = new ≡ old
 Leaves (Refused refusal) old new = new ≡ old
 Leaves (Failed object) old new = LeavesFailed object old new
+Leaves (Input fault) old new = ⊥
 Leaves Memory old new = AddsToStore old new
+
+-- by what was asked for; `serve` publishes nothing
+abbrev pub LeavesBy : Request → Verdict → Files → Files → Type 0
+LeavesBy (Build options) v old new = Leaves v old new
+LeavesBy (Serve local) v old new = new ≡ old
+LeavesBy (Bad at) v old new = Leaves v old new
 
 -- the same of a build that is not published
 abbrev pub LeavesUndone : Verdict → Files → Files → Type 0
@@ -125,6 +159,7 @@ IsFront rose report Done text = text ≡ report
 IsFront rose report (Errors count) text = text ≡ report
 IsFront rose report (Refused refusal) text = text ≡ []
 IsFront rose report (Failed object) text = IsFrontAt object report text
+IsFront rose report (Input fault) text = text ≡ []
 IsFront rose report Memory text = (text ≡ []) ⊎ (text ≡ report) ⊎ (rose × ((n : ℕ) × (text ≡ take n report)))
 
 -- what stands of a report; before anything of it, the store had gained the files
@@ -139,9 +174,10 @@ StandsMade tells errors report stored v old new text = IsFront ⊥ report v text
 abbrev pub IsLine : Verdict → Type 0 → List ℕ → Type 0
 IsLine v rose line = (line ≡ refusal_of v) ⊎ ((v ≡ Memory) × (line ≡ [])) ⊎ (rose × ((n : ℕ) × (line ≡ take n (refusal_of v))))
 
--- the outcome whose report is written: the clean build's, or that of words that no command has
+-- the outcome whose report is written: the clean build's, or that of words that no command has; `serve` has none
 abbrev pub IsOutcome : Bool → Bool → Request → Says → Files → Outcome → Type 0
 IsOutcome tells talks (Build options) says project o = ToldOf tells talks options project (o ≡ clean says options project)
+IsOutcome tells talks (Serve local) says project o = ⊥
 IsOutcome tells talks (Bad at) says project o = o ≡ outcome.Refused (BadWords at)
 
 -- the store files of a build stand and nothing else changed, or it is done and the record that names them was put in place behind them
@@ -189,6 +225,18 @@ pub record Writes (reports lines : List ℕ → Type 0) (old new : List ℕ) : T
   pub is_line : lines line
   pub added : new ≡ old ++ (text ++ line)
 
+-- what the output gains: of `serve` the frames of its processor alone, as `ServesFor` says
+abbrev pub WritesBy : Request → (List ℕ → Type 0) → (List ℕ → Type 0) → List ℕ → List ℕ → Type 0
+WritesBy (Build options) reports lines old new = Writes reports lines old new
+WritesBy (Serve local) reports lines old new = Unit {0}
+WritesBy (Bad at) reports lines old new = Writes reports lines old new
+
+-- the same before the line
+abbrev pub AddsBy : Request → (List ℕ → Type 0) → List ℕ → List ℕ → Type 0
+AddsBy (Build options) reports old new = Adds reports old new
+AddsBy (Serve local) reports old new = Unit {0}
+AddsBy (Bad at) reports old new = Adds reports old new
+
 -- the refusal stays, but where its line wants memory
 pub record Finishes (before after : Verdict) : Type 0 where
   pub same : after ≢ Memory → after ≡ before
@@ -204,11 +252,13 @@ processors_in (Err refusal) = []
 
 abbrev pub processors_of : Request → Files → List Try
 processors_of (Build options) project = processors_in (read_of options project)
+processors_of (Serve local) project = []
 processors_of (Bad at) project = []
 
--- these are the processors of a build, where the tree tells what it holds; words that no command has name none
+-- these are the processors of a build, where the tree tells what it holds; `serve` and words that no command has name none
 abbrev pub AreRead : Bool → Request → Files → List Try → Type 0
 AreRead tells (Build options) project processors = Told tells (processors ≡ processors_of (Build options) project)
+AreRead tells (Serve local) project processors = processors ≡ []
 AreRead tells (Bad at) project processors = processors ≡ []
 
 -- Children are started for the processors that were read, which are those of the project where the tree tells what it holds: one for each where the run was finished. Their
@@ -243,6 +293,7 @@ ShowsBy (Refused refusal) P Q = P
 ShowsBy (Failed Tree) P Q = P ⊎ Q
 ShowsBy (Failed Sink) P Q = P
 ShowsBy (Failed (Children processor)) P Q = Unit {0}
+ShowsBy (Input fault) P Q = P
 ShowsBy Memory P Q = Unit {0}
 
 -- As many processors, the first in order, were started as the run has frames for, all of them where it finished. The child of each was not known before and was
@@ -262,4 +313,5 @@ ShowsOver rose (Ok read) old new v = ShowsRead rose read old new v
 -- `rose` says that the count of the faults of the children rose
 abbrev pub ShowsRun : Type 0 → Request → Files → State → State → Verdict → Type 0
 ShowsRun rose (Build options) project old new v = ShowsOver rose (read_of options project) old new v
+ShowsRun rose (Serve local) project old new v = Unit {0}
 ShowsRun rose (Bad at) project old new v = Unit {0}

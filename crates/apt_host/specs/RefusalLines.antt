@@ -11,7 +11,7 @@ use Rattle.frame_breaches.specs.declared.breach.Breach.{Breach}
 use Rattle.frame_breaches.specs.declared.breach.Breach.TheVariants as breach
 use Rattle.project_units.specs.Refusals as stop
 use Rattle.project_units.specs.Refusals.{Refusal, BadWords, BadConfig, UnknownProcessor, BadStub, BadSource, DuplicateType, BadGenerated, LeavesProtocol, TooManyQuestions, ClaimBroken, GeneratedDuplicate, TooManyRounds, TooLarge, Place, Object, Tree, Sink, Children}
-use Rattle.project_reading.specs.Verdicts.{Verdict, Done, Errors, Refused, Failed, Memory}
+use Rattle.project_reading.specs.Verdicts.{InputFault, SourceFails, HostLeaves, Verdict, Done, Errors, Refused, Failed, Input, Memory}
 
 -- the name of a limit
 abbrev pub what_text : What → List ℕ
@@ -60,6 +60,12 @@ breach_line processor (breach.Bad place kind) =
     codes "refused: BadFrame(" ++ (processor ++ (codes ", " ++ (decimal place ++ (codes ", " ++ (bad_kind_text kind ++ codes ")\n")))))
 breach_line processor (breach.Wrong tag) = codes "refused: WrongFrame(" ++ (processor ++ (codes ", " ++ (decimal tag ++ codes ")\n")))
 
+-- the same of the host of a child
+abbrev pub host_line : Breach → List ℕ
+host_line (breach.Ended got) = codes "refused: InputEnded(" ++ (decimal got ++ codes ")\n")
+host_line (breach.Bad place kind) = breach_line (codes "host") (breach.Bad place kind)
+host_line (breach.Wrong tag) = breach_line (codes "host") (breach.Wrong tag)
+
 -- the line of a refusal
 abbrev pub line_of : Refusal → List ℕ
 line_of (BadWords at) = codes "refused: BadWords(" ++ (decimal at ++ codes ")\n")
@@ -87,10 +93,15 @@ line_of_failure Tree = codes "refused: TreeFault\n"
 line_of_failure Sink = codes "refused: SinkFault\n"
 line_of_failure (Children processor) = codes "refused: ChildFault(" ++ (processor ++ codes ")\n")
 
--- the line of a call that ended early; one that ended with a report has none
+abbrev pub line_of_input : InputFault → List ℕ
+line_of_input SourceFails = codes "refused: SourceFault\n"
+line_of_input (HostLeaves breach) = host_line breach
+
+-- the line of a call that ended early, where its command has lines; one that ended with a report has none
 abbrev pub refusal_of : Verdict → List ℕ
 refusal_of Done = []
 refusal_of (Errors count) = []
 refusal_of (Refused refusal) = line_of refusal
 refusal_of (Failed object) = line_of_failure object
+refusal_of (Input fault) = line_of_input fault
 refusal_of Memory = codes "refused: Memory\n"

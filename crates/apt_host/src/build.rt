@@ -13,7 +13,7 @@ ghost use Rattle.apt_host.specs.BuildEndings.{closed, IsConcluded};
 ghost use Rattle.apt_host.specs.Making.{concluded, RefusesRun};
 ghost use Rattle.apt_host.specs.Listed.{numbered_of, FitsEntry};
 ghost use Rattle.apt_host.specs.Promises.{Leaves, LeavesUndone, KeepsOutput, IsDue};
-ghost use Rattle.apt_host.specs.Builds.{Uses, UsesFor, Shows, Makes, OnTable, Answers, Refuses, Publishes, PlacesMade, Tells, Reports};
+ghost use Rattle.apt_host.specs.Builds.{Uses, UsesFor, Shows, Makes, IsOwn, Answers, Refuses, Publishes, PlacesMade, Tells, Reports};
 
 use crate::publish::{publish, spell, tell_errors};
 use crate::report::Summary;
@@ -139,7 +139,7 @@ pub fn build<T: Tree, C: Children, W: Sink>(
     ensures says { Told C.tells ((C.state children.new).says ≡ (C.state children.old).says) }
     ensures uses { Uses T.Tree C.Children options.now tree.old children.old children.new result }
     ensures due { IsDue (C.state children.old) (C.state children.new) (closed result) }
-    ensures on_table { OnTable options.now tree.old tree.new children.old children.new result }
+    ensures own { IsOwn options.now result }
     ensures answer { Answers T.Tree C.Children options.now tree.old children.old result }
     ensures refused { Refuses T.Tree C.Children options.now tree.old children.old children.new result }
     ensures published { Publishes T.Tree C.Children options.now tree.old tree.new children.old result }

@@ -3,7 +3,7 @@ ghost use Rattle.std.specs.Prelude.{◌≡◌, ◌++◌, [], IfOk, OnOk, string_
 ghost use Rattle.std.specs.List.{flat_map};
 ghost use Rattle.apt_host.specs.Report.{kind_text, escaped, message_text, message_line, message_lines, unread_line, first_lines, file_line, file_lines, errors_report};
 ghost use Rattle.project_units.specs.Refusals.{BadConfig, BadStub, BadSource, DuplicateType, BadGenerated, ClaimBroken};
-ghost use Rattle.apt_host.specs.RefusalLines.{IsLineOf, what_text, claim_text, bad_kind_text, place_text, breach_line, line_of, refusal_of};
+ghost use Rattle.apt_host.specs.RefusalLines.{IsLineOf, what_text, claim_text, bad_kind_text, place_text, breach_line, host_line, line_of, refusal_of};
 ghost use Rattle.project_units.specs.Faults.{stop_of};
 ghost use Rattle.project_reading.specs.Verdicts.{verdict, stopped, shown_place};
 ghost use Rattle.apt_host.specs.Listed.{listed, summary_of, report_for};
@@ -336,6 +336,16 @@ fn child_line(alloc: Global, processor: &str, breach: Breach) -> Result<String, 
     }
 }
 
+// The line of a child whose host left the protocol.
+fn host_line(alloc: Global, breach: Breach) -> Result<String, AllocError>
+    ensures { IfOk result (λ text. string_bytes text ≡ host_line breach) }
+{
+    match breach {
+        Breach::Ended { got } => format!(in alloc; "refused: InputEnded({got})\n"),
+        Breach::Bad { .. } | Breach::Wrong { .. } => child_line(alloc, "host", breach),
+    }
+}
+
 // The line of what a run may come to.
 fn run_line(alloc: Global, refusal: &Refusal) -> Result<String, AllocError>
     ensures { IfOk result (λ text. string_bytes text ≡ refusal_of (stopped (stop_of refusal.now))) }
@@ -369,7 +379,7 @@ fn run_line(alloc: Global, refusal: &Refusal) -> Result<String, AllocError>
     }
 }
 
-/// The line of a refusal. A build that ended with a report has none.
+/// The line of a refusal, where its command has lines. A build that ended with a report has none.
 pub fn refusal(alloc: Global, status: &Status) -> Result<String, AllocError>
     ensures { IfOk result (λ text. string_bytes text ≡ refusal_of (verdict status.now)) }
 {
@@ -391,6 +401,8 @@ pub fn refusal(alloc: Global, status: &Status) -> Result<String, AllocError>
         Status::Refused(refusal) => run_line(alloc, refusal),
         Status::TreeFault => String::from_str(alloc, "refused: TreeFault\n"),
         Status::SinkFault => String::from_str(alloc, "refused: SinkFault\n"),
+        Status::SourceFault => String::from_str(alloc, "refused: SourceFault\n"),
+        Status::HostBreach { breach } => host_line(alloc, *breach),
         Status::Memory => String::from_str(alloc, "refused: Memory\n"),
     }
 }

@@ -1,9 +1,11 @@
 // The words of a call.
-ghost use Rattle.std.specs.Prelude.{◌≡◌, map, string_bytes, IfOk};
-ghost use Rattle.apt_host.specs.Words.{build_of, request_of};
-ghost use Rattle.apt_host.specs.Shown.{shown_request};
+ghost use Rattle.std.specs.Prelude.{◌≡◌, map, string_bytes, true, IfOk, IfErr};
+ghost use Rattle.apt_host.specs.Words.{build_of, serve_of, has_line};
+ghost use Rattle.apt_host.specs.Shown.{shown_request, asked};
 
 use apt_base::{List, Name, NoMemory};
+use local_children::local_named;
+use local_procs::Local;
 use project_config::option_in;
 use std::alloc::Global;
 
@@ -15,6 +17,11 @@ pub enum Request {
         /// The options of the words, as keys and their values, in order.
         options: List<(Name, Name)>,
     },
+    /// A child with a processor that the program has itself.
+    Serve {
+        /// The processor.
+        local: Local,
+    },
     /// The words are none of the table's.
     Bad {
         /// The position of the first word that no command has there, or the number of words where one is missing.
@@ -24,7 +31,8 @@ pub enum Request {
 
 // Reads the words behind `build`.
 fn read_build(alloc: Global, words: &[String]) -> Result<Request, NoMemory>
-    ensures { IfOk result (λ request. shown_request request ≡ build_of (map string_bytes words.now)) }
+    ensures request { IfOk result (λ request. shown_request request ≡ build_of (map string_bytes words.now)) }
+    ensures memory { IfErr result (λ _. has_line (build_of (map string_bytes words.now)) ≡ true) }
 {
     let mut full = false;
     let mut options = List::new(alloc);
@@ -45,14 +53,47 @@ fn read_build(alloc: Global, words: &[String]) -> Result<Request, NoMemory>
     Ok(Request::Build { options })
 }
 
-/// Reads the words: `build`, and behind it `--full` at most once and any number of options `KEY=VALUE`, in any order.
+// Reads the words behind `serve`: the name of a processor, and nothing more.
+fn read_serve(words: &[String]) -> Request
+    ensures { shown_request result ≡ serve_of (map string_bytes words.now) }
+{
+    let Some((name, others)) = words.split_first() else {
+        return Request::Bad { at: 1 };
+    };
+    match local_named(name.as_str()) {
+        Some(local) if others.is_empty() => Request::Serve { local },
+        Some(_) => Request::Bad { at: 2 },
+        None => Request::Bad { at: 1 },
+    }
+}
+
+/// Whether a refusal has a line after these words. The output of `serve` has the frames of its processor alone.
+#[tactic(auto, using(crate::proofs::WordLemmas::line_unless_serve))]
+pub fn has_line(words: &[String]) -> bool
+    ensures { result ≡ has_line (asked words.now) }
+{
+    let Some((word, others)) = words.split_first() else {
+        return true;
+    };
+    if word.as_str() == "serve" {
+        !matches!(read_serve(others), Request::Serve { .. })
+    } else {
+        true
+    }
+}
+
+/// Reads the words: `build`, and behind it `--full` at most once and any number of options `KEY=VALUE`, in any order;
+/// or `serve` and the name of a processor that the program has itself. Only the options take memory.
 pub fn read_words(alloc: Global, words: &[String]) -> Result<Request, NoMemory>
-    ensures { IfOk result (λ request. shown_request request ≡ request_of (map string_bytes words.now)) }
+    ensures request { IfOk result (λ request. shown_request request ≡ asked words.now) }
+    ensures memory { IfErr result (λ _. has_line (asked words.now) ≡ true) }
 {
     let Some((word, others)) = words.split_first() else {
         return Ok(Request::Bad { at: 0 });
     };
-    if word.as_str() == "build" {
+    if word.as_str() == "serve" {
+        Ok(read_serve(others))
+    } else if word.as_str() == "build" {
         read_build(alloc, others)
     } else {
         Ok(Request::Bad { at: 0 })

@@ -14,7 +14,7 @@ use Rattle.apt_host.specs.Making.{concluding_report}
 use Rattle.apt_host.specs.Listed.{numbered_of, GainsFirst}
 use Rattle.project_reading.specs.Entering.{IsDueRead}
 use Rattle.apt_host.specs.Promises.{Answers, RefusesRead, IsDue, Leaves, IsFront, Adds, ShowsOver, processors_in}
-use Rattle.apt_host.proofs.Early.{not_done_early, unfinished_early, not_run_early, no_sink_early, store_early, store_free, store_unnamed, no_child_concluded, unnamed_concluded}
+use Rattle.apt_host.proofs.Early.{not_done_early, unfinished_early, not_run_early, no_sink_early, store_early, store_free, store_unnamed, no_child_concluded, unnamed_concluded, own_concluded}
 use Rattle.apt_host.proofs.EarlyRefusals.{refuses_read, refuses_free, refuses_concluded, refuses_after, due_project, due_store, due_concluded}
 use Rattle.apt_host.proofs.Leaving.{leaves_keep}
 use Rattle.apt_host.proofs.Writing.{begins_with_nothing}
@@ -63,25 +63,25 @@ pub returns-in_err-project-clause-written : goal.returns-in_err-project-clause-w
 returns-in_err-project-clause-written g c = λ told.
     let p = err_from_is_err_and c.from_residual.result c.from_residual.ensures.1 in
     let same : closed c.from_residual.result ≡ verdict c.in_err-project.field-0.0 = ap closed p.1 ∙ ap verdict p.2 in
-    begins_with_nothing _ _ _ _ _ _ _ _ _ _ (ap is_finished same ∙ unfinished_early is_tree _ c.in_err-project.ensures.early) (ap (fails is_sink) same ∙ no_sink_early is_tree _ refl c.in_err-project.ensures.early)
+    begins_with_nothing _ _ _ _ _ _ _ _ _ _ refl (ap is_finished same ∙ unfinished_early is_tree _ c.in_err-project.ensures.early) (ap (fails is_sink) same ∙ no_sink_early is_tree _ refl c.in_err-project.ensures.early)
 
 pub returns-in_err-names-clause-written : goal.returns-in_err-names-clause-written
 returns-in_err-names-clause-written g c = λ told.
     let p = err_from_is_err_and c.from_residual-in_err-names.result c.from_residual-in_err-names.ensures.1 in
     let same : closed c.from_residual-in_err-names.result ≡ Memory = ap closed p.1 ∙ ap verdict p.2 in
-    begins_with_nothing _ _ _ _ _ _ _ _ _ _ (ap is_finished same) (ap (fails is_sink) same)
+    begins_with_nothing _ _ _ _ _ _ _ _ _ _ refl (ap is_finished same) (ap (fails is_sink) same)
 
 pub returns-in_err-taken-clause-written : goal.returns-in_err-taken-clause-written
 returns-in_err-taken-clause-written g c = λ told.
     let p = err_from_is_err_and c.from_residual-in_err-taken.result c.from_residual-in_err-taken.ensures.1 in
     let same : closed c.from_residual-in_err-taken.result ≡ verdict (of_store c.in_err-taken.field-0.0) = ap closed p.1 ∙ ap verdict p.2 in
-    begins_with_nothing _ _ _ _ _ _ _ _ _ _ (ap is_finished same ∙ unfinished_early is_tree _ (store_early c.in_err-taken.field-0.0)) (ap (fails is_sink) same ∙ no_sink_early is_tree _ refl (store_early c.in_err-taken.field-0.0))
+    begins_with_nothing _ _ _ _ _ _ _ _ _ _ refl (ap is_finished same ∙ unfinished_early is_tree _ (store_early c.in_err-taken.field-0.0)) (ap (fails is_sink) same ∙ no_sink_early is_tree _ refl (store_early c.in_err-taken.field-0.0))
 
 pub returns-in_err-finished-clause-written : goal.returns-in_err-finished-clause-written
 returns-in_err-finished-clause-written g c = λ told.
     let p = err_from_is_err_and c.from_residual-in_err-finished.result c.from_residual-in_err-finished.ensures.1 in
     let same : closed c.from_residual-in_err-finished.result ≡ verdict c.in_err-finished.field-0.0 = ap closed p.1 ∙ ap verdict p.2 in
-    begins_with_nothing _ _ _ _ _ _ _ _ _ _ (ap is_finished same ∙ unfinished_early is_children _ c.in_err-finished.ensures.early) (ap (fails is_sink) same ∙ no_sink_early is_children _ refl c.in_err-finished.ensures.early)
+    begins_with_nothing _ _ _ _ _ _ _ _ _ _ refl (ap is_finished same ∙ unfinished_early is_children _ c.in_err-finished.ensures.early) (ap (fails is_sink) same ∙ no_sink_early is_children _ refl c.in_err-finished.ensures.early)
 
 pub returns-clause-written : goal.returns-clause-written
 returns-clause-written g c = λ told.
@@ -355,3 +355,6 @@ returns-clause-kept g c = λ told.
     let taken = subst (λ tree. AreTaken tree c.in_ok-taken.taken) (sym (c.in_ok-taken.ensures.same told)) (c.in_ok-taken.ensures.taken told) in
     leaves_keep (closed c.conclude.result) (T.files c.args.tree.now) (T.files c.conclude.new.tree) (subst (λ old. Leaves (closed c.conclude.result) old (T.files c.conclude.new.tree)) same
     (leaves_all c.in_ok-taken.taken c.in_ok-finished.finished c.in_ok-finished.ensures.numbered (closed c.conclude.result) (T.files c.taken_numbers.new.tree) (T.files c.conclude.new.tree) taken (c.conclude.ensures.placed told) (c.conclude.ensures.leaves told)))
+
+pub returns-clause-own : goal.returns-clause-own
+returns-clause-own g c = own_concluded c.args.options.now (closed c.conclude.result) c.conclude.ensures.concluded
