@@ -759,6 +759,8 @@ def sixty_processors_that_all_ask(project):
 USAGE = [
     "apt_cli: usage: build [--full] [KEY=VALUE]..",
     "apt_cli: builds the project in the current folder; KEY=VALUE is an option of its processors",
+    "apt_cli: usage: serve NAME",
+    "apt_cli: is the processor NAME, one of the program's own, for the host at its input and output",
 ]
 
 # Words that no command has.
