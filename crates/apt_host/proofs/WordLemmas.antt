@@ -3,7 +3,7 @@ use Rattle.std.proofs.Common.{◌≡◌, ℕ, ◌+◌, Bool, true, false, List, 
 use Rattle.std.specs.Prelude.{codes, bytes_eq, IfErr}
 use Rattle.project_config.specs.Options.{option_in}
 use Rattle.project_reading.specs.Configuration.{Options}
-use Rattle.apt_host.specs.Words.{Request, Build, Bad, has_line, full_word, with_option, build_from, build_of, request_of}
+use Rattle.apt_host.specs.Words.{Request, Bad, has_line, full_word, with_option, build_from, build_of, request_of}
 
 either : (b : Bool) (x y : Request) → has_line x ≡ true → has_line y ≡ true → has_line (cond b x y) ≡ true
 either true x y first second = first
