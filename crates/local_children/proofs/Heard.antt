@@ -1,5 +1,5 @@
 -- What a reader makes of the next bytes, in the words of a session.
-use Rattle.std.proofs.Common.{◌≡◌, ◌⊎◌, inl, inr, ℕ, ◌+◌, ◌-◌, ◌<◌, ◌≤◌, List, [], ◌∷◌, ◌++◌, length, take, drop, get_or, Some, None, Result, Ok, Err, refl, sym, ap, subst, ◌∙◌, append_assoc, append-nil, arith}
+use Rattle.std.proofs.Common.{◌≡◌, inl, inr, ℕ, ◌+◌, ◌-◌, ◌<◌, ◌≤◌, List, [], ◌∷◌, ◌++◌, length, take, drop, get_or, Some, None, Ok, Err, sym, ap, ◌∙◌, append_assoc, append-nil, arith}
 use Rattle.std.proofs.lemmas.List.{take_more, take_all, take-append-drop, length-drop}
 use Rattle.frame_forms.specs.declared.bad_kind.BadKind.{BadKind}
 use Rattle.wire_frames.specs.declared.frame.Frame.{Frame}
@@ -8,14 +8,12 @@ use Rattle.frame_reader.specs.Stages.{found_in}
 use Rattle.frame_reader.proofs.Wanted.{found_begun}
 use Rattle.frame_stream.specs.declared.reader.ReadFault.TheVariants as faults
 use Rattle.frame_stream.specs.Streams.{frame_at, AnswersLast, ComesOf}
-use Rattle.frame_breaches.specs.declared.breach.Breach.{Breach}
 use Rattle.frame_breaches.specs.declared.breach.Breach.TheVariants.{Bad}
 use Rattle.frame_breaches.specs.Breaches.{front_of}
 use Rattle.frame_breaches.proofs.FrontsOfBytes.{front_bad}
 use Rattle.local_procs.specs.declared.local.Local.{Local}
 use Rattle.local_procs.specs.Says.{At, step}
-use Rattle.local_children.specs.Streams.{Open, Session, over, answered, heard, next, after, Stand, open_session}
-use Rattle.local_children.specs.Hearing.{shown_session}
+use Rattle.local_children.specs.Streams.{Session, over, answered, heard, after, open_session}
 use Rattle.local_children.proofs.Sessions.{after-append, after_fronts, begun_fronts, after_whole}
 
 -- the front of a piece, with the last byte that was taken

@@ -1,5 +1,5 @@
 -- What a child says to bytes of which it has heard the front.
-use Rattle.std.proofs.Common.{◌≡◌, ◌⊎◌, inl, inr, ℕ, ◌-◌, ◌<◌, ◌≤◌, Bool, true, Option, None, Some, List, [], ◌∷◌, ◌++◌, length, take, drop, Result, Ok, Err, refl, sym, ap, subst, ◌∙◌, arith}
+use Rattle.std.proofs.Common.{◌≡◌, inl, inr, ℕ, ◌-◌, ◌<◌, ◌≤◌, Bool, true, Option, None, Some, List, [], length, take, drop, Result, Ok, Err, refl, sym, ap, subst, ◌∙◌, arith}
 use Rattle.std.specs.Prelude.{◌==◌, IfOk, IsOkAnd}
 use Rattle.std.proofs.lemmas.Bool.{eqb-true}
 use Rattle.std.proofs.lemmas.List.{nil_from_length}
@@ -15,7 +15,7 @@ use Rattle.frame_breaches.specs.declared.breach.Breach.{Breach}
 use Rattle.frame_breaches.specs.declared.breach.Breach.TheVariants.{Bad}
 use Rattle.local_procs.specs.declared.local.Local.{Local}
 use Rattle.local_procs.specs.declared.child.Child.{Child}
-use Rattle.local_procs.specs.Says.{At, Answer, step}
+use Rattle.local_procs.specs.Says.{Answer, step}
 use Rattle.local_procs.specs.Places.{stands_at}
 use Rattle.local_children.specs.Streams.{Open, Session, over, answered, after, has_begun, Stand, open_session}
 use Rattle.local_children.specs.Hearing.{stand_of, shown_session, IsOf, Answers, HasBegun, StandsBy, Hears}

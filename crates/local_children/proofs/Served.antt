@@ -1,5 +1,5 @@
 -- A call of `serve`, from one piece to the next and to each of its ends.
-use Rattle.std.proofs.Common.{◌≡◌, ℕ, suc, ◌+◌, ◌<◌, ◌≤◌, Bool, true, false, List, [], ◌∷◌, ◌++◌, length, take, Result, Ok, Err, refl, sym, ap, subst, ◌∙◌, append_assoc, append-nil, length-append, arith}
+use Rattle.std.proofs.Common.{◌≡◌, ℕ, suc, ◌+◌, ◌≤◌, Bool, true, false, List, [], ◌∷◌, ◌++◌, length, take, Result, Ok, Err, refl, sym, ap, subst, ◌∙◌, append_assoc, append-nil, length-append, arith}
 use Rattle.std.specs.Prelude.{if◌then◌else◌}
 use Rattle.std.proofs.lemmas.List.{take_all, length-take-le}
 use Rattle.apt_outside.specs.Count.{Told}
@@ -11,15 +11,15 @@ use Rattle.frame_breaches.specs.declared.breach.Breach.{Breach}
 use Rattle.frame_breaches.specs.declared.breach.Breach.TheVariants.{Ended, Bad, Wrong}
 use Rattle.frame_breaches.specs.Breaches.{Front, front_of}
 use Rattle.local_procs.specs.declared.local.Local.{Local}
-use Rattle.local_procs.specs.Says.{At, Unbegun, Answer, step}
+use Rattle.local_procs.specs.Says.{Unbegun, Answer, step}
 use Rattle.local_children.specs.Streams.{Open, Session, unbegun, over, answered, heard, longer, next_by, next, after, session_of, says, has_begun, is_between, end_by, ending, Stand, open_session}
-use Rattle.local_children.specs.Hearing.{stand_of, shown_session, Hears}
+use Rattle.local_children.specs.Hearing.{stand_of}
 use Rattle.local_children.specs.declared.conversation.Conversation.{Conversation}
 use Rattle.local_children.specs.declared.hearing.Stands.{Stands}
 use Rattle.local_children.specs.declared.hearing.Stands.TheVariants as stand
 use Rattle.local_children.specs.declared.serving.ServeFault.{ServeFault}
 use Rattle.local_children.specs.declared.serving.ServeFault.TheVariants as faults
-use Rattle.local_children.specs.Serving.{IsCaused, IsOpen, StaysWithin, Writes, EndsBy, Serves, IsOfSource, IsOfSink, Reads, Speaks, behind, served_by, Goes}
+use Rattle.local_children.specs.Serving.{IsCaused, StaysWithin, Writes, EndsBy, Serves, IsOfSource, IsOfSink, Reads, Speaks, behind, served_by, Goes}
 use Rattle.local_children.proofs.Sessions.{after-append, session_is, prefixed, after_prefixed}
 use Rattle.local_children.proofs.Steps.{AnswersWell, answers_well}
 

@@ -3,8 +3,8 @@ use Rattle.std.proofs.Common.{◌≡◌, ℕ, ◌<◌, List, [], ◌∷◌, ◌+
 use Rattle.std.specs.Prelude.{option_map}
 use Rattle.std.specs.Int.{w32, to_be_bytes}
 use Rattle.frame_forms.specs.Scans.{begun}
-use Rattle.frame_forms.specs.FrameTable.{Fields, frame_form}
-use Rattle.frame_forms.specs.Frames.{IsFrame, spelled, frame_spelling, frame_scan, most_fields}
+use Rattle.frame_forms.specs.FrameTable.{frame_form}
+use Rattle.frame_forms.specs.Frames.{IsFrame, spelled, frame_spelling, frame_scan}
 use Rattle.frame_forms.proofs.FrameLawProofs.{frames_steady, frames_meet, fronts_are_begun}
 use Rattle.frame_forms.proofs.Framed.{begun_front}
 use Rattle.wire_frames.specs.declared.frame.Frame.{Frame}
@@ -12,15 +12,15 @@ use Rattle.wire_frames.specs.Frames.{shown, spelling, IsInTable}
 use Rattle.frame_decoder.proofs.ReadBack.{decoded_back}
 use Rattle.frame_reader.specs.declared.found.Found.TheVariants as founds
 use Rattle.frame_reader.specs.Stages.{found_by, found_in}
-use Rattle.frame_stream.specs.Streams.{frame_by, frame_at, most_bytes}
+use Rattle.frame_stream.specs.Streams.{frame_by, frame_at}
 use Rattle.frame_breaches.specs.declared.breach.Breach.{Breach}
 use Rattle.frame_breaches.specs.declared.breach.Breach.TheVariants.{Ended, Bad, Wrong}
 use Rattle.frame_breaches.specs.Breaches.{Front, front_of}
 use Rattle.frame_breaches.proofs.FrontsOfBytes.{front_is, front_begun}
 use Rattle.local_procs.specs.declared.local.Local.{Local}
 use Rattle.local_procs.specs.Says.{At, Unbegun, Answer, step}
-use Rattle.local_children.specs.Streams.{Open, Session, unbegun, over, answered, heard, longer, next_by, next, after, session_of, says, said_with, said, open_session}
-use Rattle.local_children.specs.StreamLaws.{IsLengthened, EndsAtBreach, IsSpelled, AreSpelled, AnswersInTurn, SaysLaws}
+use Rattle.local_children.specs.Streams.{Open, Session, unbegun, over, answered, heard, longer, next_by, next, after, session_of, said_with, said, open_session}
+use Rattle.local_children.specs.StreamLaws.{IsLengthened, EndsAtBreach, IsSpelled, AreSpelled, SaysLaws}
 
 -- ---- bytes behind bytes
 

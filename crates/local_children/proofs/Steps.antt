@@ -8,7 +8,7 @@ use Rattle.frame_breaches.specs.declared.breach.Breach.{Breach}
 use Rattle.frame_breaches.specs.Breaches.{stray}
 use Rattle.local_procs.specs.declared.local.Local.{Local}
 use Rattle.local_procs.specs.declared.local.Local.TheVariants.{Builder, Checker, Chain, Registry}
-use Rattle.local_procs.specs.Plans.{Plan, Ends, Sends, sendable, nothing}
+use Rattle.local_procs.specs.Plans.{Plan, Ends, Sends, nothing}
 use Rattle.local_procs.specs.Says.{At, Unbegun, Rests, Waits, Answer, hello_of, goes_on, step}
 use Rattle.local_procs.proofs.Sending.{kept_sent, small_sent, large_sent}
 use Rattle.local_children.specs.Streams.{has_begun}

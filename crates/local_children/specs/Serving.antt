@@ -1,5 +1,5 @@
 -- What is known of a call of `serve`.
-use Rattle.std.specs.Prelude.{◌≡◌, ℕ, ◌+◌, ◌≤◌, Bool, List, [], ◌++◌, length, take, Result, Ok, Err, IfOk, OnOk, OnErr}
+use Rattle.std.specs.Prelude.{◌≡◌, ℕ, ◌+◌, ◌≤◌, List, [], ◌++◌, length, take, Result, Ok, Err, IfOk, OnOk, OnErr}
 use Rattle.apt_outside.specs.Count.{Rose, Told}
 use Rattle.apt_outside.specs.declared.stream.Source as source
 use Rattle.apt_outside.specs.declared.stream.Sink as sink

@@ -6,7 +6,7 @@ use Rattle.frame_stream.specs.Streams.{most_bytes}
 use Rattle.frame_breaches.specs.declared.breach.Breach.{Breach}
 use Rattle.local_procs.specs.declared.local.Local.{Local}
 use Rattle.local_procs.specs.Says.{Unbegun}
-use Rattle.local_children.specs.Streams.{Session, session_of, says, said}
+use Rattle.local_children.specs.Streams.{session_of, says, said}
 
 -- more bytes only lengthen it
 abbrev pub IsLengthened : Type 0

@@ -1,4 +1,4 @@
-use Rattle.std.proofs.Common.{◌≡◌, IfOk, ap, subst, ◌∙◌}
+use Rattle.std.proofs.Common.{IfOk, ap, subst, ◌∙◌}
 use Rattle.frame_reader.specs.Stages.{found_in}
 use Rattle.frame_stream.proofs.StreamsLemmas.{none_begun}
 use Rattle.local_children.specs.Hearing.{HasBegun}
