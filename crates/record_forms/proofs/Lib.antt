@@ -1,0 +1,3 @@
+pub mod FormsLemmas
+pub mod Hellos
+pub mod RecordLaws
