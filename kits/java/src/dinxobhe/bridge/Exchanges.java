@@ -4,6 +4,7 @@ import dinxobhe.frames.Tag;
 import java.io.PrintStream;
 import java.util.Comparator;
 import java.util.EnumMap;
+import java.util.Locale;
 import java.util.Map;
 
 /** How many frames of each kind were answered, and how long the processor waited for the answers. */
@@ -18,7 +19,7 @@ final class Exchanges {
 
         @Override
         public String toString() {
-            return frames + " in " + String.format("%.3f", nanoseconds / NANOSECONDS) + " s";
+            return frames + " in " + String.format(Locale.ROOT, "%.3f s", nanoseconds / NANOSECONDS);
         }
 
         void add(int more, long time) {
