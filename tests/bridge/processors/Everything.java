@@ -61,8 +61,10 @@ public final class Everything extends AbstractProcessor {
         elements = processingEnv.getElementUtils();
         types = processingEnv.getTypeUtils();
         line("", "over, error", round.processingOver() + ", " + round.errorRaised());
-        line("", "options", new TreeMap<>(processingEnv.getOptions()) + " " + processingEnv.getSourceVersion());
-        sorted(annotations).forEach(one -> line("", "annotated with " + one, round.getElementsAnnotatedWith(one)
+        line("", "options", new TreeMap<>(processingEnv.getOptions()) + " "
+            + processingEnv.getSourceVersion());
+        sorted(annotations).forEach(one -> line("", "annotated with " + one,
+            round.getElementsAnnotatedWith(one)
             .stream().map(Everything::placed).sorted().collect(Collectors.toList())));
         sorted(round.getRootElements()).forEach(root -> print(root, ""));
         if (round.processingOver()) {
@@ -80,7 +82,8 @@ public final class Everything extends AbstractProcessor {
 
     /** An element with what encloses it; a package alone, since a module encloses it for some. */
     private static String placed(Element element) {
-        return (element.getKind() == ElementKind.PACKAGE ? "" : element.getEnclosingElement() + "/") + element;
+        return (element.getKind() == ElementKind.PACKAGE ? "" : element.getEnclosingElement() + "/")
+            + element;
     }
 
     private void write() {
@@ -99,7 +102,8 @@ public final class Everything extends AbstractProcessor {
     // Elements.
 
     private void print(Element element, String indent) {
-        line(indent, element.getKind() + " " + element.getSimpleName(), placed(element) + element.getModifiers());
+        line(indent, element.getKind() + " " + element.getSimpleName(),
+            placed(element) + element.getModifiers());
         String in = indent + "  ";
         line(in, "annotations", annotations(element.getAnnotationMirrors()));
         line(in, "all annotations", annotations(elements.getAllAnnotationMirrors(element)));
@@ -126,7 +130,8 @@ public final class Everything extends AbstractProcessor {
     }
 
     private void printType(TypeElement type, String in) {
-        line(in, "names", type.getQualifiedName() + " " + elements.getBinaryName(type) + " " + type.getNestingKind());
+        line(in, "names", type.getQualifiedName() + " " + elements.getBinaryName(type) + " "
+            + type.getNestingKind());
         line(in, "superclass", type(type.getSuperclass()));
         line(in, "interfaces", all(type.getInterfaces()));
         line(in, "enclosed", type.getEnclosedElements());
@@ -179,14 +184,16 @@ public final class Everything extends AbstractProcessor {
     }
 
     private String annotations(List<? extends AnnotationMirror> annotations) {
-        return annotations.stream().map(one -> one + " " + elements.getElementValuesWithDefaults(one).entrySet()
+        return annotations.stream().map(one -> one + " "
+            + elements.getElementValuesWithDefaults(one).entrySet()
             .stream().map(this::value).collect(Collectors.toList())).collect(Collectors.toList()).toString();
     }
 
     private String value(Map.Entry<? extends ExecutableElement, ? extends AnnotationValue> entry) {
         Object value = entry.getValue().getValue();
         boolean isPlain = value instanceof Number || value instanceof Character || value instanceof String;
-        return entry.getKey() + "=" + entry.getValue() + (isPlain ? ":" + value.getClass().getSimpleName() : "");
+        String type = isPlain ? ":" + value.getClass().getSimpleName() : "";
+        return entry.getKey() + "=" + entry.getValue() + type;
     }
 
     // Types.
@@ -204,13 +211,16 @@ public final class Everything extends AbstractProcessor {
         switch (type.getKind()) {
             case DECLARED:
                 TypeMirror enclosing = ((DeclaredType) type).getEnclosingType();
-                return " " + ((DeclaredType) type).asElement() + " in " + enclosing + ":" + enclosing.getKind() + " "
+                return " " + ((DeclaredType) type).asElement() + " in " + enclosing + ":"
+                    + enclosing.getKind() + " "
                     + ((DeclaredType) type).getTypeArguments().stream().map(one -> one.getKind() + parts(one))
                         .collect(Collectors.toList());
             case ERROR:
-                return " " + ((DeclaredType) type).asElement() + " " + ((DeclaredType) type).asElement().getKind();
+                return " " + ((DeclaredType) type).asElement() + " "
+                    + ((DeclaredType) type).asElement().getKind();
             case WILDCARD:
-                return " " + ((WildcardType) type).getExtendsBound() + " " + ((WildcardType) type).getSuperBound();
+                return " " + ((WildcardType) type).getExtendsBound() + " "
+                    + ((WildcardType) type).getSuperBound();
             case EXECUTABLE:
                 ExecutableType executable = (ExecutableType) type;
                 return executable.getTypeVariables() + " " + executable.getParameterTypes() + " "

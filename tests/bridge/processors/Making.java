@@ -39,13 +39,15 @@ public final class Making extends AbstractProcessor {
     @Override
     public boolean process(Set<? extends TypeElement> annotations, RoundEnvironment environment) {
         round++;
-        note("round " + round + " of " + environment.getRootElements() + ", given " + processingEnv.getOptions());
+        note("round " + round + " of " + environment.getRootElements() + ", given "
+            + processingEnv.getOptions());
         Filer filer = processingEnv.getFiler();
         for (Element element : environment.getElementsAnnotatedWith(Deprecated.class)) {
             processingEnv.getMessager().printMessage(Diagnostic.Kind.WARNING, "deprecated", element);
             if (element.getKind() == ElementKind.CLASS && round < 3) {
                 String name = "made." + element.getSimpleName() + "_";
-                attempt("source", () -> write(filer.createSourceFile(name, element), "package made; @Deprecated class "
+                attempt("source", () -> write(filer.createSourceFile(name, element),
+                    "package made; @Deprecated class "
                     + element.getSimpleName() + "_ {}\n"));
                 attempt("again", () -> write(filer.createSourceFile(name, element), "no"));
             }
@@ -54,7 +56,8 @@ public final class Making extends AbstractProcessor {
             others(filer);
         }
         if (environment.processingOver()) {
-            attempt("late", () -> write(filer.createSourceFile("made.Late"), "package made; class Late {}\n"));
+            attempt("late", () -> write(filer.createSourceFile("made.Late"),
+                "package made; class Late {}\n"));
         }
         return round == 2;
     }
@@ -67,7 +70,8 @@ public final class Making extends AbstractProcessor {
         attempt("bad name", () -> write(filer.createSourceFile("made.1"), "no"));
         attempt("package", () -> write(filer.createSourceFile("made.package-info"), "package made;\n"));
         attempt("before", () -> read(filer.getResource(StandardLocation.CLASS_OUTPUT, "q", "a/b.txt")));
-        attempt("resource", () -> write(filer.createResource(StandardLocation.CLASS_OUTPUT, "q", "a/b.txt"), "é\n"));
+        attempt("resource", () -> write(filer.createResource(StandardLocation.CLASS_OUTPUT, "q", "a/b.txt"),
+            "é\n"));
         attempt("after", () -> read(filer.getResource(StandardLocation.CLASS_OUTPUT, "q", "a/b.txt")));
         attempt("resource again", () -> filer.createResource(StandardLocation.CLASS_OUTPUT, "q", "a/b.txt"));
         attempt("bad resource", () -> filer.createResource(StandardLocation.CLASS_OUTPUT, "", "../b"));

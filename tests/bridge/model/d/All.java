@@ -8,9 +8,13 @@ import java.lang.annotation.*;
  *  Two lines.
  */
 @Deprecated
-@Marks(b = 7, c = 97, f = 1, d = 2, s = 3, l = 4, text = "a\"b'c\n\u00e9", type = String[].class, types = {int.class, List.class}, kind = All.Kind.TWO, kinds = All.Kind.ONE, nested = @Nested(3), nesteds = {@Nested, @Nested(1)}, chars = {'x', '\''}, yes = true)
-public abstract class All<T extends Comparable<? super T>, N extends Number & Serializable> extends Base<T> implements Able<T>, Cloneable {
-  public enum Kind implements Runnable { ONE, @Deprecated TWO { public void run() {} }; int x; Kind() {} public void run() {} static void stat() {} }
+@Marks(b = 7, c = 97, f = 1, d = 2, s = 3, l = 4, text = "a\"b'c\n\u00e9", type = String[].class,
+  types = {int.class, List.class}, kind = All.Kind.TWO, kinds = All.Kind.ONE, nested = @Nested(3),
+  nesteds = {@Nested, @Nested(1)}, chars = {'x', '\''}, yes = true)
+public abstract class All<T extends Comparable<? super T>, N extends Number & Serializable> extends Base<T>
+  implements Able<T>, Cloneable {
+  public enum Kind implements Runnable { ONE, @Deprecated TWO { public void run() {} }; int x;
+    Kind() {} public void run() {} static void stat() {} }
   enum Plain { A, B; int y; }
   public static final int SIZE = 3 * 4;
   static final byte B = 3;
@@ -31,7 +35,9 @@ public abstract class All<T extends Comparable<? super T>, N extends Number & Se
   All<String, Integer>.Inner written;
   Within<T> within;
   @Override public String toString() { return ""; }
-  public <K, V extends K> V find(K key, T t, int... at) throws java.io.IOException, IllegalStateException { return null; }
+  public <K, V extends K> V find(K key, T t, int... at) throws java.io.IOException, IllegalStateException {
+    return null;
+  }
   @Reps({@Rep(1), @Rep(2)}) abstract void contained();
   @Rep(1) @Rep(2) abstract void repeated();
   @Rep(3) void once(@Deprecated final String param) {}

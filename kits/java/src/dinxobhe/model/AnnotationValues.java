@@ -18,8 +18,8 @@ final class AnnotationValues {
     static AnnotationValue of(Model model, Value value, HostType type, Ref place) {
         if (type instanceof HostArrayType) {
             HostType component = ((HostArrayType) type).getComponentType();
-            return new HostAnnotationValue(items(value).stream().map(item -> of(model, item, component, place))
-                .collect(JavacList.collector()));
+            return new HostAnnotationValue(items(value).stream()
+                .map(item -> of(model, item, component, place)).collect(JavacList.collector()));
         }
         switch (value.kind()) {
             case CLASS:
