@@ -26,8 +26,8 @@ pub record IsCaused {T : Type 0} (fault : ServeFault) (before now : ℕ) (result
 abbrev pub IsOpen : Result Open Breach → Type 0
 IsOpen stands = (talk : Open) × (stands ≡ Ok talk)
 
--- Behind the last bytes that were read before a frame was whole or left the protocol, no more were read than that frame wants: none is
--- read behind a frame that is not answered yet, nor behind a breach.
+-- Behind bytes at which the session was open, no more were read than the frame wants that has begun there: so nothing is read behind
+-- the frame that leaves the protocol. That an answer is written before more is read is not said by it.
 pub record StaysWithin (local : Local) (read : List ℕ) : Type 0 where
   pub front : List ℕ
   pub piece : List ℕ

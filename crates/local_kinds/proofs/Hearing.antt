@@ -8,7 +8,8 @@ use Rattle.frame_breaches.specs.Breaches.{front_behind, frame_in}
 use Rattle.child_session.specs.Talk.{Stream, answer_to}
 use Rattle.local_procs.specs.declared.local.Local.{Local}
 use Rattle.local_procs.specs.Says.{At, Unbegun, step}
-use Rattle.local_kinds.specs.Streams.{said_with, said, AnswersInTurn}
+use Rattle.local_children.specs.Streams.{said_with, said}
+use Rattle.local_kinds.specs.Streams.{AnswersInTurn}
 use Rattle.local_kinds.specs.Rounds.{IsSendable}
 use Rattle.local_kinds.proofs.FramesRead.{AreSendable, last_read}
 

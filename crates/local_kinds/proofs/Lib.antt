@@ -11,3 +11,4 @@ pub mod CarriedNames
 pub mod OfferedNames
 pub mod ReadingFrames
 pub mod KindsKept
+pub mod ServedKinds

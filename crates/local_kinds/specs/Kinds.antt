@@ -15,6 +15,7 @@ use Rattle.child_session.specs.Sessions.{Limits, free_session, free_act_behind}
 use Rattle.local_procs.specs.declared.local.Local.{Local}
 use Rattle.local_procs.specs.declared.local.Local.TheVariants.{Registry}
 use Rattle.local_procs.specs.Says.{claim_of}
+use Rattle.local_children.specs.Streams.{local_in, says_of}
 use Rattle.local_kinds.specs.Streams.{AnswersInTurn}
 use Rattle.local_kinds.specs.Rounds.{IsInit, init_frame, IsRound, most_requests}
 
@@ -70,3 +71,8 @@ Keeps local stream = KeepsKind local stream
 
 abbrev pub AllKeepKinds : Type 0
 AllKeepKinds = (local : Local) (stream : Stream) → AnswersInTurn local stream → Keeps local stream
+
+-- so does each child of a command that is local
+abbrev pub ServedKeepKinds : Type 0
+ServedKeepKinds = (name : List ℕ) (command : List (List ℕ)) (local : Local) → local_in command ≡ Some local
+    → Keeps local (says_of name command)

@@ -1,22 +1,13 @@
 -- What a child with one of the processors says to frames of its host, one after another.
-use Rattle.std.specs.Prelude.{◌≡◌, ℕ, List, [], ◌∷◌, map, Result, Ok, Err}
+use Rattle.std.specs.Prelude.{◌≡◌, ℕ, List, map}
 use Rattle.std.specs.List.{flat_map, AllByRecursion}
 use Rattle.wire_frames.specs.declared.frame.Frame.{Frame}
 use Rattle.wire_frames.specs.Frames.{spelling}
-use Rattle.frame_breaches.specs.declared.breach.Breach.{Breach}
 use Rattle.child_session.specs.Talk.{Stream}
 use Rattle.local_procs.specs.declared.local.Local.{Local}
-use Rattle.local_procs.specs.Says.{At, Unbegun, Answer, step}
+use Rattle.local_procs.specs.Says.{Unbegun}
+use Rattle.local_children.specs.Streams.{said}
 use Rattle.local_kinds.specs.Rounds.{IsSendable}
-
-abbrev pub said_with : (At → List Frame) → Result Answer Breach → List Frame
-said_with go (Ok answer) = answer.0 ∷ go answer.1
-said_with go (Err breach) = []
-
--- what it says to these frames; behind one that may not come it says nothing more
-unfoldable pub said : Local → At → List Frame → List Frame
-said local at [] = []
-said local at (frame ∷ frames) = said_with (λ next. said local next frames) (step local at frame)
 
 -- to frames that are read as they were written, the answers are written one behind another
 abbrev pub AnswersInTurn : Local → Stream → Type 0

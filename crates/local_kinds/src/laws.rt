@@ -1,5 +1,5 @@
 // Functions without a task, whose contracts are the laws of the definitions.
-ghost use Rattle.local_kinds.specs.Kinds.{AllKeepKinds};
+ghost use Rattle.local_kinds.specs.Kinds.{AllKeepKinds, ServedKeepKinds};
 ghost use Rattle.local_kinds.specs.Streams.{ReadersAnswerInTurn};
 
 /// What each of the processors keeps to in the talk in which each creation whose elements are there is accepted. Its
@@ -14,4 +14,9 @@ pub fn built_in_kinds_hold()
 /// come one behind another.
 pub fn readers_hold()
     ensures { ReadersAnswerInTurn }
+{}
+
+/// The same of each child whose command is local: what it says is what `local_children` says of that command.
+pub fn served_kinds_hold()
+    ensures { ServedKeepKinds }
 {}

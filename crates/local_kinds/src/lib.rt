@@ -12,4 +12,4 @@
 
 mod laws;
 
-pub use laws::{built_in_kinds_hold, readers_hold};
+pub use laws::{built_in_kinds_hold, readers_hold, served_kinds_hold};
