@@ -1,23 +1,25 @@
 #!/usr/bin/env python3
 """Measures replies to questions of a child: how many a second, beside the same calls of javac, and how their time grows.
 
-    bench/answers.py [--program PATH] [--sources ARCHIVE] [PART..]
+    bench/answers.py [--program PATH] [--sources ARCHIVE] [--rows ROW,..] [PART..]
 
-PART is `util`, `growth`, `forms` or the name of a form; all are measured where none is named. PATH is the program of cases. Where it is
-left out, tests/cases.py builds it at -O3, which takes some minutes, and it is kept in bench/built. Its table `answer_cases` has the calls
-`collect` and `frames`, by which one value of `Answering` is asked many questions many times for the frame of each reply, and
-`alone`, which makes a value for each question. The time of a round of questions is the processor time of a run with many rounds less that of a run with one; so
-what a run does once, as reading the files, is not in it, and what a value remembers was found in the first round: a question that was
-asked before is answered by a copy of the frame. What a first question takes is the time of `alone`, where nothing is remembered. The
-program tests each index and each sum, as every one that is built without proofs.
+PART is `util`, `growth`, `forms` or the name of a form; all are measured where none is named. ROW is one of the six kinds of questions
+of `util` and `growth`, of which all are measured where none is named. PATH is the program of cases. Where it is left out, tests/cases.py
+builds it at -O3, which takes some minutes, and it is kept in bench/built. Its table `answer_cases` has the calls `collect` and `frames`,
+by which one value of `Answering` is asked many questions many times for the frame of each reply, and `alone`, which makes a value for
+each question. The time of a round of questions is the processor time of a run with many rounds less that of a run with one; so what a run
+does once, as reading the files, is not in it. Questions are asked in three ways: `again` of one value, which was asked each before and
+answers by a copy of the frame; `first` of one value, which is asked each once and remembers what it found for the others; and `alone` of
+a value for each question, where nothing is remembered. The program tests each index and each sum, as every one that is built without
+proofs.
 
 - `util` asks Info, TypeOf and Annotations of each type, member and parameter that the JDK's java.util declares, Enclosed and AllMembers
   of each type, and Subtype of each type with its direct supertypes and theirs, as they are and erased, and with ten other types. The
   table has all files below java of ARCHIVE, the src.zip of a JDK, that have units. A processor in a warm javac makes the same calls of
   the same elements (AnswerBench.java), in turn in one run: once the calls alone, of which lists are counted, and once with each answer
   gone through, down to the elements in its types and values. The ratios say how many replies the program gives where javac makes one call,
-  to questions that were asked before, and to first ones.
-- `growth` asks the same of 240 types, in a table of 5,000 and of 50,000 types, less the 50 of a package, again and for the first time.
+  to questions that are asked again, and to first ones of one value.
+- `growth` asks the same of 240 types, in a table of 5,000 and of 50,000 types, less the 50 of a package, again and alone.
 - `forms` are deep and wide declarations and questions, which grow in one number. Each question has one reply, which is known; a line has
   the milliseconds of one, as which power of the number the time grew from a smaller one, and the aim. The program has a stack of 8 MiB.
 
@@ -55,8 +57,13 @@ WARM = 3
 SIZES, GROWTH, ASKED, IN_PACKAGE = (5_000, 50_000), 1.6, 240, 50
 STACK = 8 << 20
 
-# The calls that are measured: of one value, and of one for each question.
-CALLS = ("frames", "alone")
+# The ways in which questions are asked, each with the calls of so many rounds more than the one round of ONE.
+ONE = ["frames 1"]
+WAYS = {"again": lambda rounds: [f"frames {1 + rounds}"], "first": lambda rounds: ONE * (1 + rounds), "alone": lambda rounds: [*ONE, f"alone {rounds}"]}
+OF_GROWTH = ("again", "alone")
+
+# How many times the rounds grow at most until they last, and how much longer than wanted they are then to last.
+FASTER, LONGER = 64, 1.2
 
 # How many times a number has to be the former one for a growth to be told.
 STEP = 1.5
@@ -90,38 +97,32 @@ def run(lines):
 
 def rounds_of(seconds_of, least):
     """How many rounds take as long as that."""
-    rounds = 1
-    while seconds_of(rounds) < least:
-        rounds *= 4
+    rounds, taken = 1, seconds_of(1)
+    while taken < least:
+        rounds *= FASTER if taken * FASTER < least else math.ceil(least / taken * LONGER)
+        taken = seconds_of(rounds)
     return rounds
 
 
 class Frames:
-    """The program over a table, of which one value is asked some questions again and again."""
+    """The program over a table, of which some questions are asked again and again."""
 
-    def __init__(self, entering, questions):
-        self.lines, self.questions = [*entering, *(f"collect {question}" for question in questions)], len(questions)
-        printed, _ = self.run(1)
+    def __init__(self, entering, questions, ways):
+        self.lines, self.questions, self.ways = [*entering, *(f"collect {question}" for question in questions)], len(questions), ways
+        printed, one = run([*self.lines, *ONE])
         wrong = [line for line in printed[:len(self.lines)] if not line.endswith(" = done")]
         if wrong:
             sys.exit(f"the program refuses {wrong[0][-80:]}")
         _, self.bytes = map(int, printed[len(self.lines)].split(" = ")[1].split(" "))
-        self.rounds = {call: self.rounds_that_last(call) for call in CALLS}
+        self.rounds = {way: rounds_of(lambda rounds, way=way: self.take(WAYS[way](rounds)) - one, LEAST) for way in ways}
 
-    def run(self, rounds, call="frames"):
-        return run([*self.lines, f"{call} {rounds}"])
+    def take(self, calls):
+        return run([*self.lines, *calls])[1]
 
-    def take(self, rounds, call):
-        return self.run(rounds, call)[1]
-
-    def rounds_that_last(self, call):
-        one = self.take(1, call)
-        return rounds_of(lambda rounds: self.take(1 + rounds, call) - one, LEAST)
-
-    def seconds(self, call="frames"):
-        """What a question takes, of one value or of one of its own."""
-        one, rounds = self.take(1, call), self.rounds[call]
-        return (self.take(1 + rounds, call) - one) / rounds / self.questions
+    def turn(self):
+        """What a question takes in each way."""
+        one = self.take(ONE)
+        return [(self.take(WAYS[way](self.rounds[way])) - one) / self.rounds[way] / self.questions for way in self.ways]
 
 
 class Calls:
@@ -166,23 +167,31 @@ def files_below(folder, sources):
     return texts, jdk.write_list(folder, "files", [path for path in paths if os.path.dirname(path).endswith("/java/util")])
 
 
-def measure_util(sources):
-    print("\n| Question | Questions | Replies a second | Bytes of a frame | For each call of javac | For each answer that is gone through | Aim | First replies a second | For each call |\n|---|---|---|---|---|---|---|---|---|")
+def measure_util(sources, rows):
     with tempfile.TemporaryDirectory(prefix="apt-bench-answers-") as folder:
         jdk.compile_some(folder, ("Javac", "ElementWords", "ReplyWords", "AnswerBench"))
         texts, listed = files_below(folder, sources)
         calls = Calls(folder, os.path.join(folder, "java.base"), listed, "java.util")
+        print("\n| Question | Questions | Bytes of a frame | Again | First of one value | Alone | For each call | For each answer that is gone through | Aim | First, for each call |\n"
+              "|---|---|---|---|---|---|---|---|---|---|")
         entering = ["empty", *(f"stub_file {annotations.word(text)}" for text in texts.values())]
-        for row, aim in ROWS.items():
-            measure_row(row, aim, Frames(entering, calls.questions[row]), calls)
+        for row in rows:
+            measure_row(row, ROWS[row], Frames(entering, calls.questions[row], WAYS), calls)
         calls.end()
 
 
+def medians(turns):
+    return [statistics.median(each) for each in zip(*turns)]
+
+
+def micros(seconds):
+    return f"{seconds * 1e6:,.2f} us"
+
+
 def measure_row(row, aim, frames, calls):
-    taken = [(frames.seconds(), frames.seconds("alone"), calls.seconds(row, "calls"), calls.seconds(row, "read")) for _ in range(TURNS)]
-    ours, first, called, read = (statistics.median(each) for each in zip(*taken))
-    print(f"| {row} | {frames.questions:,} | {1 / ours:,.0f} | {frames.bytes / frames.questions:,.0f} | {called / ours:.4f} | {read / ours:.4f} | at least {aim} "
-          f"| {1 / first:,.0f} | {called / first:.4f} |", flush=True)
+    again, first, alone, called, read = medians([*frames.turn(), calls.seconds(row, "calls"), calls.seconds(row, "read")] for _ in range(TURNS))
+    print(f"| {row} | {frames.questions:,} | {frames.bytes / frames.questions:,.0f} | {micros(again)} | {micros(first)} | {micros(alone)} "
+          f"| {called / again:.3f} | {read / again:.3f} | at least {aim} | {called / first:.4f} |", flush=True)
 
 
 # ---- tables of many types
@@ -220,19 +229,18 @@ def questions_of_sample(types):
     return found
 
 
-def measure_growth():
-    print(f"\n| Question | Questions | Value | One with {SIZES[0]:,} types | With {SIZES[1]:,} | Times as long | Aim |\n|---|---|---|---|---|---|---|")
+def measure_growth(rows):
+    print(f"\n| Question | Questions | Asked | One with {SIZES[0]:,} types | With {SIZES[1]:,} | Times as long | Aim |\n|---|---|---|---|---|---|---|")
     tables = []
     for types in SIZES:
         entering = ["empty", *(f"stub_file {annotations.word(text)}" for text in STUBS),
                     *(f"file {annotations.word(package_text(number))}" for number in range(packages_of(types)))]
         tables.append((entering, questions_of_sample(types)))
-    for row in ROWS:
-        small, large = (Frames(entering, questions[row]) for entering, questions in tables)
-        for call in CALLS:
-            taken = [(small.seconds(call), large.seconds(call)) for _ in range(TURNS)]
-            of_small, of_large = (statistics.median(each) for each in zip(*taken))
-            print(f"| {row} | {small.questions:,} | {call} | {of_small * 1e6:,.2f} us | {of_large * 1e6:,.2f} us | {of_large / of_small:.2f} | at most {GROWTH} |", flush=True)
+    for row in rows:
+        small, large = (Frames(entering, questions[row], OF_GROWTH) for entering, questions in tables)
+        taken = medians([*small.turn(), *large.turn()] for _ in range(TURNS))
+        for way, of_small, of_large in zip(OF_GROWTH, taken, taken[len(OF_GROWTH):]):
+            print(f"| {row} | {small.questions:,} | {way} | {micros(of_small)} | {micros(of_large)} | {of_large / of_small:.2f} | at most {GROWTH} |", flush=True)
 
 
 # ---- deep and wide: the lines that enter a form with a number, and its questions with their replies
@@ -396,27 +404,28 @@ def main():
     reader = argparse.ArgumentParser(description=__doc__, formatter_class=argparse.RawDescriptionHelpFormatter)
     reader.add_argument("--program", default=PROGRAM)
     reader.add_argument("--sources")
+    reader.add_argument("--rows", type=lambda given: given.split(","), default=list(ROWS))
     reader.add_argument("parts", nargs="*")
     words = reader.parse_args()
     parts, decided = words.parts or PARTS, True
     forms = [form for form in FORMS if form in parts or "forms" in parts]
-    unknown = set(parts) - {*PARTS, *FORMS}
+    unknown = (set(parts) - {*PARTS, *FORMS}) | (set(words.rows) - set(ROWS))
     if unknown:
-        reader.error(f"there is no part {', '.join(sorted(unknown))}")
+        reader.error(f"there is no part and no row {', '.join(sorted(unknown))}")
     PROGRAM = os.path.abspath(words.program)
     if words.program == reader.get_default("program"):
         cases.build(PROGRAM, LEVEL)
-    print(f"load {os.getloadavg()[0]:.1f}")
+    print(f"load {os.getloadavg()[0]:.1f}", flush=True)
     if forms:
         decided = measure_forms(forms)
     if "growth" in parts:
-        measure_growth()
+        measure_growth(words.rows)
     if "util" in parts:
         if words.sources and jdk.is_there():
-            measure_util(words.sources)
+            measure_util(words.sources, words.rows)
         else:
             print("no archive of the JDK's sources is named, or there is no JDK")
-    print(f"load {os.getloadavg()[0]:.1f}")
+    print(f"load {os.getloadavg()[0]:.1f}", flush=True)
     sys.exit(0 if decided else 1)
 
 
