@@ -9,10 +9,11 @@ The host starts both as children, each the program itself with `serve`. The comp
 have to make the same files with the same bytes (BuilderProcessor.java, RegistryProcessor.java); they do with
 -proc:only what the host does, and have the annotations as class files, where the host reads a stub.
 
-Cold is a new process, whose start counts. Warm is a JVM that has done the same before (WarmCompiler.java); a host that
-is warm there is not. All are run in turn in one run. It prints the medians by the clock and by the processors, and how
-many times the compiler's time the host's is. The jar of ecj is that of Debian's package, below JARS or /usr/share/java;
-where it is missing, javac stands alone.
+Cold is a new process, whose start counts. Warm is a JVM that has done the same before (WarmCompiler.java); the host and
+its children are started anew each time. All are run in turn in one run, in a folder in memory. It prints the medians by
+the clock and by the processors, and how many times the compiler's time the host's is. The jars of ecj are those of
+Debian's packages libeclipse-jdt-core-java and libeclipse-jdt-compiler-apt-java, below JARS or /usr/share/java; where
+one is missing, javac stands alone.
 """
 import argparse
 import os
