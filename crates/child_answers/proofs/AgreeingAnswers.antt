@@ -29,13 +29,13 @@ use Rattle.type_subtypes.specs.Subtypes.{subtype, contained}
 use Rattle.type_overriding.specs.Overrides.{overrides}
 use Rattle.type_listing.specs.Members.{members}
 use Rattle.type_texts.specs.Print.{text_of}
-use Rattle.type_queries.specs.Questions.{is_type_layer, is_package, is_executable}
-use Rattle.type_queries.specs.Questions.{same_question, print_question, boxed_question, unboxed_question, type_question}
-use Rattle.type_queries.specs.Questions.{direct_question, erasure_question, subtype_question, contains_question}
-use Rattle.type_queries.specs.Questions.{assignable_question, subsignature_question}
-use Rattle.type_queries.specs.MemberLists.{members_question}
-use Rattle.type_queries.specs.OverridingQuestions.{overrides_question}
-use Rattle.type_queries.specs.Verdicts.{Verdict, NoSuch, WrongKind, TooDeep, Given, value, truth, judged, are_there, elements_of}
+use Rattle.child_questions.specs.Questions.{is_type_layer, is_package, is_executable}
+use Rattle.child_questions.specs.Questions.{same_question, print_question, boxed_question, unboxed_question, type_question}
+use Rattle.child_questions.specs.Questions.{direct_question, erasure_question, subtype_question, contains_question}
+use Rattle.child_questions.specs.Questions.{assignable_question, subsignature_question}
+use Rattle.child_questions.specs.MemberLists.{members_question}
+use Rattle.child_questions.specs.OverridingQuestions.{overrides_question}
+use Rattle.child_questions.specs.Verdicts.{Verdict, NoSuch, WrongKind, TooDeep, Given, value, truth, judged, are_there, elements_of}
 use Rattle.frame_forms.specs.declared.question_row.ElementQuestion.TheVariants as element
 use Rattle.frame_forms.specs.declared.question_row.MirrorQuestion.TheVariants as mirror
 use Rattle.frame_forms.specs.declared.question_row.MirrorsQuestion.TheVariants as two

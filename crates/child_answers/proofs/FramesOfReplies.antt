@@ -16,8 +16,8 @@ use Rattle.type_members.specs.MemberOf.{member_of}
 use Rattle.type_overriding.specs.Overrides as overriding
 use Rattle.type_listing.specs.Members as listed
 use Rattle.annotation_values.specs.ElementValues.{Named, values_with_defaults}
-use Rattle.type_queries.specs.Verdicts.{Verdict, NoSuch, WrongKind, TooDeep, Given, value, judged}
-use Rattle.type_queries.specs.Verdicts as verdicts
+use Rattle.child_questions.specs.Verdicts.{Verdict, NoSuch, WrongKind, TooDeep, Given, value, judged}
+use Rattle.child_questions.specs.Verdicts as verdicts
 use Rattle.frame_forms.specs.QuestionTable as rows
 use Rattle.frame_forms.specs.QuestionTable.{ReplyFrame, question_reply, asked_of_name, asked_of_element, asked_of_mirror, asked_of_mirrors}
 use Rattle.frame_forms.specs.declared.question_row.NameQuestion.{NameQuestion}

@@ -2,8 +2,8 @@
 use Rattle.std.proofs.Common.{◌≡◌, ℕ, Bool, true, false, List, Option, None, Some, Result, Ok, Err, refl, sym, ap, subst, ◌∙◌}
 use Rattle.std.proofs.lemmas.Bool.{false≢true}
 use Rattle.element_table.specs.TypeTable.{TypeTable}
-use Rattle.type_queries.specs.Verdicts.{Verdict, NoSuch, WrongKind, Gives, judged}
-use Rattle.type_queries.specs.declared.fault.QueryFault.{QueryFault}
+use Rattle.child_questions.specs.Verdicts.{Verdict, NoSuch, WrongKind, Gives, judged}
+use Rattle.child_questions.specs.QueryFault.{QueryFault}
 use Rattle.wire_frames.specs.declared.question.Question.{Question}
 use Rattle.wire_frames.specs.declared.reply.Reply.{Reply}
 use Rattle.child_questions.specs.declared.stops.Stop.{Stop}

@@ -10,7 +10,7 @@ use Rattle.wire_frames.specs.declared.frame.Frame.TheVariants as frames
 use Rattle.wire_frames.specs.Frames.{spelling}
 use Rattle.child_questions.specs.NamedElements.{question_elements, are_all_there}
 use Rattle.child_questions.specs.WantedKinds.{is_admitted}
-use Rattle.type_queries.specs.Verdicts.{judged}
+use Rattle.child_questions.specs.Verdicts.{judged}
 use Rattle.child_answers.specs.Remembered.{depends_on_roots, frame_of, ReadAlike}
 use Rattle.child_answers.specs.Replies.{Answer, answer_to, judged_answer, name_answer, reply_by, reply_of, unless_too_large}
 

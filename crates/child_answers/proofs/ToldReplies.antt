@@ -1,8 +1,8 @@
 -- What a child is told of what was given, and of a reply by its size.
 use Rattle.std.proofs.Common.{◌≡◌, ℕ, Bool, true, false, List, Option, None, Some, Ok, Err, sym, ap, ◌∙◌, if◌then◌else◌}
-use Rattle.type_queries.specs.Verdicts.{Given, Gives}
-use Rattle.type_queries.specs.declared.fault.QueryFault.{QueryFault}
-use Rattle.type_queries.specs.declared.fault.QueryFault.TheVariants as fault
+use Rattle.child_questions.specs.Verdicts.{Given, Gives}
+use Rattle.child_questions.specs.QueryFault.{QueryFault}
+use Rattle.child_questions.specs.QueryFault.TheVariants as fault
 use Rattle.wire_frames.specs.declared.frame.Frame.{Frame}
 use Rattle.wire_frames.specs.declared.frame.Frame.TheVariants as frames
 use Rattle.wire_frames.specs.declared.reply.Refused.TheVariants as refused

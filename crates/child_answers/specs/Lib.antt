@@ -1,3 +1,4 @@
 pub mod Replies
 pub mod ReplyLaws
 pub mod Remembered
+pub use Rattle.child_questions.specs.NamedElements

@@ -27,9 +27,9 @@ use Rattle.type_members.specs.MemberOf.{member_of}
 use Rattle.type_overriding.specs.Overrides.{overrides}
 use Rattle.type_listing.specs.Members.{members}
 use Rattle.type_texts.specs.Print.{text_of}
-use Rattle.type_queries.specs.Verdicts.{Verdict, NoSuch, WrongKind, TooDeep, Given, value, truth, judged}
-use Rattle.type_queries.specs.declared.fault.QueryFault.{QueryFault}
-use Rattle.type_queries.specs.declared.fault.QueryFault.TheVariants as fault
+use Rattle.child_questions.specs.Verdicts.{Verdict, NoSuch, WrongKind, TooDeep, Given, value, truth, judged}
+use Rattle.child_questions.specs.QueryFault.{QueryFault}
+use Rattle.child_questions.specs.QueryFault.TheVariants as fault
 use Rattle.annotation_values.specs.ElementValues.{Named, mirrors, all_mirrors, values_with_defaults, default_of, constant_of}
 use Rattle.round_env.specs.Presence.{annotated}
 use Rattle.element_facts.specs.NamedTypes.{type_element, package_element}

@@ -4,11 +4,11 @@ use Rattle.std.specs.Prelude.{◌≡◌, ℕ, false, List, Some}
 use Rattle.apt_base.specs.declared.element.ElementRef.{ElementRef}
 use Rattle.element_table.specs.TypeTable.{TypeTable}
 use Rattle.type_mirror.specs.declared.mirror.Mirror.{Mirror}
-use Rattle.type_queries.specs.Questions.{same_question, print_question, boxed_question, unboxed_question, type_question}
-use Rattle.type_queries.specs.Questions.{direct_question, erasure_question, subtype_question, contains_question}
-use Rattle.type_queries.specs.Questions.{assignable_question, subsignature_question}
-use Rattle.type_queries.specs.MemberLists.{members_question}
-use Rattle.type_queries.specs.OverridingQuestions.{overrides_question}
+use Rattle.child_questions.specs.Questions.{same_question, print_question, boxed_question, unboxed_question, type_question}
+use Rattle.child_questions.specs.Questions.{direct_question, erasure_question, subtype_question, contains_question}
+use Rattle.child_questions.specs.Questions.{assignable_question, subsignature_question}
+use Rattle.child_questions.specs.MemberLists.{members_question}
+use Rattle.child_questions.specs.OverridingQuestions.{overrides_question}
 use Rattle.frame_forms.specs.declared.question_row.ElementQuestion.TheVariants as element
 use Rattle.frame_forms.specs.declared.question_row.MirrorQuestion.TheVariants as mirror
 use Rattle.frame_forms.specs.declared.question_row.MirrorsQuestion.TheVariants as two

@@ -2,17 +2,17 @@
 ghost use Rattle.std.specs.Prelude.{◌≡◌, map, IfOk};
 ghost use Rattle.std.specs.Option.{option_to_list};
 ghost use Rattle.annotation_values.specs.ElementValues as elements;
-ghost use Rattle.type_queries.specs.Verdicts.{Gives, Given};
+ghost use Rattle.child_questions.specs.Verdicts.{Gives, Given};
 ghost use Rattle.wire_frames.specs.declared.reply.Reply.TheVariants as reply;
 ghost use Rattle.child_answers.specs.Replies.{unnamed, values_answer, with_value};
 
 use crate::lists::list_of;
 use annotation_values::{all_mirrors, constant_of, default_of, mirrors, values_with_defaults};
 use apt_base::{ElementRef, List, Name, NoMemory};
+use child_questions::QueryFault;
 use element_table::Table;
 use std::alloc::Global;
 use type_mirror::Value;
-use type_queries::QueryFault;
 use wire_frames::Reply;
 
 /// The annotations that are written on an element.

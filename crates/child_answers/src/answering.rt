@@ -4,7 +4,7 @@ ghost use Rattle.annotation_values.specs.ElementValues as elements;
 ghost use Rattle.wire_frames.specs.Frames.{spelling};
 ghost use Rattle.wire_frames.specs.declared.frame.Frame.TheVariants as frames;
 ghost use Rattle.wire_frames.specs.declared.reply.Reply.TheVariants as replies;
-ghost use Rattle.type_queries.specs.Verdicts.{Given, Gives};
+ghost use Rattle.child_questions.specs.Verdicts.{Given, Gives};
 ghost use Rattle.child_questions.specs.WantedKinds.{is_admitted, is_element};
 ghost use Rattle.frame_forms.specs.QuestionTable.{asked_of_element};
 ghost use Rattle.child_answers.specs.Replies.{answer_to, element_answer, judged_answer, mirrors_answer, reply_by};
@@ -20,7 +20,7 @@ use crate::relations::Relations;
 use crate::replies::{framed, refused, unless_too_large};
 use annotation_values::ElementValues;
 use apt_base::{ElementRef, List, NoMemory};
-use child_questions::stop_of;
+use child_questions::{QueryFault, stop_of};
 use element_table::Table;
 use frame_forms::{ElementQuestion, MirrorsQuestion};
 use round_env::RoundEnv;
@@ -28,7 +28,6 @@ use std::alloc::Global;
 use std::marker::Model;
 use std::mem;
 use type_mirror::Mirror;
-use type_queries::QueryFault;
 use wire_frames::{Question, Reply};
 
 /// The replies over one table, which remembers what it found out for earlier questions: the frames of their replies,

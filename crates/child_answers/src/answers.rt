@@ -1,6 +1,6 @@
 // The answers to all questions.
 ghost use Rattle.std.specs.Prelude.{◌≡◌, true, map, IfOk};
-ghost use Rattle.type_queries.specs.Verdicts.{Gives};
+ghost use Rattle.child_questions.specs.Verdicts.{Gives};
 ghost use Rattle.child_questions.specs.WantedKinds.{is_admitted};
 ghost use Rattle.child_answers.specs.Replies as replies;
 ghost use Rattle.child_answers.specs.Replies.{answer_to, declared_answer, judged_answer, member_answer};
@@ -13,12 +13,11 @@ use crate::lists::list_of;
 use crate::mirrors::about_mirror;
 use crate::names::about_name;
 use apt_base::{ElementRef, List, Name, NoMemory};
-use child_questions::{Stop, stop_of};
+use child_questions::{QueryFault, Stop, stop_of, type_of_member};
 use element_table::Table;
 use round_env::RoundEnv;
 use std::alloc::Global;
 use type_mirror::Mirror;
-use type_queries::{QueryFault, type_of_member};
 use type_relations::class_type;
 use wire_frames::{Question, Reply};
 

@@ -1,10 +1,11 @@
 // The answers about two mirrors, and whether a method overrides another one.
 ghost use Rattle.std.specs.Prelude.{◌≡◌};
 ghost use Rattle.type_layers.specs.Same.{same};
-ghost use Rattle.type_queries.specs.Verdicts.{Gives, truth};
+ghost use Rattle.child_questions.specs.Verdicts.{Gives, truth};
 ghost use Rattle.child_answers.specs.Replies.{in_truth, mirrors_answer, overrides_answer, with_truth};
 
 use apt_base::ElementRef;
+use child_questions::QueryFault;
 use element_table::Table;
 use frame_forms::MirrorsQuestion;
 use std::alloc::Global;
@@ -13,7 +14,6 @@ use type_levels::Answer;
 use type_mirror::Mirror;
 use type_numbers::Types;
 use type_overriding::overrides;
-use type_queries::QueryFault;
 use type_subtypes::{assignable, contained, subsignature, subtype};
 use wire_frames::Reply;
 

@@ -29,6 +29,7 @@ mod replies;
 mod same_question;
 
 pub use answering::Answering;
+pub use child_questions::{is_creation_there, is_message_there};
 pub use known_frames::{MOST_FRAME_BYTES, MOST_FRAMES};
 pub use laws::{replies_agree_with_calls, replies_are_of_their_frames, replies_fit};
 pub use relations::MOST_TYPES;

@@ -3,18 +3,18 @@ ghost use Rattle.std.specs.Prelude.{◌≡◌};
 ghost use Rattle.element_table.specs.TypeTable.{IsTable};
 ghost use Rattle.element_facts.specs.NamedTypes as named;
 ghost use Rattle.round_env.specs.Presence.{annotated};
-ghost use Rattle.type_queries.specs.Verdicts.{Gives};
+ghost use Rattle.child_questions.specs.Verdicts.{Gives};
 ghost use Rattle.child_answers.specs.Replies.{name_answer, with_element, with_elements};
 
 use crate::lists::list_of_found;
 use apt_base::Name;
+use child_questions::QueryFault;
 use element_facts::{package_element, type_element};
 use element_table::Table;
 use frame_forms::NameQuestion;
 use name_resolve::Looks;
 use round_env::{RoundEnv, annotated_with};
 use std::alloc::Global;
-use type_queries::QueryFault;
 use wire_frames::Reply;
 
 // The look-ups of a table, of which none was made yet.

@@ -9,10 +9,10 @@ ghost use Rattle.child_answers.specs.Replies.{judged_answer, refusal_of, reply_o
 
 use crate::answers::judged;
 use apt_base::{List, NoMemory};
+use child_questions::QueryFault;
 use element_table::Table;
 use round_env::RoundEnv;
 use std::alloc::Global;
-use type_queries::QueryFault;
 use wire_frames::{Frame, FrameFault, Question, Refused, Reply, encode, is_too_large};
 
 // ---- what a child is told

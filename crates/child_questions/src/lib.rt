@@ -18,3 +18,4 @@ mod stops;
 pub use kinds::{is_element, is_mirror};
 pub use named::{is_creation_there, is_message_there, is_question_there};
 pub use stops::{Stop, stop_of};
+pub use type_queries::{QueryFault, type_of_member};

@@ -8,7 +8,7 @@ use Rattle.wire_frames.specs.declared.frame.Creation.{Creation}
 use Rattle.wire_frames.specs.declared.reply.Created.{Created}
 use Rattle.wire_frames.specs.declared.reply.Created.TheVariants as created
 use Rattle.wire_frames.specs.declared.reply.Reply.TheVariants as reply
-use Rattle.child_questions.specs.NamedElements.{creation_elements, are_all_there}
+use Rattle.child_answers.specs.NamedElements.{creation_elements, are_all_there}
 use Rattle.child_session.specs.declared.request.Request.{Request}
 use Rattle.child_session.specs.declared.request.Request.TheVariants.{Ask, Create, Print}
 use Rattle.child_session.specs.declared.request.Turn.{Turn}

@@ -1,6 +1,6 @@
 pub mod FramesInFront
 pub mod Taking
-pub mod Answering
+pub mod Exchanging
 pub mod Feeding
 pub mod BeginningLemmas
 pub mod DoneExchanges

@@ -13,7 +13,7 @@ use Rattle.wire_frames.specs.declared.reply.Refused.TheVariants as refused
 use Rattle.wire_frames.specs.declared.reply.Reply.{Reply}
 use Rattle.wire_frames.specs.declared.reply.Reply.TheVariants as reply
 use Rattle.wire_frames.specs.Frames.{spelling}
-use Rattle.child_questions.specs.NamedElements.{creation_elements, message_elements, are_all_there}
+use Rattle.child_answers.specs.NamedElements.{creation_elements, message_elements, are_all_there}
 use Rattle.child_answers.specs.Replies.{reply_of}
 use Rattle.apt_filer.specs.Filing.{Taken, Filings, answer_to, item_of, with_item, with_file}
 use Rattle.child_session.specs.declared.request.Request.{Request}

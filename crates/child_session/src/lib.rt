@@ -18,6 +18,7 @@ mod round;
 mod serving;
 
 pub use beginning::begin;
+pub use child_answers::Answering;
 pub use fault::SessionFault;
 pub use laws::{files_are_made, free_acts_hold};
 pub use receiving::exchange;

@@ -14,7 +14,7 @@ use Rattle.type_mirror.specs.declared.mirror.DeclaredMirror.{DeclaredMirror, out
 use Rattle.type_mirror.specs.declared.mirror.ExecutableMirror.{ExecutableMirror, out-ExecutableMirror}
 use Rattle.type_layers.specs.Layers.{around_step}
 use Rattle.type_layers.proofs.BaseLayers.{by_layers-around, by_layers-Primitive, by_layers-Declared, by_layers-Error, by_layers-Variable, by_layers-Wildcard, by_layers-Executable, by_layers-Nothing, by_layers-Void, by_layers-Null, by_layers-Package}
-use Rattle.type_queries.specs.Verdicts.{parts_elements, layer_elements, elements_of}
+use Rattle.child_questions.specs.Verdicts.{parts_elements, layer_elements, elements_of}
 use Rattle.named_units.specs.Named.{units_of, with_units, in_base, in_declared, in_executable}
 
 -- ---- one after another

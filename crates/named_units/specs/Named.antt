@@ -22,7 +22,7 @@ use Rattle.type_mirror.specs.declared.mirror.BaseMirror.TheVariants as base
 use Rattle.type_mirror.specs.declared.mirror.DeclaredMirror.{DeclaredMirror}
 use Rattle.type_mirror.specs.declared.mirror.ExecutableMirror.{ExecutableMirror}
 use Rattle.type_mirror.specs.Parts.{plain}
-use Rattle.type_queries.specs.Verdicts.{elements_of}
+use Rattle.child_questions.specs.Verdicts.{elements_of}
 use Rattle.child_questions.specs.NamedElements.{question_elements}
 use Rattle.element_facts.specs.NamedTypes.{found_element}
 

@@ -3,7 +3,7 @@ ghost use Rattle.std.specs.Prelude.{◌≡◌, ◌∷◌, [], OnOk};
 ghost use Rattle.std.specs.List.{flat_map};
 ghost use Rattle.std.specs.Option.{option_to_list};
 ghost use Rattle.named_units.specs.Named.{with_units, in_base, in_declared, in_executable};
-ghost use Rattle.type_queries.specs.Verdicts.{elements_of};
+ghost use Rattle.child_questions.specs.Verdicts.{elements_of};
 
 use apt_base::{Boxed, ElementRef, Names, NoMemory};
 use type_mirror::{BaseMirror, DeclaredMirror, ExecutableMirror, Mirror};

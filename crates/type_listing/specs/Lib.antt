@@ -4,3 +4,4 @@ pub mod MemberLaws
 pub mod Members
 pub mod Namesakes
 pub mod Remembered
+pub use Rattle.type_overriding.specs.Overrides

@@ -17,3 +17,4 @@ mod remembered;
 
 pub use laws::more_levels_keep;
 pub use members::all_members;
+pub use type_overriding::overrides;

@@ -6,7 +6,7 @@ use Rattle.element_table.specs.TypeTable.{TypeTable}
 use Rattle.type_resolve.specs.Scopes.{is_type}
 use Rattle.type_relations.specs.Elements.{is_there}
 use Rattle.type_elements.specs.MemberElements.{is_method}
-use Rattle.type_overriding.specs.Overrides.{overrides}
+use Rattle.type_listing.specs.Overrides.{overrides}
 use Rattle.type_queries.specs.Verdicts.{Verdict, judged, truth}
 
 -- all three

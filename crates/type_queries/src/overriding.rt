@@ -52,7 +52,7 @@ pub fn overrides(
         Some(fault) => Err(fault),
         None => {
             let mut types = Types::new(alloc);
-            let answer = type_overriding::overrides(alloc, table, &mut types, one, other, within)?;
+            let answer = type_listing::overrides(alloc, table, &mut types, one, other, within)?;
             truth(answer)
         }
     }

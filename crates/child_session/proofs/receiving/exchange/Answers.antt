@@ -1,4 +1,4 @@
-use Rattle.child_session.proofs.Answering.{exchanges, ok_map}
+use Rattle.child_session.proofs.Exchanging.{exchanges, ok_map}
 use Rattle.child_session.proofs.receiving.exchange.Goals as goal
 
 pub returns-clause-answer : goal.returns-clause-answer

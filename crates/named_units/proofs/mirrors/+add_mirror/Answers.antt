@@ -1,7 +1,7 @@
 use Rattle.std.proofs.Common.{◌+◌, drop, sym, ap, ◌∙◌}
 use Rattle.std.specs.List.{flat_map}
 use Rattle.apt_base.specs.Names.{NameSet}
-use Rattle.type_queries.specs.Verdicts.{elements_of}
+use Rattle.child_questions.specs.Verdicts.{elements_of}
 use Rattle.named_units.specs.Named.{with_units}
 use Rattle.named_units.proofs.NamedUnits.{mirrors_left}
 use Rattle.named_units.proofs.mirrors.+add_mirror.Goals as goal

@@ -1,6 +1,6 @@
 use Rattle.std.proofs.Common.{◌≡◌, drop}
 use Rattle.std.specs.List.{flat_map}
-use Rattle.type_queries.specs.Verdicts.{elements_of}
+use Rattle.child_questions.specs.Verdicts.{elements_of}
 use Rattle.named_units.specs.Named.{with_units}
 use Rattle.named_units.proofs.mirrors.+add_mirror.Given as goal
 
