@@ -19,7 +19,7 @@ use Rattle.local_children.specs.declared.hearing.Stands.{Stands}
 use Rattle.local_children.specs.declared.hearing.Stands.TheVariants as stand
 use Rattle.local_children.specs.declared.serving.ServeFault.{ServeFault}
 use Rattle.local_children.specs.declared.serving.ServeFault.TheVariants as faults
-use Rattle.local_children.specs.Serving.{IsCaused, StaysWithin, Writes, EndsBy, Serves, IsOfSource, IsOfSink, Reads, Speaks, behind, served_by, Goes}
+use Rattle.local_children.specs.Serving.{IsCaused, StaysWithin, WritesFront, Writes, EndsBy, Serves, IsOfSource, IsOfSink, Reads, Speaks, behind, served_by, Goes}
 use Rattle.local_children.proofs.Sessions.{after-append, session_is, prefixed, after_prefixed}
 use Rattle.local_children.proofs.Steps.{AnswersWell, answers_well}
 
@@ -45,11 +45,11 @@ module _ (local : Local) (read piece : List ℕ) (talk : Open) (stands : (sessio
   pub stands_then : (session_of local (read ++ piece)).stands ≡ (after local (open_session [] talk) piece).stands
   stands_then = ap (λ (s : Session). s.stands) with_piece
 
-  pub stays_within : length piece ≤ wanted_in talk.1 → StaysWithin local (read ++ piece)
-  stays_within within = record { front = read; piece = piece; split = refl; talk = talk; opened = stands; within = within }
+  pub stays_within : length piece ≤ wanted_in talk.1 → StaysWithin local (read ++ piece) read
+  stays_within within = record { piece = piece; split = refl; talk = talk; opened = stands; within = within }
 
-pub within_read : (local : Local) (read : List ℕ) (talk : Open) → (session_of local read).stands ≡ Ok talk → StaysWithin local read
-within_read local read talk stands = record { front = read; piece = []; split = sym (append-nil read); talk = talk; opened = stands; within = omega arith }
+pub within_read : (local : Local) (read : List ℕ) (talk : Open) → (session_of local read).stands ≡ Ok talk → StaysWithin local read read
+within_read local read talk stands = record { piece = []; split = sym (append-nil read); talk = talk; opened = stands; within = omega arith }
 
 -- ---- no session ends by an end of bytes
 
@@ -104,9 +104,9 @@ end_is talk breach e = cases (is_between (has_begun talk.0) talk.1) e
 pub ends_there : (session : Session) (P : Type 0) (talk : Open) → session.stands ≡ Ok talk → P → EndsBy session P (served_by (end_by (Ok talk)))
 ends_there session P talk is over = by_end session P (end_by (Ok talk)) (ap end_by is) (end_is talk) over
 
-pub writes_all : (says old new : List ℕ) (x : Result Unit Breach) → new ≡ old ++ says → Writes says old new (served_by x)
-writes_all says old new (Ok tt) is = is
-writes_all says old new (Err breach) is = is
+pub writes_all : (before says old new : List ℕ) (x : Result Unit Breach) → new ≡ old ++ says → Writes before says old new (served_by x)
+writes_all before says old new (Ok tt) is = is
+writes_all before says old new (Err breach) is = is
 
 -- ---- the ends of a call
 
@@ -128,10 +128,12 @@ module _ {R W : Type 0} (r : source.Ghosts R) (w : sink.Ghosts W) (local : Local
         → Serves r w local first input' out output result
     serves_ended input' room got reads none result is = record {
       read = goes.read;
+      front = goes.read;
       taken = λ told. goes.taken told ∙ ap (λ (b : List ℕ). goes.read ++ b) (same told);
       counted = omega (arith, goes.counted, reads.counted, none);
       within = within_read local goes.read child.1 goes.stands;
-      written = λ told. subst (Writes (says local goes.read) (w.written out) (w.written output)) (sym is) (writes_all (says local goes.read) (w.written out) (w.written output) (end_by (Ok child.1)) (goes.written told));
+      written = λ told. subst (Writes (says local goes.read) (says local goes.read) (w.written out) (w.written output)) (sym is)
+          (writes_all (says local goes.read) (says local goes.read) (w.written out) (w.written output) (end_by (Ok child.1)) (goes.written told));
       ends = subst (EndsBy (session_of local goes.read) (Told r.tells (r.left input' ≡ []))) (sym is)
           (ends_there (session_of local goes.read) (Told r.tells (r.left input' ≡ [])) child.1 goes.stands (λ told. sym (same told) ∙ reads.ended told none));
     }
@@ -143,6 +145,7 @@ module _ {R W : Type 0} (r : source.Ghosts R) (w : sink.Ghosts W) (local : Local
     pub serves_unread : (input' : R) (room : List ℕ) (fault : ServeFault) → Reads r input input' room (Err fault) → Serves r w local first input' out output (Err fault)
     serves_unread input' room fault reads = record {
       read = goes.read;
+      front = goes.read;
       taken = λ told. goes.taken told ∙ ap (λ (b : List ℕ). goes.read ++ b) (sym (reads.left told));
       counted = omega (arith, goes.counted, reads.supplied);
       within = within_read local goes.read child.1 goes.stands;
@@ -150,9 +153,10 @@ module _ {R W : Type 0} (r : source.Ghosts R) (w : sink.Ghosts W) (local : Local
       ends = by_ending fault reads.of_source;
     }
       where
-        by_writing : (fault : ServeFault) → IsOfSource {T = ℕ} (Err fault) → w.written output ≡ w.written out ++ says local goes.read → Writes (says local goes.read) (w.written out) (w.written output) (Err fault)
+        by_writing : (fault : ServeFault) → IsOfSource {T = ℕ} (Err fault) → w.written output ≡ w.written out ++ says local goes.read
+            → Writes (says local goes.read) (says local goes.read) (w.written out) (w.written output) (Err fault)
         by_writing faults.SourceFault of is = is
-        by_writing faults.Memory of is = (length (says local goes.read), is ∙ ap (λ (b : List ℕ). w.written out ++ b) (sym (take_all (length (says local goes.read)) (says local goes.read) (omega arith))))
+        by_writing faults.Memory of is = (length (says local goes.read), omega arith, is ∙ ap (λ (b : List ℕ). w.written out ++ b) (sym (take_all (length (says local goes.read)) (says local goes.read) (omega arith))))
         by_writing faults.SinkFault of is = absurd of
         by_writing (faults.Breach breach) of is = absurd of
 
@@ -173,7 +177,7 @@ module _ {R W : Type 0} (r : source.Ghosts R) (w : sink.Ghosts W) (local : Local
       all_counted : r.supply input' + length (goes.read ++ piece) ≡ r.supply first
       all_counted = omega (arith, goes.counted, reads.counted, size, length-append goes.read piece)
 
-      all_within : StaysWithin local (goes.read ++ piece)
+      all_within : StaysWithin local (goes.read ++ piece) goes.read
       all_within = stays_within local goes.read piece child.1 goes.stands (omega (arith, size, reads.fits, short))
 
       of_child : behind child piece ≡ after local (open_session [] child.1) piece
@@ -203,6 +207,7 @@ module _ {R W : Type 0} (r : source.Ghosts R) (w : sink.Ghosts W) (local : Local
       pub serves_over : (output' : W) (breach : Breach) → Speaks w child piece output output' (Ok (stand.Over breach)) → Serves r w local first input' out output' (Err (faults.Breach breach))
       serves_over output' breach speaks = record {
         read = goes.read ++ piece;
+        front = goes.read;
         taken = all_taken;
         counted = all_counted;
         within = all_within;
@@ -215,6 +220,7 @@ module _ {R W : Type 0} (r : source.Ghosts R) (w : sink.Ghosts W) (local : Local
       pub serves_unsent : (output' : W) (fault : ServeFault) → Speaks w child piece output output' (Err fault) → Serves r w local first input' out output' (Err fault)
       serves_unsent output' fault speaks = record {
         read = goes.read ++ piece;
+        front = goes.read;
         taken = all_taken;
         counted = all_counted;
         within = all_within;
@@ -222,18 +228,20 @@ module _ {R W : Type 0} (r : source.Ghosts R) (w : sink.Ghosts W) (local : Local
         ends = by_ending fault speaks.of_sink;
       }
         where
-          front : w.tells ≡ true → (n : ℕ) × (w.written output' ≡ w.written out ++ take n (says local (goes.read ++ piece)))
+          front : w.tells ≡ true → WritesFront (length (says local goes.read)) (says local (goes.read ++ piece)) (w.written out) (w.written output')
           front told =
               let some = speaks.some told in
               let before = says local goes.read in
               let more = (behind child piece).written in (
                 length before + some.0,
+                omega arith,
                 some.1 ∙ ap (λ (b : List ℕ). b ++ take some.0 more) (goes.written told) ∙ append_assoc (w.written out) before (take some.0 more)
                     ∙ ap (λ (b : List ℕ). w.written out ++ b) (sym (take-append_more before more some.0) ∙ ap (take (length before + some.0)) (sym all_said)),
               )
 
-          by_writing : (fault : ServeFault) → IsOfSink {T = Stands} (Err fault) → (n : ℕ) × (w.written output' ≡ w.written out ++ take n (says local (goes.read ++ piece)))
-              → Writes (says local (goes.read ++ piece)) (w.written out) (w.written output') (Err fault)
+          by_writing : (fault : ServeFault) → IsOfSink {T = Stands} (Err fault)
+              → WritesFront (length (says local goes.read)) (says local (goes.read ++ piece)) (w.written out) (w.written output')
+              → Writes (says local goes.read) (says local (goes.read ++ piece)) (w.written out) (w.written output') (Err fault)
           by_writing faults.SinkFault of is = is
           by_writing faults.Memory of is = is
           by_writing faults.SourceFault of is = absurd of

@@ -26,23 +26,27 @@ pub record IsCaused {T : Type 0} (fault : ServeFault) (before now : ℕ) (result
 abbrev pub IsOpen : Result Open Breach → Type 0
 IsOpen stands = (talk : Open) × (stands ≡ Ok talk)
 
--- Behind bytes at which the session was open, no more were read than the frame wants that has begun there: so nothing is read behind
--- the frame that leaves the protocol. That an answer is written before more is read is not said by it.
-pub record StaysWithin (local : Local) (read : List ℕ) : Type 0 where
-  pub front : List ℕ
+-- Behind the front, at which the session was open, no more was read than the frame wants that has begun there: so nothing is read behind
+-- the frame that leaves the protocol.
+pub record StaysWithin (local : Local) (read front : List ℕ) : Type 0 where
   pub piece : List ℕ
   pub split : read ≡ front ++ piece
   pub talk : Open
   pub opened : (session_of local front).stands ≡ Ok talk
   pub within : length piece ≤ wanted_in talk.1
 
--- all of it was written, and after a fault of the sink or out of memory a front of it
-abbrev pub Writes : List ℕ → List ℕ → List ℕ → Result Unit ServeFault → Type 0
-Writes says old new (Ok done) = new ≡ old ++ says
-Writes says old new (Err faults.SourceFault) = new ≡ old ++ says
-Writes says old new (Err (faults.Breach breach)) = new ≡ old ++ says
-Writes says old new (Err faults.SinkFault) = (n : ℕ) × (new ≡ old ++ take n says)
-Writes says old new (Err faults.Memory) = (n : ℕ) × (new ≡ old ++ take n says)
+-- a front of what is to be written, and at least this many bytes of it
+abbrev pub WritesFront : ℕ → List ℕ → List ℕ → List ℕ → Type 0
+WritesFront least says old new = (n : ℕ) × (least ≤ n) × (new ≡ old ++ take n says)
+
+-- All that it says was written. After a fault of the sink or out of memory a front of that was, and in it each answer to what was read before
+-- the last piece: so an answer is written before more is read than its frame.
+abbrev pub Writes : List ℕ → List ℕ → List ℕ → List ℕ → Result Unit ServeFault → Type 0
+Writes before says old new (Ok done) = new ≡ old ++ says
+Writes before says old new (Err faults.SourceFault) = new ≡ old ++ says
+Writes before says old new (Err (faults.Breach breach)) = new ≡ old ++ says
+Writes before says old new (Err faults.SinkFault) = WritesFront (length before) says old new
+Writes before says old new (Err faults.Memory) = WritesFront (length before) says old new
 
 -- ---- answers
 
@@ -57,13 +61,14 @@ EndsBy session over (Err faults.SourceFault) = IsOpen session.stands
 EndsBy session over (Err faults.SinkFault) = Unit {0}
 EndsBy session over (Err faults.Memory) = Unit {0}
 
--- the bytes that were read, where the source tells them, and what was written, where the sink tells it
+-- the bytes that were read, where the source tells them, those of them before the last piece, and what was written, where the sink tells it
 pub record Serves {R W : Type 0} (r : source.Ghosts R) (w : sink.Ghosts W) (local : Local) (input input' : R) (output output' : W) (result : Result Unit ServeFault) : Type 0 where
   pub read : List ℕ
+  pub front : List ℕ
   pub taken : Told r.tells (r.left input ≡ read ++ r.left input')
   pub counted : r.supply input' + length read ≡ r.supply input
-  pub within : StaysWithin local read
-  pub written : Told w.tells (Writes (says local read) (w.written output) (w.written output') result)
+  pub within : StaysWithin local read front
+  pub written : Told w.tells (Writes (says local front) (says local read) (w.written output) (w.written output') result)
   pub ends : EndsBy (session_of local read) (Told r.tells (r.left input' ≡ [])) result
 
 -- ---- a piece
