@@ -1,5 +1,5 @@
 #!/usr/bin/env python3
-"""Builds the program that declarations.py, frames.py, names.py, questions.py, shapes.py, subtypes.py and tokens.py measure, where it is not built yet, and prints its path.
+"""Builds the program that declarations.py, frames.py, names.py, questions.py, records.py, shapes.py, subtypes.py and tokens.py measure, where it is not built yet, and prints its path.
 
     bench/measured.py [--unproved]
 
@@ -34,7 +34,7 @@ UNPROVED = "unproved"
 # The crates that the program names.
 USED = [
     "apt_base", "decl_tree", "decl_syntax", "decl_parser", "element_table", "type_mirror", "type_layers", "type_resolve", "type_memory", "type_queries",
-    "java_tokens", "wire_frames", "frame_stream",
+    "java_tokens", "wire_frames", "frame_stream", "origin_record",
 ]
 
 # The words with which `rt ci` runs the program, which is to print nothing then.

@@ -43,7 +43,7 @@ REFUSED, LET_THROUGH, BAD, UNDECIDED = "REFUSED", "LET THROUGH", "BAD EDIT", "UN
 # The text of a source file
 
 
-IMPL = re.compile(r"(?:unsafe )?impl(?:<.*?>)?\s+(?=[A-Z(\[&])(.*?)\s*\{?\s*$")
+IMPL = re.compile(r"(?:unsafe )?impl(<.*?>)?\s+(?=[A-Z(\[&])(.*?)\s*\{?\s*$")
 HEAD = re.compile(r"(\s*)(?:pub(?:\([a-z]+\))? )?(const )?fn (\w+)")
 TYPE = re.compile(r"(?:pub(?:\([a-z]+\))? )?(?:struct|enum) (\w+)")
 CYCLE = re.compile(r"\s*#\[cycle\((\w+)\)\]")
@@ -88,12 +88,22 @@ def body_of(lines, head, indent):
     return at, next(last for last in range(at + 1, len(lines)) if lines[last] == indent + "}")
 
 
-def owner_of(header):
-    """The type and the trait of an `impl`, the trait as the prover writes it in a name."""
+def owner_of(parameters, header):
+    """The type and the trait of an `impl` with these parameters, as the prover writes them in a name."""
     header = header.split(" where ")[0]
     trait, _, of = header.rpartition(" for ")
-    plain = re.sub(r"'\w+|\W", "", trait)
-    return re.sub(r"<.*", "", of), plain or None
+    own = set(re.findall(r"[<,]\s*(\w+)", parameters or ""))
+    return name_of_type(of, own), name_of_type(trait, own) or None
+
+
+def name_of_type(text, parameters):
+    """A type as the prover writes it in a name: its words in order, a tuple by the number of its parts, and no parameters of the `impl`."""
+    text = re.sub(r"'\w+|\w+::", "", text)
+    while part := re.search(r"\(([^()]*)\)", text):
+        items = [item for item in re.sub(r"<[^<>]*>", "", part[1]).split(",") if item.strip()]
+        text = f"{text[:part.start()]}Tuple{len(items)} {part[1]}{text[part.end():]}"
+    words = [word for word in re.findall(r"\w+", text) if word not in parameters]
+    return "".join(word[0].upper() + word[1:] for word in words)
 
 
 def functions_of(text):
@@ -102,7 +112,7 @@ def functions_of(text):
     while at < len(lines):
         line = lines[at]
         if impl := IMPL.match(line):
-            owner, trait = owner_of(impl[1])
+            owner, trait = owner_of(impl[1], impl[2])
         elif re.match(r"(pub(\([a-z]+\))? )?trait ", line):
             owner, trait = None, "trait"
         if line.startswith("}"):
@@ -162,7 +172,9 @@ class Source:
         modules = module_of(path[len("src/") :])
         if not function.owner:
             return [*modules, function.name]
-        return [*self.homes.get(function.owner, modules), function.owner + (function.of_trait or ""), function.name]
+        if function.of_trait:
+            return [*modules, function.owner + function.of_trait, function.name]
+        return [*self.homes.get(function.owner, modules), function.owner, function.name]
 
     def proof_of(self, path, function):
         """The folder of a function's proof, or of that of the cycle of calls that it belongs to."""

@@ -101,8 +101,9 @@ pub(crate) fn table_at(alloc: Global, value: &Record, round: usize) -> Result<Ta
 }
 
 /// The types of a recorded build in the round with this number, counted from 1: the initial units and those that entered
-/// up to that round, as sources, and no stubs. The round is one of the record's, and the units of the record enter one
-/// table, as conditions; a record that was read has the second. `NoMemory` where memory ran out.
+/// up to that round, as sources, and no stubs. With 0 it is the initial units alone. The record has so many rounds at
+/// least, and its units enter one table, as conditions; a record that was read has the second. `NoMemory` where memory ran
+/// out.
 pub fn old_table(alloc: Global, value: &Record, round: u32) -> Result<Table, NoMemory>
     requires within { round ≤ length value.now.rounds }
     requires enters { is_some (table_at value.now (length value.now.rounds)) ≡ true }

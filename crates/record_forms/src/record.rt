@@ -37,7 +37,7 @@ pub struct Key {
 pub struct KeyProcessor {
     /// Its name.
     pub name: Name,
-    /// The words of the command that starts its child.
+    /// The words of the command that starts its child; of a project's processor at least one.
     pub command: List<Name>,
     /// The text by which its user tells its versions apart.
     pub version: Name,
