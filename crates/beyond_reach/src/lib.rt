@@ -1,0 +1,15 @@
+//! Which questions of a processor are beyond reach: their replies may hang on units to which nothing leads of what
+//! the processor was shown. What it gave may then not be kept.
+//!
+//! `specs/Beyond` says it of a question and of all questions of a round, by the reach of units: each closed set that
+//! holds a unit holds all to which it leads. `specs/Reached` finds that set step by step, and `beyond_is_decided`
+//! carries the law that both say the same.
+#![tactic(auto)]
+
+ghost use Rattle.beyond_reach.specs.Decided.{BeyondIsDecided};
+
+/// The set that is found step by step from some units has exactly the names to which one of them leads; so whether a
+/// question of a round was beyond reach is decided by it.
+pub fn beyond_is_decided()
+    ensures { BeyondIsDecided }
+{}

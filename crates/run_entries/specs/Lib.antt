@@ -1,0 +1,9 @@
+pub mod Outputs
+pub mod Kinds
+pub mod Annotated
+pub mod Entries
+pub mod Notes
+pub mod Maps
+pub mod Positions
+pub mod Roots
+pub mod Stands
