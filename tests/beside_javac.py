@@ -14,7 +14,7 @@ CLASSES = tempfile.mkdtemp(prefix="apt-java-")
 SECONDS = 300
 
 # A message of javac as -XDrawDiagnostics prints it; what a processor printed has the key proc.messager.
-DIAGNOSTIC = re.compile(r"(?:\S+\.java:\d+:\d+:|-) compiler\.(err|warn|note)\.([\w.]+)(?:: (.*))?")
+DIAGNOSTIC = re.compile(r"(?:(\S+\.java:\d+):\d+:|-) compiler\.(err|warn|note)\.([\w.]+)(?:: (.*))?")
 KINDS = {"err": "error", "warn": "warning", "note": "note"}
 COUNT = re.compile(r"\d+ (?:error|warning)s?")
 # Three warnings are javac's own, and under the host those of the bridge and of the host.
@@ -26,7 +26,7 @@ OWN = {
     "proc.file.create.last.round": "type {0} was created in the last round and is not processed",
 }
 # A line of the host's report.
-MESSAGE = re.compile(r"(error|warning|mandatory_warning|note|other): \[([\w.]+)\] (.*)")
+MESSAGE = re.compile(r"(error|warning|mandatory_warning|note|other): (?:(\S+\.java:\d+): )?\[([\w.]+)\] (.*)")
 AS_JAVAC = {"mandatory_warning": "warning", "other": "note"}
 
 
@@ -83,11 +83,20 @@ def use(project, *folders, stubs=None):
 
 
 class Outcome:
-    """The files of a run by their paths, and its messages, each with its kind, in no order."""
+    """The files of a run by their paths, and what it printed, in no order: each message with its kind and its place,
+    which is the name of a file and a line, or nothing where the message has none."""
 
-    def __init__(self, files, messages):
+    def __init__(self, files, printed):
         self.files = files
-        self.messages = sorted(messages)
+        self.printed = sorted(printed)
+
+    @property
+    def messages(self):
+        return [(kind, text) for kind, text, _ in self.printed]
+
+    @property
+    def places(self):
+        return [place for _, _, place in self.printed]
 
     def kinds(self):
         return [kind for kind, _ in self.messages]
@@ -119,15 +128,15 @@ def javac_messages(lines):
         begin = DIAGNOSTIC.fullmatch(line)
         if begin is None:
             if not is_own and not COUNT.fullmatch(line):
-                kind, text = found.pop()
-                found.append((kind, f"{text}\n{line}"))
+                kind, text, place = found.pop()
+                found.append((kind, f"{text}\n{line}", place))
             continue
-        kind, key, text = begin.groups()
+        place, kind, key, text = begin.groups()
         is_own = key != "proc.messager"
         if not is_own:
-            found.append((KINDS[kind], text))
+            found.append((KINDS[kind], text, place or ""))
         elif key in OWN:
-            found.append((KINDS[kind], OWN[key].format(*text.split(", "))))
+            found.append((KINDS[kind], OWN[key].format(*text.split(", ")), place or ""))
     return found
 
 
@@ -141,7 +150,7 @@ def under_host(project, commands=None, options=()):
     run = project.run(["build", *options], seconds=SECONDS)
     lines = run.output.decode().splitlines()
     messages = [host_message(line) for line in lines if MESSAGE.match(line)]
-    errors = sum(kind == "error" for kind, _ in messages)
+    errors = sum(kind == "error" for kind, _, _ in messages)
     if run.status not in (DONE_STATUS, ERRORS) or (run.status == ERRORS) != (errors > 0):
         raise Failure(f"the host ended with {run.status}: {lines[-1]} {run.messages.decode()[-2000:]}")
     published = project.published() if errors == 0 else {}
@@ -149,18 +158,24 @@ def under_host(project, commands=None, options=()):
 
 
 def host_message(line):
-    kind, _, text = MESSAGE.fullmatch(line).groups()
+    kind, place, _, text = MESSAGE.fullmatch(line).groups()
     escapes = {"\\n": "\n", "\\r": "\r", "\\\\": "\\"}
-    return AS_JAVAC.get(kind, kind), re.sub(r"\\[nr\\]", lambda escape: escapes[escape.group()], text)
+    text = re.sub(r"\\[nr\\]", lambda escape: escapes[escape.group()], text)
+    return AS_JAVAC.get(kind, kind), text, os.path.basename(place or "")
 
 
 # ---- both
 
 
-def compare(own, javac, different=()):
-    """The host's messages are javac's, and so are its files but for lines that are known: pairs of javac's line and
-    the host's. Where there is an error the host has no files."""
+def compare(own, javac, different=(), elsewhere=()):
+    """The host's messages are javac's, and so are its files but for lines that are known: pairs of javac's line and the
+    host's. So are the places of messages but for those that are known: pairs of javac's and the host's. None in their
+    place leaves them out: javac says where an annotation is, and the host where the element is that has it. Where
+    there is an error the host has no files."""
     expect("the messages", own.messages, javac.messages)
+    if elsewhere is not None:
+        places = [(place, own_place) for place, own_place in zip(javac.places, own.places) if place != own_place]
+        expect("the places that differ", places, list(elsewhere))
     if "error" in javac.kinds():
         expect("the files", own.files, {})
         return

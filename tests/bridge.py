@@ -43,15 +43,17 @@ def classes():
     return compiled(SOURCES, os.path.join(SOURCES, "processors"), os.path.join(SOURCES, "objects", "o"))
 
 
-def same(project, names, folder, *options, different=()):
-    """What processors give of a project under the host, which is what javac gives, but for lines that are known."""
+def same(project, names, folder, *options, different=(), elsewhere=()):
+    """What processors give of a project under the host, which is what javac gives, but for lines and places that are
+    known."""
     use(project, os.path.join(SOURCES, folder), stubs=stubs_of_the_jdk())
     commands = {name: bridge(name, class_path=classes()) for name in names}
     own = under_host(project, commands, options)
     javac = under_javac(project, names, classes(), options=options)
     javac.files.pop(UNCLOSED, None)
-    javac.messages = sorted(READ if message == UNREAD else message for message in javac.messages)
-    compare(own, javac, different)
+    javac.printed = sorted((*READ, place) if (kind, text) == UNREAD else (kind, text, place)
+                           for kind, text, place in javac.printed)
+    compare(own, javac, different, elsewhere)
     return own
 
 
@@ -189,6 +191,18 @@ def files_and_messages(project):
     own = same(project, ["Making"], "files", "given=x", "open=yes", "other=y")
     expect("whether there are files of two rounds", "made/Old__.java" in own.files, True)
     expect("whether the version is warned of", "less than -source" in str(own.messages), True)
+
+
+@case
+def lines_of_elements(project):
+    """A message at each element stands in the line of its name. Of a class javac says the line of its keyword, of a
+    constant that of its first annotation, and of what it adds to an enum nothing."""
+    own = same(project, ["Located"], "lines", elsewhere=[
+        ("C.java:7", "C.java:8"),  # class C
+        ("C.java:23", "C.java:24"),  # the constant X
+        ("", "C.java:22"), ("", "C.java:22"), ("", "C.java:22"),  # valueOf and values, and the parameter of valueOf
+    ])
+    expect("how many elements there are", len(own.places), 28)
 
 
 @case

@@ -130,9 +130,11 @@ class Bad {
 }
 """)
     run = project.run(["build"])
-    errors = sorted(line.rpartition("] ")[2] for line in run.output.decode().splitlines() if line.startswith("error: "))
-    expect("the errors", errors, ["Few has no constructor (int, java.lang.String)",
-                                  "Shape is no class that can be made", "the type Missing is not declared"])
+    errors = sorted(line for line in run.output.decode().splitlines() if line.startswith("error: "))
+    expect("the errors", errors, [
+        "error: src/shop/Bad.java:10: [builder] Few has no constructor (int, java.lang.String)",
+        "error: src/shop/Bad.java:4: [builder] Shape is no class that can be made",
+        "error: src/shop/Bad.java:7: [builder] the type Missing is not declared"])
     expect("the status", run.status, ERRORS)
 
 
@@ -162,7 +164,7 @@ def an_exception_of_a_processor(project):
     make_greeter(project, lambda program: program.replace("text = ", "text = package[99] + "))
     run = project.run(["build"])
     expect("the output", run.output.decode().splitlines()[1:],
-           ["error: [Greeter] IndexError: string index out of range",
+           ["error: src/hello/World.java:1: [Greeter] IndexError: string index out of range",
             "errors: 2 rounds, 1 errors, 0 warnings"])
     expect("the status", run.status, ERRORS)
     expect("whether the traceback is there", b"Traceback" in run.messages and b"greeter.py" in run.messages, True)

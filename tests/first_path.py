@@ -173,18 +173,49 @@ public class Item<T extends Comparable<T>> extends Base {
 }
 
 
-@case
-def the_project_of_a_shop(project):
+def put_shop(project):
     shutil.rmtree(project.path("src"))
     for name, content in SHOP.items():
         project.write("src/shop/" + name, content.encode())
     for name in ("Builder", "Checked", "Registered"):
         project.write(f"stubs/apt/demo/{name}.java", f"package apt.demo; public @interface {name} {{}}".encode())
+
+
+@case
+def the_project_of_a_shop(project):
+    put_shop(project)
     run = project.run(project.scripted(["read", say(frames.hello("*")), "read", say(DONE), "read", say(DONE), "rest"]))
     expect("the output", run.output, REPORT_OF_NO_FILE)
     roots = ["shop.Base", "shop.Cart", "shop.Item", "shop.package-info"]
     first = frames.round_frame(1, roots, offered=["apt.demo.Builder", "apt.demo.Checked", "apt.demo.Registered"])
     expect("what the child was sent", project.sent(), INIT + first + LAST_ROUND)
+
+
+# The elements of the shop by unit and path, each with the line of its name. What stands behind the written members is
+# added by the language: the constructors of Base, of State and of Item, and `values` and `valueOf` of State with a
+# parameter.
+SHOP_LINES = [
+    ("Base", 6, []), ("Base", 7, [0]), ("Base", 6, [1]),
+    ("Cart", 4, []), ("Cart", 5, [0]), ("Cart", 6, [1]),
+    ("Item", 10, []), ("Item", 10, [0]), ("Item", 11, [1]), ("Item", 12, [2]), ("Item", 13, [3]), ("Item", 14, [4]),
+    ("Item", 16, [5]), ("Item", 17, [5, 0]), ("Item", 17, [5, 1]), ("Item", 18, [5, 2]), ("Item", 16, [5, 3]),
+    ("Item", 16, [5, 4]), ("Item", 16, [5, 5]), ("Item", 16, [5, 5, 0]), ("Item", 20, [6]), ("Item", 20, [6, 0]),
+    ("Item", 20, [6, 1]), ("Item", 20, [6, 2]), ("Item", 10, [7]), ("package-info", 2, []),
+]
+
+
+@case
+def messages_at_the_elements_of_a_shop(project):
+    put_shop(project)
+    steps = ["read", say(frames.hello("*")), "read"]
+    for name, line, path in SHOP_LINES:
+        element = bytes([1]) + frames.element_field("shop." + name, *path)
+        steps += [say(frames.message(frames.NOTE, f"expected at {line}", element)), "read"]
+    run = project.run(project.scripted([*steps, say(DONE), "read", say(DONE), "rest"]))
+    lines = [f"note: src/shop/{name}.java:{line}: [maker] expected at {line}\n" for name, line, _ in SHOP_LINES]
+    first, last = REPORT_OF_NO_FILE.splitlines(keepends=True)
+    expect("the output", run.output, first + "".join(lines).encode() + last)
+    expect("the status", run.status, DONE_STATUS)
 
 
 @case

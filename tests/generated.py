@@ -490,7 +490,173 @@ def a_message_longer_than_a_pipe_holds(project):
     expect("the status", run.status, DONE_STATUS)
 
 
+# Messages at elements, each with the path of its file and the line of its name.
+
+
+def note_at(unit, *path, kind=NOTE, text="n"):
+    return message(kind, text, element=bytes([1]) + spelling.element_field(unit, *path))
+
+
+def notes_at(project, line_of):
+    """A build whose child prints a note at each of these elements, by unit and path, has it at this line of the file."""
+    lines = [f"note: src/p/C.java:{line}: [maker] n" for line in line_of.values()]
+    run = project.run(project.scripted(talk([note_at(*element) for element in line_of], [])))
+    expect("the output", run.output, report(*lines, done(2, 0)))
+
+
+# Each name stands in a line of its own where it can. Behind what is written in C stands nothing; behind the two
+# constants of E stand its constructor, `values`, and `valueOf` with its parameter.
+LINES = b"""\
+package p;
+
+@q.A
+public
+class
+C<T,
+  U> {
+  int a,
+    b;
+  void m(int x,
+    int y) {
+  }
+  <V>
+  void
+  n() {}
+  enum E {
+    X,
+    Y
+  }
+  @interface I {
+    int v()
+      default 1;
+  }
+  C() {}
+}
+class Second {
+}
+"""
+
+
+@case
+def a_message_at_each_kind_of_element(project):
+    project.write("src/p/C.java", LINES)
+    notes_at(project, {
+        ("p.C",): 6, ("p.C", 0): 6, ("p.C", 1): 7, ("p.C", 2): 8, ("p.C", 3): 9, ("p.C", 4): 10, ("p.C", 4, 0): 10,
+        ("p.C", 4, 1): 11, ("p.C", 5): 15, ("p.C", 5, 0): 13, ("p.C", 6): 16, ("p.C", 6, 0): 17, ("p.C", 6, 1): 18,
+        ("p.C", 6, 2): 16, ("p.C", 6, 3): 16, ("p.C", 6, 4): 16, ("p.C", 6, 4, 0): 16, ("p.C", 7): 20,
+        ("p.C", 7, 0): 21, ("p.C", 8): 24, ("p.Second",): 26, ("p.Second", 0): 26})
+
+
+@case
+def lines_end_at_cr_and_lf(project):
+    for source, line in [(b"package p;\r\n\r@q.A\nclass C {}\r\n", 4), (b"package p;\r@q.A\r\rclass C {}", 4),
+                         (b"package p;\n\r@q.A class C {}", 3), (b"package p; // \r\n/* \r\n */ @q.A class C {}", 3),
+                         (b"package p; @q.A class\x0c C {}", 1)]:
+        project.write("src/p/C.java", source)
+        notes_at(project, {("p.C",): line})
+
+
+@case
+def lines_end_at_characters_that_are_escaped(project):
+    for source, line in [(rb"package p;\u000a@q.A class C {}", 2), (rb"package p;\u000d\uu000a@q.A class C {}", 2),
+                         (rb"package p;\u000a\u000d@q.A class C {}", 3),
+                         (rb"package p; /*\\u000a*/ @q.A class C {}", 1)]:
+        project.write("src/p/C.java", source)
+        notes_at(project, {("p.C",): line})
+
+
+@case
+def a_line_with_many_digits(project):
+    project.write("src/p/C.java", b"package p;" + b"\n" * 99_999 + b"@q.A class C {}")
+    notes_at(project, {("p.C",): 100_000})
+
+
+@case
+def a_path_is_printed_as_it_is(project):
+    os.remove(project.path("src/p/C.java"))
+    project.write("src/of p/\u00e9:1: [x].java", b"package p;\n@q.A class C {}")
+    run = project.run(project.scripted(talk([note_at("p.C", text="a\\b\nc\rd")], [])))
+    expect("the output", run.output, report("note: src/of p/\u00e9:1: [x].java:2: [maker] a\\\\b\\nc\\rd", done(2, 0)))
+
+
+@case
+def a_message_at_a_package(project):
+    project.write("src/p/package-info.java", b"/** P. */\n\n@Deprecated\npackage\np;\n")
+    publishes(project, [[note_at("q.package-info", text="q"), note_at("p.package-info", text="p"), note_at("p.C")], []],
+              ["note: src/p/C.java:1: [maker] n", "note: src/p/package-info.java:4: [maker] p", "note: [maker] q",
+               done(2, 0)], {}, sent=[round_frame(1, ["p.C", "p.package-info"]), NOTED, NOTED, NOTED, LAST_ROUND])
+
+
+@case
+def a_message_at_a_package_that_is_created(project):
+    info = b"\n\npackage p;\n"
+    files = {"SOURCE_OUTPUT/p/package-info.java": info}
+    of_p = note_at("p.package-info")
+    line = "note: SOURCE_OUTPUT/p/package-info.java:3: [maker] n"
+    publishes(project, [[of_p, create_source("p.package-info", info)], [of_p], []],
+              [line, line, *file_lines(files), done(3, 1)], files)
+
+
+@case
+def a_message_at_an_element_of_a_stub(project):
+    project.write("stubs/q/A.java", b"package q;\n\npublic @interface A {\n  int[] of()\n    default {};\n}\n")
+    publishes(project, [[note_at("q.A"), note_at("q.A", 0)], []],
+              ["note: stubs/q/A.java:3: [maker] n", "note: stubs/q/A.java:4: [maker] n", done(2, 0)], {})
+
+
+@case
+def messages_at_elements_of_created_sources(project):
+    """Each has the path and the lines of its own file, also where another one has more lines."""
+    one, two = b"package p;\n\n\nclass D {\n  int d;\n}\n", b"package p; @q.A class E {\n  int e; }"
+    files = {"SOURCE_OUTPUT/p/D.java": one, "SOURCE_OUTPUT/p/E.java": two}
+    publishes(project, [[create_source("p.D", one), note_at("p.C")], [note_at("p.D", 0), create_source("p.E", two)],
+                        [note_at("p.E", 0), note_at("p.E"), note_at("p.D"), note_at("p.C")],
+                        [note_at("p.D", kind=WARNING), note_at("p.C", 0)]],
+              ["note: src/p/C.java:1: [maker] n", "note: SOURCE_OUTPUT/p/D.java:5: [maker] n",
+               "note: src/p/C.java:1: [maker] n", "note: SOURCE_OUTPUT/p/D.java:4: [maker] n",
+               "note: SOURCE_OUTPUT/p/E.java:2: [maker] n", "note: SOURCE_OUTPUT/p/E.java:1: [maker] n",
+               "note: src/p/C.java:1: [maker] n", "warning: SOURCE_OUTPUT/p/D.java:4: [maker] n",
+               *file_lines(files), done(4, 2, 1)], files)
+
+
+@case
+def messages_in_the_order_of_their_elements(project):
+    """In a round those of a processor go by their units, and one without an element comes first; of a unit they stay as
+    they were sent."""
+    project.write("src/p/B.java", b"package p;\nclass B {\n  int b;\n}\n")
+    frames = [note_at("p.C", text="1"), note_at("p.B", 0, text="2"), message(NOTE, "3"), note_at("p.B", text="4"),
+              message(NOTE, "5"), note_at("p.C", text="6")]
+    publishes(project, [frames, [message(NOTE, "7")]],
+              ["note: [maker] 3", "note: [maker] 5",
+               "note: src/p/B.java:3: [maker] 2", "note: src/p/B.java:2: [maker] 4",
+               "note: src/p/C.java:1: [maker] 1", "note: src/p/C.java:1: [maker] 6",
+               "note: [maker] 7", done(2, 0)], {})
+
+
 # Errors.
+
+
+@case
+def an_error_at_a_created_type(project):
+    """The file is not published, and its line is that of the created file all the same."""
+    created = b"package p;\n\n\nclass D {}\n"
+    errs(project, [[create_source("p.D", created)],
+                   [note_at("p.D", kind=ERROR, text="d"), note_at("p.C", text="c")], []],
+         ["note: src/p/C.java:1: [maker] c", "error: SOURCE_OUTPUT/p/D.java:4: [maker] d",
+          "errors: 3 rounds, 1 errors, 0 warnings"])
+
+
+@case
+def errors_in_the_round_that_creates(project):
+    """A created source that is not read since an error was printed has no elements; one of the round before has lines."""
+    one = b"package p;\n@q.A\nclass D {}\n"
+    errs(project, [[create_source("p.D", one)],
+                   [note_at("p.D", kind=ERROR), create_source("p.E", b"package p; class E {}"), note_at("p.E")],
+                   [note_at("p.D", kind=ERROR, text="late"), note_at("p.E")]],
+         ["error: SOURCE_OUTPUT/p/D.java:3: [maker] n", "error: SOURCE_OUTPUT/p/D.java:3: [maker] late",
+          "errors: 3 rounds, 2 errors, 0 warnings"],
+         sent=[FIRST_ROUND, ACCEPTED, round_frame(2, ["p.D"]), NOTED, ACCEPTED, NO_SUCH,
+               last_round(3, error=True), NOTED, NO_SUCH])
 
 
 @case
@@ -678,7 +844,7 @@ def elements_of_creations_and_messages(project):
     frames = [create_resource("x", origins=ABSENT_ORIGIN), create_resource("x", origins=ONE_ORIGIN),
               create_class("p.D", origins=ONE_ORIGIN), message(NOTE, "n", element=AN_ELEMENT)]
     run = answers(project, frames, [NO_SUCH, ACCEPTED, UNSUPPORTED, NOTED])
-    expect("the output", run.output, report("note: [maker] n", "file CLASS_OUTPUT/x 2", done(2, 1)))
+    expect("the output", run.output, report("note: src/p/C.java:1: [maker] n", "file CLASS_OUTPUT/x 2", done(2, 1)))
 
 
 WRONG_KIND = by_hand("00000002 19 01")

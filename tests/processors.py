@@ -81,7 +81,7 @@ class Processors:
 
     def same(self, project, *parts, options=(), different=()):
         own, javac = self.run(project, *parts, options=options)
-        compare(own, javac, different)
+        compare(own, javac, different, elsewhere=None)
         return own
 
 
@@ -180,7 +180,7 @@ def the_example(project):
     shutil.copytree(os.path.join(ROOT, "examples", "autovalue"), project.folder)
     output_of(["./set-up", JARS, JAR], project.folder)
     own = under_host(project)
-    compare(own, under_javac(project, VALUE.names, os.pathsep.join(names), names[1]))
+    compare(own, under_javac(project, VALUE.names, os.pathsep.join(names), names[1]), elsewhere=None)
     expect("the files", sorted(own.files), ["zoo/AutoValue_Animal.java", "zoo/AutoValue_Cage.java"])
     for name, content in own.files.items():
         project.write(os.path.join("src", name), content)

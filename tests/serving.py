@@ -7,6 +7,7 @@ PROGRAM is crates/apt_cli/out/apt_cli where it is left out. Each case prints a l
 with status 1. The last line is 'serving: N passed, M failed'.
 """
 import os
+import select
 import shutil
 import subprocess
 import sys
@@ -115,6 +116,43 @@ def an_output_that_is_full(project):
     with open("/dev/full", "wb") as full:
         run = serve(project, INIT, stdout=full)
     expect("the status", run.status, SINK_FAULT)
+
+
+def heard(stream, count):
+    """The next bytes of a pipe, which have to come while it waits for nothing more."""
+    said = b""
+    while len(said) < count:
+        if not select.select([stream], [], [], SECONDS)[0]:
+            raise Failure(f"nothing came after {said}")
+        piece = os.read(stream.fileno(), count - len(said))
+        if not piece:
+            break
+        said += piece
+    return said
+
+
+@case
+def each_answer_comes_before_more_is_sent(project):
+    with subprocess.Popen([program(), "serve", "builder"], cwd=project.folder, stdin=subprocess.PIPE,
+                          stdout=subprocess.PIPE, bufsize=0) as child:
+        for frame, answer in [(INIT, HELLO), (ROUND, DONE), (ROUND, DONE)]:
+            child.stdin.write(frame)
+            expect("the answer", heard(child.stdout, len(answer)), answer)
+        child.stdin.close()
+        expect("what comes behind it", heard(child.stdout, 1), b"")
+    expect("the status", child.returncode, DONE_STATUS)
+
+
+@case
+def nothing_is_read_behind_an_answer_that_fails(project):
+    source, sink = os.pipe()
+    os.write(sink, INIT + ROUND + ROUND)
+    os.close(sink)
+    with open(source, "rb", buffering=0) as given, open("/dev/full", "wb") as full:
+        run = subprocess.run([program(), "serve", "builder"], cwd=project.folder, stdin=given, stdout=full,
+                             stderr=subprocess.DEVNULL, timeout=SECONDS, check=False)
+        expect("what is left", given.read(), ROUND + ROUND)
+    expect("the status", run.returncode, SINK_FAULT)
 
 
 @case
@@ -276,7 +314,7 @@ def a_class_that_is_there(project):
     words = with_processor(project, "builder", {
         "src/a/User.java": USER, "src/a/Team.java": TEAM, "src/a/UserBuilder.java": there})
     reported(project.run(words), DONE_STATUS,
-             "warning: [builder] builder not created",
+             "warning: src/a/User.java:3: [builder] builder not created",
              "file SOURCE_OUTPUT/a/TeamBuilder.java 62",
              "done: 3 rounds, 1 files, 0 errors, 1 warnings")
 
@@ -295,9 +333,12 @@ def a_name_that_is_ambiguous(project):
 @case
 def classes_without_a_comment(project):
     source = "package a;\n@apt.demo.Checked\nclass Job {\n  void run() { }\n}\nclass Late extends Job {\n}\n"
-    reported(project.run(with_processor(project, "checker", {"src/a/Job.java": source})), DONE_STATUS,
-             "warning: [checker] no doc comment", "warning: [checker] no doc comment",
-             "done: 2 rounds, 0 files, 0 errors, 2 warnings")
+    edited = source.replace("  void run() { }\n", "  void run() {\n    go();\n  }\n")
+    for text, line in [(source, 6), (edited, 8)]:
+        reported(project.run(with_processor(project, "checker", {"src/a/Job.java": text})), DONE_STATUS,
+                 "warning: src/a/Job.java:3: [checker] no doc comment",
+                 f"warning: src/a/Job.java:{line}: [checker] no doc comment",
+                 "done: 2 rounds, 0 files, 0 errors, 2 warnings")
 
 
 @case
@@ -305,7 +346,7 @@ def a_name_in_lower_case(project):
     project.publish_former()
     source = "package a;\n@apt.demo.Checked\nclass job {}\n"
     reported(project.run(with_processor(project, "checker", {"src/a/job.java": source})), ERRORS,
-             "error: [checker] name begins in lower case",
+             "error: src/a/job.java:3: [checker] name begins in lower case",
              "errors: 2 rounds, 1 errors, 0 warnings")
     former_stands(project)
 
@@ -424,7 +465,7 @@ def three_processors_and_a_shop(project):
     words = with_processors(project, ["checker", "builder", "registry"], SHOP,
                             options={"debug": "false", "team": "core"})
     reported(project.run(words), DONE_STATUS,
-             "warning: [checker] no doc comment",
+             "warning: src/shop/Base.java:6: [checker] no doc comment",
              f"file {LIST} 20",
              "file SOURCE_OUTPUT/shop/ItemBuilder.java 145",
              "done: 3 rounds, 2 files, 0 errors, 1 warnings",

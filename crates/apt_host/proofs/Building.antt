@@ -30,7 +30,7 @@ use Rattle.project_reading.specs.declared.status.Status.{Status}
 use Rattle.project_reading.specs.Configuration.{Options}
 use Rattle.apt_host.specs.Words.{Build}
 use Rattle.project_reading.specs.Project.{Read, read_of}
-use Rattle.apt_host.specs.CleanBuild.{Summary, summary, Outcome, outcome_of, outcome_of_run, clean, verdict_of}
+use Rattle.apt_host.specs.CleanBuild.{Summary, reported_in, summary, Outcome, outcome_of, outcome_of_run, clean, verdict_of}
 use Rattle.apt_host.specs.CleanBuild as outcome
 use Rattle.apt_host.specs.Report.{report_of, errors_report, report_text}
 use Rattle.project_reading.specs.Verdicts.{Verdict, Done, Errors, Refused, Failed, Input, Memory, is_free, is_finished, is_children, OrFree, verdict}
@@ -332,10 +332,24 @@ module _ (tells talks : Bool) (options : Options) (project : Files) (read : Read
     started_is : MadeHere → length names_here ≡ finished.started
     started_is m = length-map processors (λ (processor : Try). processor.0) ∙ sym m.comes.started
 
-    summed : MadeHere → summary names_here finished.rounds finished.messages finished.unread ≡ summary_here
-    summed m = ap (λ n. record { started = n; rounds = finished.rounds; processors = names_here; messages = finished.messages; unread = finished.unread; errors = count_of is_error finished.messages; warnings = count_of is_warning finished.messages + length finished.unread }) (started_is m)
-        ∙ ap (λ n. record { started = finished.started; rounds = finished.rounds; processors = names_here; messages = finished.messages; unread = finished.unread; errors = n; warnings = count_of is_warning finished.messages + length finished.unread }) (sym m.comes.has.errors)
-        ∙ ap (λ n. record { started = finished.started; rounds = finished.rounds; processors = names_here; messages = finished.messages; unread = finished.unread; errors = finished.errors; warnings = n }) (sym m.comes.has.warnings)
+    -- what its summary is, by how many were started and by how many errors and warnings there were
+    abbrev summary_by : ℕ → ℕ → ℕ → Summary
+    summary_by started errors warnings = record {
+      started = started;
+      rounds = finished.rounds;
+      processors = names_here;
+      messages = map (reported_in finished.table) finished.messages;
+      unread = finished.unread;
+      errors = errors;
+      warnings = warnings;
+    }
+
+    summed : MadeHere → summary names_here finished.rounds finished.table finished.messages finished.unread ≡ summary_here
+    summed m =
+        let errors = count_of is_error finished.messages in
+        let warnings = count_of is_warning finished.messages + length finished.unread in
+        ap (λ n. summary_by n errors warnings) (started_is m) ∙ ap (λ n. summary_by finished.started n warnings) (sym m.comes.has.errors)
+        ∙ ap (λ n. summary_by finished.started finished.errors n) (sym m.comes.has.warnings)
 
     -- the files that were made are those of the run
     files_are : (m : MadeHere) → files_among m.comes.made ≡ numbered.published

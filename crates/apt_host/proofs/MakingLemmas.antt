@@ -6,8 +6,8 @@ use Rattle.std.specs.Prelude.{not}
 use Rattle.apt_outside.specs.Count.{Told}
 use Rattle.apt_outside.specs.Child.{Try, State}
 use Rattle.round_engine.specs.declared.running.Finished.{Finished}
-use Rattle.project_units.specs.declared.project.Key.{Key}
-use Rattle.project_units.specs.declared.project.KeyProcessor.{KeyProcessor}
+use Rattle.record_forms.specs.declared.record.Key.{Key}
+use Rattle.record_forms.specs.declared.record.KeyProcessor.{KeyProcessor}
 use Rattle.project_units.specs.declared.project.Project.{Project}
 use Rattle.project_units.specs.declared.refusal.Refusal as engine
 use Rattle.project_units.specs.declared.refusal.Refusal.TheVariants as run

@@ -4,7 +4,7 @@ use Rattle.std.proofs.lemmas.Bool.{false≢true}
 use Rattle.apt_outside.specs.Count.{Told}
 use Rattle.apt_outside.specs.Files.{Files}
 use Rattle.apt_outside.specs.Child.{Try, State}
-use Rattle.project_units.specs.declared.project.Key.{Key}
+use Rattle.record_forms.specs.declared.record.Key.{Key}
 use Rattle.project_units.specs.Plans.{tries_in, names_in}
 use Rattle.project_reading.specs.Configuration.{Options}
 use Rattle.local_procs.specs.declared.local.Local.{Local}

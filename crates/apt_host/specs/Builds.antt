@@ -7,7 +7,7 @@ use Rattle.apt_outside.specs.Count.{Rose, Told}
 use Rattle.apt_outside.specs.Child.{State}
 use Rattle.tree_store.specs.RecordFormat.{record_form}
 use Rattle.round_engine.specs.declared.numbering.Made.{Made}
-use Rattle.project_units.specs.declared.project.Key.{Key}
+use Rattle.record_forms.specs.declared.record.Key.{Key}
 use Rattle.round_engine.specs.declared.running.Finished.{Finished}
 use Rattle.project_units.specs.declared.project.Project.{Project}
 use Rattle.round_engine.specs.Shown.{TriesInOrder, TellsMore}

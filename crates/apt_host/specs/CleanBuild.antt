@@ -1,8 +1,11 @@
 -- What a build over a project gives, from nothing: the rounds run anew, whatever an earlier build left.
-use Rattle.std.specs.Prelude.{ℕ, ◌+◌, List, length, map, Result, Ok, Err, if◌then◌else◌, ◌==◌}
+use Rattle.std.specs.Prelude.{ℕ, ◌+◌, List, length, map, Option, Result, Ok, Err, if◌then◌else◌, ◌==◌}
+use Rattle.std.specs.Option.{option_and_then}
 use Rattle.apt_outside.specs.Files.{Files}
 use Rattle.apt_outside.specs.Child.{Says, Try}
-use Rattle.round_engine.specs.declared.messages.Placed.{Placed}
+use Rattle.wire_frames.specs.declared.frame.Message.{Message}
+use Rattle.apt_filer.specs.declared.messages.Placed.{Placed}
+use Rattle.unit_locations.specs.LocatedTable.{LocatedTable, Location, location_of}
 use Rattle.project_units.specs.Refusals.{Refusal}
 use Rattle.project_units.specs.Plans.{Plan}
 use Rattle.round_engine.specs.Run.{Run, run_of}
@@ -13,6 +16,21 @@ use Rattle.project_reading.specs.Verdicts as verdict
 use Rattle.project_reading.specs.Verdicts.{Verdict}
 use Rattle.project_reading.specs.Project.{Read, read_of}
 
+-- A message of the processor with this number in a round, and where its element is declared: nowhere where it has none, or where the table has not its unit, as of a package without a unit `package-info`. It carries no number of its own: messages stand in the order of a report.
+pub record Reported : Type 0 where
+  pub round : ℕ
+  pub processor : ℕ
+  pub message : Message
+  pub at : Option Location
+
+abbrev pub reported_in : LocatedTable → Placed → Reported
+reported_in table placed = record {
+  round = placed.round;
+  processor = placed.processor;
+  message = placed.message;
+  at = option_and_then (location_of table) placed.message.element;
+}
+
 -- what a report says of a run, beside its files
 pub record Summary : Type 0 where
   -- how many children were started: one for each processor
@@ -21,7 +39,7 @@ pub record Summary : Type 0 where
   pub rounds : ℕ
   -- the names of the processors in order, and what they printed
   pub processors : List (List ℕ)
-  pub messages : List Placed
+  pub messages : List Reported
   -- the names of the sources that were created in the last round
   pub unread : List (List ℕ)
   -- how many errors and warnings there were
@@ -36,12 +54,12 @@ pub data Outcome : Type 0 where
   Built : (files : Files) (summary : Summary) → Outcome
 
 -- a source that is not read gives a warning too
-abbrev pub summary : List (List ℕ) → ℕ → List Placed → List (List ℕ) → Summary
-summary processors rounds messages unread = record {
+abbrev pub summary : List (List ℕ) → ℕ → LocatedTable → List Placed → List (List ℕ) → Summary
+summary processors rounds table messages unread = record {
   started = length processors;
   rounds = rounds;
   processors = processors;
-  messages = messages;
+  messages = map (reported_in table) messages;
   unread = unread;
   errors = count_of is_error messages;
   warnings = count_of is_warning messages + length unread;
@@ -55,9 +73,9 @@ finished s files = if s.errors == 0 then Built files s else Errors s
 abbrev pub names_in : Plan → List (List ℕ)
 names_in plan = map (λ (processor : Try). processor.0) plan.processors
 
--- a finished run has started one child for each processor
+-- A finished run has started one child for each processor. The locations are those of the table of its last round, which has the units of all rounds.
 abbrev pub outcome_of_run : Plan → Run → Outcome
-outcome_of_run plan (Ok run) = finished (summary (names_in plan) run.rounds run.messages run.unread) (files_among run.made)
+outcome_of_run plan (Ok run) = finished (summary (names_in plan) run.rounds run.table run.messages run.unread) (files_among run.made)
 outcome_of_run plan (Err stopped) = Refused stopped.refusal
 
 abbrev pub outcome_of : Says → Result Read Refusal → Outcome

@@ -7,10 +7,11 @@ use Rattle.tree_store.specs.RecordFormat.{record_form, IsEntry}
 use Rattle.tree_store.specs.Output.{record_path}
 use Rattle.tree_store.specs.Storing.{Numbered, AreWritten, ChangesAmong, paths_of}
 use Rattle.apt_host.specs.declared.report.Summary as code
-use Rattle.apt_host.specs.CleanBuild.{Summary}
+use Rattle.apt_host.specs.CleanBuild.{Summary, reported_in}
 use Rattle.project_reading.specs.Verdicts.{Verdict, Done}
 use Rattle.apt_host.specs.Report.{report_of}
 use Rattle.round_engine.specs.declared.numbering.Made.{Made}
+use Rattle.round_engine.specs.declared.running.Finished.{Finished}
 
 -- a file's path and length
 abbrev pub listed : StoredFile → List ℕ × ℕ
@@ -42,10 +43,23 @@ summary_of processors summary = record {
   started = summary.started;
   rounds = summary.rounds;
   processors = processors;
-  messages = summary.messages;
+  messages = map (reported_in summary.table) summary.messages;
   unread = summary.unread;
   errors = summary.errors;
   warnings = summary.warnings;
+}
+
+-- the run whose summary this is, and whose files these are
+abbrev pub finished_of : code.Summary → List Made → Finished
+finished_of summary files = record {
+  errors = summary.errors;
+  warnings = summary.warnings;
+  rounds = summary.rounds;
+  started = summary.started;
+  files = files;
+  messages = summary.messages;
+  unread = summary.unread;
+  table = summary.table;
 }
 
 -- the report of a build that publishes these files

@@ -11,7 +11,7 @@ use Rattle.project_reading.specs.Configuration.{is_of_project}
 use Rattle.project_reading.specs.Project.{Read}
 use Rattle.apt_host.specs.Exempt.{exempt_made}
 use Rattle.apt_host.specs.CleanBuild as outcome
-use Rattle.apt_host.specs.CleanBuild.{Summary, Outcome, outcome_of, verdict_of}
+use Rattle.apt_host.specs.CleanBuild.{Summary, Outcome, reported_in, outcome_of, verdict_of}
 use Rattle.apt_host.specs.Report.{report_of, errors_report}
 use Rattle.apt_host.specs.Listed.{listed, entry_of}
 use Rattle.project_reading.specs.Verdicts.{Verdict, Done, Errors, Refused, OrFree, is_free, verdict}
@@ -45,7 +45,7 @@ finished_summary processors finished = record {
   started = finished.started;
   rounds = finished.rounds;
   processors = processors;
-  messages = finished.messages;
+  messages = map (reported_in finished.table) finished.messages;
   unread = finished.unread;
   errors = finished.errors;
   warnings = finished.warnings;

@@ -1,11 +1,11 @@
 -- What a build writes: the mode line, the messages, the closing lines, the files and the end line.
-use Rattle.std.specs.Prelude.{ℕ, ◌==◌, List, [], ◌∷◌, ◌++◌, length, map, codes, decimal, slice_index_or, if◌then◌else◌}
+use Rattle.std.specs.Prelude.{ℕ, ◌==◌, List, [], ◌∷◌, ◌++◌, length, map, codes, decimal, slice_index_or, if◌then◌else◌, Option, None, Some}
 use Rattle.std.specs.List.{flat_map}
 use Rattle.std.specs.FinMap as fin
 use Rattle.wire_frames.specs.declared.frame.Message.{Message}
-use Rattle.round_engine.specs.declared.messages.Placed.{Placed}
+use Rattle.unit_locations.specs.LocatedTable.{Location}
 use Rattle.apt_host.specs.CleanBuild as outcome
-use Rattle.apt_host.specs.CleanBuild.{Summary, Outcome}
+use Rattle.apt_host.specs.CleanBuild.{Summary, Reported, Outcome}
 
 -- every build is clean so far, as if it had been asked to be
 abbrev pub mode_line : ℕ → List ℕ
@@ -24,15 +24,21 @@ escaped_byte b = if b == 92 then 92 ∷ 92 ∷ [] else (if b == 10 then 92 ∷ 1
 abbrev pub escaped : List ℕ → List ℕ
 escaped text = flat_map escaped_byte text
 
--- a message of the processor with this name
-abbrev pub message_text : List ℕ → Message → List ℕ
-message_text processor message = kind_text message.kind ++ (codes ": [" ++ (processor ++ (codes "] " ++ (escaped message.text ++ codes "\n"))))
+-- PATH:LINE and a colon with a blank, or nothing. The path is printed as it is, as in the lines of files and of refusals.
+abbrev pub location_text : Option Location → List ℕ
+location_text None = []
+location_text (Some at) = at.path ++ (codes ":" ++ (decimal at.line ++ codes ": "))
 
--- a message at an element is told as one without, so far; its processor is named by its number
-abbrev pub message_line : List (List ℕ) → Placed → List ℕ
-message_line processors placed = message_text (slice_index_or processors placed.processor []) placed.message
+-- a message of the processor with this name at an element that is declared here
+abbrev pub message_text : List ℕ → Option Location → Message → List ℕ
+message_text processor at message =
+    kind_text message.kind ++ (codes ": " ++ (location_text at ++ (codes "[" ++ (processor ++ (codes "] " ++ (escaped message.text ++ codes "\n"))))))
 
-abbrev pub message_lines : List (List ℕ) → List Placed → List ℕ
+-- its processor is named by its number
+abbrev pub message_line : List (List ℕ) → Reported → List ℕ
+message_line processors reported = message_text (slice_index_or processors reported.processor []) reported.at reported.message
+
+abbrev pub message_lines : List (List ℕ) → List Reported → List ℕ
 message_lines processors messages = flat_map (message_line processors) messages
 
 -- ---- closing lines, files and the end

@@ -11,7 +11,7 @@ ghost use Rattle.project_reading.specs.Verdicts.{verdict, OrFree, is_tree, is_si
 ghost use Rattle.project_reading.specs.Endings.{ended, EndsEarly};
 ghost use Rattle.apt_host.specs.BuildEndings.{closed, IsConcluded};
 ghost use Rattle.apt_host.specs.Making.{concluded, RefusesRun};
-ghost use Rattle.apt_host.specs.Listed.{numbered_of, FitsEntry};
+ghost use Rattle.apt_host.specs.Listed.{numbered_of, finished_of, FitsEntry};
 ghost use Rattle.apt_host.specs.Promises.{Leaves, LeavesUndone, KeepsOutput, IsDue};
 ghost use Rattle.apt_host.specs.Builds.{Uses, UsesFor, Shows, Makes, IsOwn, Answers, Refuses, Publishes, PlacesMade, Tells, Reports};
 
@@ -20,8 +20,9 @@ use crate::report::Summary;
 use apt_base::{List, Name, NoMemory};
 use apt_outside::{Children, Sink, Tree};
 use project_reading::{Status, read_project};
-use project_units::{Key, Project};
-use round_engine::{Finished, clean};
+use project_units::Project;
+use record_forms::Key;
+use round_engine::{Finished, Made, clean};
 use std::alloc::Global;
 use tree_store::taken_numbers;
 
@@ -74,7 +75,43 @@ fn make<C: Children>(
     }
 }
 
-/// Publishes what a run came to, or tells its errors.
+/// Publishes what a run came to whose files these are, or tells its errors.
+fn conclude_with<T: Tree, W: Sink>(
+    alloc: Global,
+    names: &List<Name>,
+    summary: &Summary,
+    files: List<Made>,
+    tree: &mut T,
+    output: &mut W,
+) -> Result<Ending, Status>
+    requires count { length files < 2 ^ 32 }
+    requires sizes { All FitsEntry files }
+    requires texts { All (λ file. is_text file.path ≡ true) files }
+    requires distinct { AreDistinct (map numbered_of files) }
+    requires absent { Told T.tells (AreAbsent (T.files tree.old) (map numbered_of files)) }
+    ensures tree_cause { HasCause is_tree (closed result) (T.faults tree.old) (T.faults tree.new) }
+    ensures sink_cause { HasCause is_sink (closed result) (W.faults output.old) (W.faults output.new) }
+    ensures concluded { IsConcluded (closed result) }
+    ensures answer { OrFree (concluded (finished_of summary.now files)) (closed result) }
+    ensures unstored { Told T.tells (summary.now.errors ≢ 0 → T.files tree.new ≡ T.files tree.old) }
+    ensures placed { PlacesMade T.Tree (finished_of summary.now files) tree.old tree.new result }
+    ensures leaves { Told T.tells (LeavesUndone (closed result) (T.files tree.old) (T.files tree.new)) }
+    ensures outside { Told T.tells (SameOutside (T.files tree.old) (T.files tree.new)) }
+    ensures written { Tells T.Tree W.Sink names.now (finished_of summary.now files)
+        tree.old tree.new output.old output.new result }
+{
+    let errors = summary.errors;
+    if errors > 0 {
+        drop(files);
+        tell_errors(alloc, names, summary, output)?;
+        return Ok(Ending::Errors { count: errors });
+    }
+    let written = spell(alloc, names, summary, files)?;
+    publish(alloc, tree, &written, output)?;
+    Ok(Ending::Published)
+}
+
+// Publishes what a run came to, or tells its errors.
 fn conclude<T: Tree, W: Sink>(
     alloc: Global,
     names: &List<Name>,
@@ -105,6 +142,7 @@ fn conclude<T: Tree, W: Sink>(
         files,
         messages,
         unread,
+        table,
     } = finished;
     let summary = Summary {
         started,
@@ -113,14 +151,11 @@ fn conclude<T: Tree, W: Sink>(
         warnings,
         messages,
         unread,
+        table,
     };
-    if errors > 0 {
-        tell_errors(alloc, names, &summary, output)?;
-        return Ok(Ending::Errors { count: errors });
-    }
-    let written = spell(alloc, names, &summary, files)?;
-    publish(alloc, tree, &written, output)?;
-    Ok(Ending::Published)
+    let concluded = conclude_with(alloc, names, &summary, files, tree, output);
+    drop(summary);
+    concluded
 }
 
 /// One build with these options of the words: reads the project, lists the store, runs the rounds, and publishes what they made

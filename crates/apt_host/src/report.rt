@@ -1,21 +1,25 @@
 // The texts of a call.
 ghost use Rattle.std.specs.Prelude.{◌≡◌, ◌++◌, [], IfOk, OnOk, string_bytes, map, slice_index_or};
 ghost use Rattle.std.specs.List.{flat_map};
-ghost use Rattle.apt_host.specs.Report.{kind_text, escaped, message_text, message_line, message_lines, unread_line, first_lines, file_line, file_lines, errors_report};
+ghost use Rattle.std.specs.Option.{option_map, option_and_then};
+ghost use Rattle.unit_locations.specs.LocatedTable.{location_of, shown_location};
+ghost use Rattle.apt_host.specs.CleanBuild.{reported_in};
+ghost use Rattle.apt_host.specs.Report.{kind_text, escaped, location_text, message_text, message_line, message_lines, unread_line, first_lines, file_line, file_lines, errors_report};
 ghost use Rattle.project_units.specs.Refusals.{BadConfig, BadStub, BadSource, DuplicateType, BadGenerated, ClaimBroken};
 ghost use Rattle.apt_host.specs.RefusalLines.{IsLineOf, what_text, claim_text, bad_kind_text, place_text, breach_line, host_line, line_of, refusal_of};
 ghost use Rattle.project_units.specs.Faults.{stop_of};
 ghost use Rattle.project_reading.specs.Verdicts.{verdict, stopped, shown_place};
 ghost use Rattle.apt_host.specs.Listed.{listed, summary_of, report_for};
 
-use apt_base::{Claim, List, Name, NoMemory, What};
+use apt_base::{Claim, ElementRef, List, Name, NoMemory, What};
+use apt_filer::Placed;
 use frame_breaches::Breach;
 use frame_forms::BadKind;
 use project_reading::{Place, Status};
 use project_units::Refusal;
-use round_engine::Placed;
 use std::alloc::{AllocError, Global};
 use tree_store::StoredFile;
+use unit_locations::{LocatedTable, Location};
 use wire_frames::Message;
 
 /// What a report says of a run, beside the names of its processors and its files.
@@ -29,10 +33,12 @@ pub struct Summary {
     pub errors: u64,
     /// How many warnings were printed, those of the closing lines included.
     pub warnings: u64,
-    /// The messages, in order.
+    /// The messages, in the order of a report.
     pub messages: List<Placed>,
     /// The names of the sources that were created in the last round, ascending.
     pub unread: List<Name>,
+    /// The units of the last round, by which the elements of the messages are located.
+    pub table: LocatedTable,
 }
 
 // ---- messages
@@ -73,18 +79,51 @@ fn name_of(processors: &List<Name>, number: u16) -> &str
     }
 }
 
+// Where the element of a message is declared.
+fn location_of<'a>(table: &'a LocatedTable, element: &Option<ElementRef>) -> Option<Location<'a>>
+    ensures { option_map shown_location result ≡ option_and_then (location_of table.now) element.now }
+{
+    match element {
+        Some(element) => table.location_of(element),
+        None => None,
+    }
+}
+
+// Adds the path and the line of an element that is declared somewhere.
+fn add_location(
+    alloc: Global,
+    report: &mut Vec<u8>,
+    at: Option<Location<'_>>,
+) -> Result<(), AllocError>
+    ensures { OnOk result (report.new.items ≡ report.old.items ++ location_text (option_map shown_location at.entry)) }
+{
+    let Some(at) = at else {
+        return Ok(());
+    };
+    let path = at.path.as_str();
+    let line = at.line;
+    let text = format!(in alloc; "{path}:{line}: ")?;
+    report.extend_from_slice(text.as_bytes())?;
+    Ok(())
+}
+
 // Adds a message of the processor with this name.
 fn add_text(
     alloc: Global,
     report: &mut Vec<u8>,
     processor: &str,
+    at: Option<Location<'_>>,
     message: &Message,
 ) -> Result<(), AllocError>
-    ensures { OnOk result (report.new.items ≡ report.old.items ++ message_text processor.now message.now) }
+    ensures { OnOk result (report.new.items
+        ≡ report.old.items ++ message_text processor.now (option_map shown_location at.entry) message.now) }
 {
     let kind = kind_text(message.kind);
-    let head = format!(in alloc; "{kind}: [{processor}] ")?;
+    let head = format!(in alloc; "{kind}: ")?;
     report.extend_from_slice(head.as_bytes())?;
+    add_location(alloc, report, at)?;
+    let of = format!(in alloc; "[{processor}] ")?;
+    report.extend_from_slice(of.as_bytes())?;
     add_escaped(report, message.text.as_str().as_bytes())?;
     report.push(b'\n')?;
     Ok(())
@@ -94,12 +133,15 @@ fn add_message(
     alloc: Global,
     report: &mut Vec<u8>,
     processors: &List<Name>,
+    table: &LocatedTable,
     placed: &Placed,
 ) -> Result<(), AllocError>
-    ensures { OnOk result (report.new.items ≡ report.old.items ++ message_line processors.now placed.now) }
+    ensures { OnOk result (report.new.items
+        ≡ report.old.items ++ message_line processors.now (reported_in table.now placed.now)) }
 {
     let processor = name_of(processors, placed.processor);
-    add_text(alloc, report, processor, &placed.message)
+    let at = location_of(table, &placed.message.element);
+    add_text(alloc, report, processor, at, &placed.message)
 }
 
 #[tactic(auto, unfolding(crate::specs::Report::unread_line))]
@@ -118,12 +160,14 @@ fn add_messages(
     alloc: Global,
     report: &mut Vec<u8>,
     processors: &List<Name>,
+    table: &LocatedTable,
     messages: &[Placed],
 ) -> Result<(), AllocError>
-    ensures { OnOk result (report.new.items ≡ report.old.items ++ message_lines processors.now messages.now) }
+    ensures { OnOk result (report.new.items
+        ≡ report.old.items ++ message_lines processors.now (map (reported_in table.now) messages.now)) }
 {
     for placed in messages {
-        add_message(alloc, report, processors, placed)?;
+        add_message(alloc, report, processors, table, placed)?;
     }
     Ok(())
 }
@@ -148,7 +192,13 @@ fn told_lines(
     let started = summary.started;
     let mode = format!(in alloc; "mode: clean (Full), started {started}\n")?;
     let mut report = mode.into_bytes();
-    add_messages(alloc, &mut report, processors, summary.messages.as_slice())?;
+    add_messages(
+        alloc,
+        &mut report,
+        processors,
+        &summary.table,
+        summary.messages.as_slice(),
+    )?;
     add_closing_lines(alloc, &mut report, summary.unread.as_slice())?;
     Ok(report)
 }

@@ -1,62 +1,13 @@
 // The lines of elements.
 ghost use Rattle.std.specs.Prelude.{◌≡◌, ◌∷◌, bytes_eq};
-ghost use Rattle.decl_elements.specs.Shown.{node_of};
 ghost use Rattle.element_table.specs.UnitNames.{in_package, simple_name, unit_name};
-ghost use Rattle.decl_grammar.specs.declared.written.Lines.{out-Lines};
-ghost use Rattle.decl_parser.specs.Lines.{lines_at, line_down, line_in};
-ghost use Rattle.decl_parser.specs.LinesShown.{lines_of};
+ghost use Rattle.decl_parser.specs.Lines.{line_in};
 
 use crate::parsing::Parsed;
 use apt_base::ElementRef;
-use decl_elements::Place;
 use decl_grammar::Lines;
 use decl_tree::{Body, Unit, UnitText};
-
-/// Lines on the way down: those of what is written, or the line of what the language adds, which has its type's.
-#[derive(Clone, Copy)]
-pub enum LinesAt<'a> {
-    Written(&'a Lines),
-    Added(u32),
-}
-
-// The line of what stands here.
-fn line_here(lines: LinesAt<'_>) -> u32
-    ensures { result ≡ (out-Lines (lines_of lines.entry)).line }
-{
-    match lines {
-        LinesAt::Written(lines) => lines.line,
-        LinesAt::Added(line) => line,
-    }
-}
-
-// The lines of the child with this number.
-fn lines_below<'a>(lines: LinesAt<'a>, at: u16) -> LinesAt<'a>
-    ensures { lines_of result ≡ lines_at (lines_of lines.entry) at }
-{
-    match lines {
-        LinesAt::Written(lines) => match lines.children.get(usize::from(at)) {
-            Some(child) => LinesAt::Written(child),
-            None => LinesAt::Added(lines.line),
-        },
-        LinesAt::Added(line) => LinesAt::Added(line),
-    }
-}
-
-// The line of what stands at the end of a path below a place.
-fn line_below(from: Place<'_>, lines: &Lines, path: &[u16]) -> Option<u32>
-    ensures { result ≡ line_down path.now (node_of from.entry) lines.now }
-{
-    let mut place = from;
-    let mut here = LinesAt::Written(lines);
-    for at in path {
-        let Some(child) = place.child(*at) else {
-            return None;
-        };
-        here = lines_below(here, *at);
-        place = child;
-    }
-    Some(line_here(here))
-}
+use unit_locations::line_at;
 
 // The simple name of what a unit declares.
 fn simple_name_of(body: &Body) -> &str
@@ -110,7 +61,7 @@ fn line_among(units: &[Unit], lines: &[Lines], name: &str, path: &[u16]) -> Opti
             return None;
         };
         if has_name(unit.text(), name) {
-            return line_below(Place::root(unit), first, path);
+            return line_at(unit, first, path);
         }
         rest = units_after;
         behind = lines_after;

@@ -17,7 +17,7 @@ use Rattle.decl_limits.specs.Names.{is_named, info_named}
 use Rattle.decl_limits.specs.Children.{IsCrowded}
 use Rattle.decl_limits.specs.Limits.{IsWhole}
 use Rattle.decl_parser.specs.Parsed.{offset_at, shown_answer, SameAnswer, Answers, gives, bad, too_deep, too_many, too_long, NoChildren, is_info, AnswersSymbols, AnswersFile, text_bad, by_symbols, text_memory}
-use Rattle.file_answers.specs.Flaws.{Bad, TooLarge, Reading, Comes, ReadsAs}
+use Rattle.file_answers.specs.Flaws.{Bad, TooLarge, Reading, parsed_of, Comes, ReadsAs}
 use Rattle.file_answers.proofs.Decided.{Decided}
 use Rattle.file_answers.proofs.Crowding.{crowded-decided}
 use Rattle.decl_parser.proofs.OneAnswer.{one-answer}
@@ -31,7 +31,7 @@ module _ {A : Type 0} (f : Form A) (sound : IsSound f) (units : A → Declared) 
 
   -- a whole file whose child lists are short enough
   by_name : (x : A) → IsWhole f ts x → (crowded ts → ⊥) → (b : Bool) → named x ≡ b → Reads
-  by_name x whole few true is = (Ok (units x).0, ((units x).1, gives x (record { units = (units x).0; lines = (units x).1 }) refl whole few is refl))
+  by_name x whole few true is = (Ok (units x), gives x (parsed_of (units x)) refl whole few is refl)
   by_name x whole few false is = (Err (TooLarge limits.Name), too_long x refl whole few is)
 
   whole-reads : (x : A) → IsWhole f ts x → Decided (crowded ts) → Reads
@@ -65,7 +65,7 @@ each-symbols false end ts = symbols-read ordinary ordinary-sound units_of is_nam
 
 -- what comes of symbols comes of their file
 of_file : (P Q : Result Parsed FileFault → Type 0) → ((result : Result Parsed FileFault) → P result → Q result) → (reading : Reading) → Comes P reading → Comes Q reading
-of_file P Q then (Ok units) is = (is.0, then _ is.1)
+of_file P Q then (Ok declared) is = then _ is
 of_file P Q then (Err (Bad place)) is = then _ is
 of_file P Q then (Err (TooLarge what)) is = then _ is
 

@@ -1,8 +1,7 @@
--- What a file may read as: its units, or why it gives none.
+-- What a file may read as: its units with the lines of their elements, or why it gives none.
 use Rattle.std.specs.Prelude.{ℕ, List, Result, Ok, Err}
 use Rattle.apt_base.specs.declared.kinds.What.{What}
-use Rattle.decl_tree.specs.declared.compilation.UnitText.{UnitText}
-use Rattle.decl_grammar.specs.declared.written.Lines.{Lines}
+use Rattle.decl_limits.specs.Units.{Declared}
 use Rattle.decl_parser.specs.declared.parsing.Parsed.{Parsed}
 use Rattle.decl_parser.specs.declared.parsing.FileFault.{FileFault}
 use Rattle.decl_parser.specs.declared.parsing.FileFault.TheVariants as faults
@@ -15,12 +14,17 @@ pub data Flaw : Type 0 where
   -- it passes this limit first
   TooLarge : (what : What) → Flaw
 
+-- the units of a file with the lines of their elements, or why there are none
 abbrev pub Reading : Type 0
-Reading = Result (List UnitText) Flaw
+Reading = Result Declared Flaw
 
--- an answer of which this holds is this reading, with some lines where it has units
+-- units with their lines, as a call returns them
+abbrev pub parsed_of : Declared → Parsed
+parsed_of declared = record { units = declared.0; lines = declared.1 }
+
+-- an answer of which this holds is this reading
 abbrev pub Comes : (Result Parsed FileFault → Type 0) → Reading → Type 0
-Comes P (Ok units) = (lines : List Lines) × P (Ok (record { units = units; lines = lines }))
+Comes P (Ok declared) = P (Ok (parsed_of declared))
 Comes P (Err (Bad place)) = P (Err (faults.Bad place))
 Comes P (Err (TooLarge what)) = P (Err (faults.TooLarge what))
 

@@ -2,13 +2,13 @@
 use Rattle.std.proofs.Common.{◌≡◌, ℕ, Bool, ◌≤◌, List, [], length, subst, Result, Ok, Err, None, refl, sym, ap, ◌∙◌}
 use Rattle.apt_base.specs.declared.kinds.What.{What}
 use Rattle.apt_outside.specs.Files.{Files}
-use Rattle.element_table.specs.TypeTable.{TypeTable}
+use Rattle.unit_locations.specs.LocatedTable.{LocatedTable}
 use Rattle.tree_store.specs.declared.fault.SourceReadFault.{SourceReadFault}
 use Rattle.tree_store.specs.declared.fault.SourceReadFault.TheVariants as reads
 use Rattle.tree_store.specs.declared.sources.RawSources.{RawSources}
 use Rattle.tree_store.specs.Cause.{HasSourceCause}
 use Rattle.tree_store.specs.Sources.{sources_of, Gives}
-use Rattle.project_units.specs.declared.project.Key.{Key}
+use Rattle.record_forms.specs.declared.record.Key.{Key}
 use Rattle.project_units.specs.declared.project.Project.{Project}
 use Rattle.project_units.specs.Refusals.{Refusal}
 use Rattle.project_units.specs.Plans.{Plan, plan_of}
@@ -93,11 +93,11 @@ module _ (options : Options) (project : Files) (c : Configuration) (files : file
 module _ (key : Key) (stubs : List (List ℕ × List ℕ)) (tables : Tables) (project : Project) (same : project.key ≡ with_stubs key stubs) (initial : project.initial ≡ tables.initial) where
   pub shown-kept : shown_project project ≡ record { plan = plan_of key; table = tables.initial }
   shown-kept =
-      ap (λ (k : Key). record { plan = plan_of k; table = project.initial }) same ∙ ap (λ (t : TypeTable). record { plan = plan_of key; table = t }) initial
+      ap (λ (k : Key). record { plan = plan_of k; table = project.initial }) same ∙ ap (λ (t : LocatedTable). record { plan = plan_of key; table = t }) initial
 
   pub tables-kept : (due : Result Tables Refusal) → project.stubs ≡ tables.stubs → due ≡ Ok tables → due ≡ Ok (record { stubs = project.stubs; initial = project.initial })
   tables-kept due alone is =
-      is ∙ ap (λ (t : TypeTable). Ok (record { stubs = t; initial = tables.initial })) (sym alone) ∙ ap (λ (t : TypeTable). Ok (record { stubs = project.stubs; initial = t })) (sym initial)
+      is ∙ ap (λ (t : LocatedTable). Ok (record { stubs = t; initial = tables.initial })) (sym alone) ∙ ap (λ (t : LocatedTable). Ok (record { stubs = project.stubs; initial = t })) (sym initial)
 
   pub few-kept : length key.processors ≤ 64 → length project.key.processors ≤ 64
   few-kept few = subst (λ (k : Key). length k.processors ≤ 64) (sym same) few

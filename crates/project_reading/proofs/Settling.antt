@@ -18,8 +18,8 @@ use Rattle.project_config.specs.declared.settings.Settings.{Settings}
 use Rattle.project_config.specs.Answers as reading
 use Rattle.project_config.specs.Discovery.{settings_of}
 use Rattle.project_config.specs.Settled.{IsSettled}
-use Rattle.project_units.specs.declared.project.Key.{Key}
-use Rattle.project_units.specs.declared.project.KeyProcessor.{KeyProcessor}
+use Rattle.record_forms.specs.declared.record.Key.{Key}
+use Rattle.record_forms.specs.declared.record.KeyProcessor.{KeyProcessor}
 use Rattle.project_units.specs.Refusals.{past}
 use Rattle.project_units.specs.Plans.{Plan, plan_of, try_of, inits_fit}
 use Rattle.project_units.specs.Units.{and_then}

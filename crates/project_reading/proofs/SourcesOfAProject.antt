@@ -4,26 +4,26 @@ use Rattle.std.specs.Prelude.{IfErr}
 use Rattle.decl_parser.specs.declared.parsing.FileFault.{FileFault}
 use Rattle.decl_parser.specs.declared.parsing.FileFault.TheVariants as file
 use Rattle.decl_parser.specs.declared.parsing.Parsed.{Parsed}
-use Rattle.file_answers.specs.Flaws.{Bad, TooLarge, Reading}
+use Rattle.decl_parser.specs.Parsed.{shown_parsed}
+use Rattle.file_answers.specs.Flaws.{Bad, TooLarge, Reading, parsed_of}
 use Rattle.file_readings.specs.FileReadings.{reading_of, Parses}
 use Rattle.element_table.specs.declared.part.Part.{Part}
 use Rattle.element_table.specs.declared.part.Part.TheVariants.{Source, Stub}
-use Rattle.element_table.specs.TypeTable.{TypeTable}
+use Rattle.unit_locations.specs.LocatedTable.{LocatedTable, nothing_located}
 use Rattle.tree_store.specs.declared.sources.RawSource.{RawSource}
 use Rattle.tree_store.specs.declared.sources.RawSources.{RawSources}
 use Rattle.project_units.specs.declared.unit_fault.UnitFault.{UnitFault}
 use Rattle.project_units.specs.declared.unit_fault.UnitFault.TheVariants as unit
 use Rattle.project_units.specs.Refusals.{Refusal, BadStub, BadSource, past}
-use Rattle.project_units.specs.Units.{Obstacle, Duplicate, Full, Entered, enter_units, and_then}
+use Rattle.project_units.specs.Units.{Obstacle, Duplicate, Full, enter_units, and_then}
 use Rattle.project_units.specs.Entering.{Obstructs}
 use Rattle.project_reading.specs.declared.sources.ReadSource.{ReadSource}
 use Rattle.project_reading.specs.declared.sources.ReadSources.{ReadSources}
 use Rattle.project_reading.specs.declared.sources.Tables.{Tables}
-use Rattle.project_reading.specs.declared.sources.EnteredSource.{EnteredSource}
 use Rattle.project_reading.specs.declared.status.Status.{Status}
 use Rattle.project_reading.specs.Verdicts.{Verdict, Done, Errors, Refused, Failed, Input, Memory, OrMemory, verdict}
-use Rattle.project_reading.specs.Project.{bad_at, read_by, read_source, read_from, read_all, read_beside, read_both, Filled, enter_by, enter_next, enter_all, nothing_entered, enter_behind, enter_both, tables_of, StopsAt}
-use Rattle.project_reading.specs.Entering.{of_unread, of_units, RefusesAs, IsDueRead, ComesTo, filled, StopsLeast}
+use Rattle.project_reading.specs.Project.{bad_at, read_by, read_source, read_from, read_all, read_beside, read_both, entered_by, enter_next, enter_all, enter_behind, enter_both, tables_of, StopsAt}
+use Rattle.project_reading.specs.Entering.{of_unread, of_units, RefusesAs, IsDueRead, ComesTo, StopsLeast}
 use Rattle.project_reading.proofs.Refusing.{refuses_or, refuses_then, refuses_behind}
 
 -- ---- one file is read
@@ -32,7 +32,7 @@ module _ (part : Part) (source : RawSource) where
   abbrev here : Reading
   here = reading_of source.path source.bytes
 
-  pub read-as : (parsed : Parsed) (read : ReadSource) → Parses here (Ok parsed) → read ≡ record { path = source.path; units = parsed.units } → read_source part source ≡ Ok read
+  pub read-as : (parsed : Parsed) (read : ReadSource) → Parses here (Ok parsed) → read ≡ record { path = source.path; declared = parsed } → read_source part source ≡ Ok read
   read-as parsed read is read_is = ap (read_by part source.path) is ∙ ap Ok (sym read_is)
 
   refused : (fault : FileFault) → Parses here (Err fault) → RefusesAs (read_source part source) (of_unread part source.path fault)
@@ -58,10 +58,10 @@ module _ (part : Part) where
 
 -- a refusal that names a path names that of the file
 path_by : (part : Part) (source : RawSource) (path : List ℕ) (place : ℕ) (reading : Reading) → read_by part source.path reading ≡ Err (bad_at part path place) → path ≡ source.path
-path_by Source source path place (Ok units) e = absurd (let same : Ok (record { path = source.path; units = units }) ≡ Err (BadSource path place) = e in cc)
+path_by Source source path place (Ok declared) e = absurd (let same : Ok (record { path = source.path; declared = parsed_of declared }) ≡ Err (BadSource path place) = e in cc)
 path_by Source source path place (Err (Bad at)) e = (let same : Err (BadSource source.path at) ≡ Err (BadSource path place) = e in cc)
 path_by Source source path place (Err (TooLarge what)) e = absurd (let same : Err (past what) ≡ Err (BadSource path place) = e in cc)
-path_by Stub source path place (Ok units) e = absurd (let same : Ok (record { path = source.path; units = units }) ≡ Err (BadStub path place) = e in cc)
+path_by Stub source path place (Ok declared) e = absurd (let same : Ok (record { path = source.path; declared = parsed_of declared }) ≡ Err (BadStub path place) = e in cc)
 path_by Stub source path place (Err (Bad at)) e = (let same : Err (BadStub source.path at) ≡ Err (BadStub path place) = e in cc)
 path_by Stub source path place (Err (TooLarge what)) e = absurd (let same : Err (past what) ≡ Err (BadStub path place) = e in cc)
 
@@ -127,27 +127,23 @@ stops_least part sources (Err status) comes = λ refusal is. stops_at part refus
 
 -- ---- the units of one are entered
 
-module _ (before : List EnteredSource) (path : List ℕ) where
-  pub fills : (outcome : Result Entered Obstacle) (table : TypeTable) (names : List (List ℕ)) (sources : List EnteredSource) → outcome ≡ Ok (record { table = table; names = names })
-      → sources ≡ before ++ (record { path = path; names = names }) ∷ [] → enter_by before path outcome ≡ Ok (filled table sources)
-  fills outcome table names sources is more = ap (enter_by before path) is ∙ ap (λ (ss : List EnteredSource). Ok (filled table ss)) (sym more)
-
-  obstructed : (outcome : Result Entered Obstacle) (fault : UnitFault) → Obstructs outcome fault → RefusesAs (enter_by before path outcome) (of_units before path fault)
-  obstructed outcome (unit.Duplicate name) is = ap (enter_by before path) is
-  obstructed outcome unit.TooMany is = ap (enter_by before path) is
+module _ (path : List ℕ) where
+  obstructed : (outcome : Result LocatedTable Obstacle) (fault : UnitFault) → Obstructs outcome fault → RefusesAs (entered_by path outcome) (of_units path fault)
+  obstructed outcome (unit.Duplicate name first) is = ap (entered_by path) is
+  obstructed outcome unit.TooMany is = ap (entered_by path) is
   obstructed outcome unit.Memory is = tt
 
-  pub obstructed-as : (outcome : Result Entered Obstacle) (fault : UnitFault) (v : Verdict) → Obstructs outcome fault → OrMemory (of_units before path fault) v → RefusesAs (enter_by before path outcome) v
-  obstructed-as outcome fault v is due = refuses_or (enter_by before path outcome) (of_units before path fault) v (obstructed outcome fault is) due
+  pub obstructed-as : (outcome : Result LocatedTable Obstacle) (fault : UnitFault) (v : Verdict) → Obstructs outcome fault → OrMemory (of_units path fault) v → RefusesAs (entered_by path outcome) v
+  obstructed-as outcome fault v is due = refuses_or (entered_by path outcome) (of_units path fault) v (obstructed outcome fault is) due
 
 -- ---- those of more
 
 module _ (part : Part) where
-  pub fills-more : (so_far next : Filled) (source : ReadSource) (sources : List ReadSource) → enter_next part so_far source ≡ Ok next → enter_all part so_far (source ∷ sources) ≡ enter_all part next sources
-  fills-more so_far next source sources is = ap (λ o. and_then o (λ n. enter_all part n sources)) is
+  pub enters-more : (table next : LocatedTable) (source : ReadSource) (sources : List ReadSource) → enter_next part table source ≡ Ok next → enter_all part table (source ∷ sources) ≡ enter_all part next sources
+  enters-more table next source sources is = ap (λ o. and_then o (λ n. enter_all part n sources)) is
 
-  pub fills-no-more : (so_far : Filled) (source : ReadSource) (sources : List ReadSource) (v : Verdict) → RefusesAs (enter_next part so_far source) v → RefusesAs (enter_all part so_far (source ∷ sources)) v
-  fills-no-more so_far source sources v is = refuses_then (enter_next part so_far source) v (λ n. enter_all part n sources) is
+  pub enters-no-more : (table : LocatedTable) (source : ReadSource) (sources : List ReadSource) (v : Verdict) → RefusesAs (enter_next part table source) v → RefusesAs (enter_all part table (source ∷ sources)) v
+  enters-no-more table source sources v is = refuses_then (enter_next part table source) v (λ n. enter_all part n sources) is
 
 -- ---- stubs and sources
 
@@ -169,19 +165,19 @@ module _ (files : RawSources) where
 
 module _ (read : ReadSources) where
   -- a unit of a stub is not entered
-  pub both-unentered : (v : Verdict) → RefusesAs (enter_all Stub nothing_entered read.stubs) v → RefusesAs (enter_both read) v
-  both-unentered v is = refuses_then (enter_all Stub nothing_entered read.stubs) v (enter_behind read.sources) is
+  pub both-unentered : (v : Verdict) → RefusesAs (enter_all Stub nothing_located read.stubs) v → RefusesAs (enter_both read) v
+  both-unentered v is = refuses_then (enter_all Stub nothing_located read.stubs) v (enter_behind read.sources) is
 
-  module _ (stubs : Filled) (are : enter_all Stub nothing_entered read.stubs ≡ Ok stubs) where
-    abbrev as_tables : Filled → Result Tables Refusal
-    as_tables all = Ok (record { stubs = stubs.table; initial = all.table })
+  module _ (stubs : LocatedTable) (are : enter_all Stub nothing_located read.stubs ≡ Ok stubs) where
+    abbrev as_tables : LocatedTable → Result Tables Refusal
+    as_tables all = Ok (record { stubs = stubs; initial = all })
 
     -- a unit of a source is not entered
     pub sources-unentered : (v : Verdict) → RefusesAs (enter_all Source stubs read.sources) v → RefusesAs (enter_both read) v
     sources-unentered v is =
-        refuses_behind (enter_all Stub nothing_entered read.stubs) v stubs (enter_behind read.sources) are (refuses_then (enter_all Source stubs read.sources) v as_tables is)
+        refuses_behind (enter_all Stub nothing_located read.stubs) v stubs (enter_behind read.sources) are (refuses_then (enter_all Source stubs read.sources) v as_tables is)
 
-    pub both-entered : (all : Filled) → enter_all Source stubs read.sources ≡ Ok all → enter_both read ≡ as_tables all
+    pub both-entered : (all : LocatedTable) → enter_all Source stubs read.sources ≡ Ok all → enter_both read ≡ as_tables all
     both-entered all is = ap (λ o. and_then o (enter_behind read.sources)) are ∙ ap (λ o. and_then o as_tables) is
 
 -- what comes of the files that were read comes of all
@@ -211,7 +207,7 @@ due_result outcome (Ok value) due comes = tt
 due_result outcome (Err status) due comes = due_refused outcome (verdict status) due comes
 
 due_read : (part : Part) (path : List ℕ) (reading : Reading) → IsDueOutcome (read_by part path reading)
-due_read part path (Ok units) = tt
+due_read part path (Ok declared) = tt
 due_read Source path (Err (Bad place)) = tt
 due_read Stub path (Err (Bad place)) = tt
 due_read part path (Err (TooLarge what)) = refl
@@ -221,18 +217,18 @@ due_read_from part done [] = tt
 due_read_from part done (source ∷ sources) =
     due_then (read_source part source) (λ read. read_from part (done ++ read ∷ []) sources) (due_read part source.path (reading_of source.path source.bytes)) (λ read. due_read_from part (done ++ read ∷ []) sources)
 
-due_by : (before : List EnteredSource) (path : List ℕ) (outcome : Result Entered Obstacle) → IsDueOutcome (enter_by before path outcome)
-due_by before path (Ok entered) = tt
-due_by before path (Err (Duplicate name)) = tt
-due_by before path (Err Full) = refl
+due_by : (path : List ℕ) (outcome : Result LocatedTable Obstacle) → IsDueOutcome (entered_by path outcome)
+due_by path (Ok table) = tt
+due_by path (Err (Duplicate name first)) = tt
+due_by path (Err Full) = refl
 
-due_enter_all : (part : Part) (so_far : Filled) (sources : List ReadSource) → IsDueOutcome (enter_all part so_far sources)
-due_enter_all part so_far [] = tt
-due_enter_all part so_far (source ∷ sources) =
-    due_then (enter_next part so_far source) (λ next. enter_all part next sources) (due_by so_far.sources source.path (enter_units part so_far.table source.units)) (λ next. due_enter_all part next sources)
+due_enter_all : (part : Part) (table : LocatedTable) (sources : List ReadSource) → IsDueOutcome (enter_all part table sources)
+due_enter_all part table [] = tt
+due_enter_all part table (source ∷ sources) =
+    due_then (enter_next part table source) (λ next. enter_all part next sources) (due_by source.path (enter_units part source.path table (shown_parsed source.declared))) (λ next. due_enter_all part next sources)
 
-due_enter_behind : (sources : List ReadSource) (stubs : Filled) → IsDueOutcome (enter_behind sources stubs)
-due_enter_behind sources stubs = due_then (enter_all Source stubs sources) (λ (all : Filled). Ok (record { stubs = stubs.table; initial = all.table })) (due_enter_all Source stubs sources) (λ all. tt)
+due_enter_behind : (sources : List ReadSource) (stubs : LocatedTable) → IsDueOutcome (enter_behind sources stubs)
+due_enter_behind sources stubs = due_then (enter_all Source stubs sources) (λ (all : LocatedTable). Ok (record { stubs = stubs; initial = all })) (due_enter_all Source stubs sources) (λ all. tt)
 
 -- files that are refused by a limit are so by that of the quantity
 pub due_of_all_read : (part : Part) (sources : List RawSource) (result : Result (List ReadSource) Status) → ComesTo (read_all part sources) result → IfErr result (λ status. IsDueRead (verdict status))
@@ -240,4 +236,4 @@ due_of_all_read part sources result comes = due_result (read_all part sources) r
 
 pub due_of_both_entered : (read : ReadSources) (result : Result Tables Status) → ComesTo (enter_both read) result → IfErr result (λ status. IsDueRead (verdict status))
 due_of_both_entered read result comes =
-    due_result (enter_both read) result (due_then (enter_all Stub nothing_entered read.stubs) (enter_behind read.sources) (due_enter_all Stub nothing_entered read.stubs) (due_enter_behind read.sources)) comes
+    due_result (enter_both read) result (due_then (enter_all Stub nothing_located read.stubs) (enter_behind read.sources) (due_enter_all Stub nothing_located read.stubs) (due_enter_behind read.sources)) comes

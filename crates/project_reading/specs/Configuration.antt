@@ -14,8 +14,8 @@ use Rattle.project_config.specs.declared.settings.Settings.{Settings}
 use Rattle.project_config.specs.Answers as reading
 use Rattle.project_config.specs.Reading.{has_order}
 use Rattle.project_config.specs.Discovery.{settings_of}
-use Rattle.project_units.specs.declared.project.Key.{Key}
-use Rattle.project_units.specs.declared.project.KeyProcessor.{KeyProcessor}
+use Rattle.record_forms.specs.declared.record.Key.{Key}
+use Rattle.record_forms.specs.declared.record.KeyProcessor.{KeyProcessor}
 use Rattle.project_units.specs.Refusals.{Refusal, BadConfig, UnknownProcessor, BadStub, BadSource, DuplicateType, Place, Json, Item, Line, past}
 use Rattle.project_units.specs.Units.{and_then}
 use Rattle.project_units.specs.Plans.{Plan, inits_fit}

@@ -5,7 +5,7 @@ use Rattle.decl_parser.specs.declared.parsing.FileFault.{FileFault}
 use Rattle.decl_parser.specs.declared.parsing.FileFault.TheVariants as file
 use Rattle.file_answers.specs.Flaws.{Bad, TooLarge}
 use Rattle.element_table.specs.declared.part.Part.{Part}
-use Rattle.element_table.specs.TypeTable.{TypeTable}
+use Rattle.unit_locations.specs.LocatedTable.{LocatedTable}
 use Rattle.tree_store.specs.declared.fault.ConfigReadFault.{ConfigReadFault}
 use Rattle.tree_store.specs.declared.fault.ConfigReadFault.TheVariants as reads
 use Rattle.tree_store.specs.declared.fault.SourceReadFault.{SourceReadFault}
@@ -22,10 +22,9 @@ use Rattle.project_units.specs.Refusals as stop
 use Rattle.project_units.specs.Refusals.{DuplicateType, Tree, past}
 use Rattle.project_reading.specs.declared.configuration.RawConfiguration.{RawConfiguration}
 use Rattle.project_reading.specs.declared.sources.ReadSource.{ReadSource}
-use Rattle.project_reading.specs.declared.sources.EnteredSource.{EnteredSource}
 use Rattle.project_reading.specs.declared.status.Status.{Status}
 use Rattle.project_reading.specs.Configuration.{Configuration, refusal_by, IsPlaceOf}
-use Rattle.project_reading.specs.Project.{Filled, unread_at, first_with, StopsAt}
+use Rattle.project_reading.specs.Project.{unread_at, StopsAt}
 use Rattle.project_reading.specs.Verdicts.{Verdict, Done, Errors, Refused, Failed, Input, Memory, verdict, is_tree}
 
 -- ---- faults, as the end of the call
@@ -58,15 +57,11 @@ of_unread part path (file.Bad place) = Refused (unread_at part path (Bad place))
 of_unread part path (file.TooLarge limit) = Refused (unread_at part path (TooLarge limit))
 of_unread part path file.Memory = Memory
 
--- a file at this path gives a name that one of these files gave
-abbrev pub given_again : List EnteredSource → List ℕ → List ℕ → Verdict
-given_again before name path = Refused (DuplicateType name (first_with name before path) path)
-
--- why its units are not entered behind those of these files
-abbrev pub of_units : List EnteredSource → List ℕ → UnitFault → Verdict
-of_units before path (unit.Duplicate name) = given_again before name path
-of_units before path unit.TooMany = Refused (past what.Types)
-of_units before path unit.Memory = Memory
+-- why the units of the file at this path are not entered
+abbrev pub of_units : List ℕ → UnitFault → Verdict
+of_units path (unit.Duplicate name first) = Refused (DuplicateType name first path)
+of_units path unit.TooMany = Refused (past what.Types)
+of_units path unit.Memory = Memory
 
 -- ---- what came of a part
 
@@ -107,14 +102,10 @@ pub record IsWithin (raw : RawConfiguration) : Type 0 where
 
 -- ---- the units
 
--- a table and the files so far
-abbrev pub filled : TypeTable → List EnteredSource → Filled
-filled table sources = record { table = table; sources = sources }
-
 -- the units of a file, or of several, were entered, or they are refused
-abbrev pub Fills : Result Filled stop.Refusal → TypeTable → List EnteredSource → Result Unit Status → Type 0
-Fills due table sources (Ok done) = due ≡ Ok (filled table sources)
-Fills due table sources (Err status) = RefusesAs due (verdict status)
+abbrev pub Enters : Result LocatedTable stop.Refusal → LocatedTable → Result Unit Status → Type 0
+Enters due table (Ok done) = due ≡ Ok table
+Enters due table (Err status) = RefusesAs due (verdict status)
 
 -- files of one part are refused by the least path of one that has no reading, or passes a limit
 abbrev pub StopsLeast : Part → List RawSource → Result (List ReadSource) Status → Type 0

@@ -1,26 +1,26 @@
--- A project that is read: what its run is told, and its type table. All files are read before any is looked into: those of the configuration, the sources, and the stubs.
+-- A project that is read: what its run is told, and its type table with the location of each unit. All files are read before any is looked into: those of the configuration, the sources, and the stubs.
 -- Then the configuration is looked into, then each stub in order of path, then each source, and then their units enter the table in this order.
-use Rattle.std.specs.Prelude.{◌≡◌, ◌++◌, ℕ, Bool, bytes_eq, List, [], ◌∷◌, map, Result, Ok, Err, if◌then◌else◌}
-use Rattle.std.specs.List.{list_any, AllByRecursion}
+use Rattle.std.specs.Prelude.{◌≡◌, ◌++◌, ℕ, Bool, List, [], ◌∷◌, map, Result, Ok, Err}
+use Rattle.std.specs.List.{AllByRecursion}
 use Rattle.apt_base.specs.declared.kinds.What.{What}
 use Rattle.apt_base.specs.declared.kinds.What.TheVariants.{Types}
 use Rattle.apt_outside.specs.Count.{Told}
 use Rattle.apt_outside.specs.Files.{Files}
-use Rattle.file_answers.specs.Flaws.{Flaw, Bad, TooLarge, Reading}
+use Rattle.file_answers.specs.Flaws.{Flaw, Bad, TooLarge, Reading, parsed_of}
 use Rattle.file_readings.specs.FileReadings.{reading_of}
 use Rattle.element_table.specs.declared.part.Part.{Part}
 use Rattle.element_table.specs.declared.part.Part.TheVariants.{Source, Stub}
-use Rattle.element_table.specs.TypeTable.{TypeTable, empty_table}
+use Rattle.unit_locations.specs.LocatedTable.{LocatedTable, nothing_located}
+use Rattle.decl_parser.specs.Parsed.{shown_parsed}
 use Rattle.tree_store.specs.declared.sources.RawSource.{RawSource}
 use Rattle.tree_store.specs.declared.sources.RawSources.{RawSources}
 use Rattle.tree_store.specs.Sources.{sources_of, IsBefore}
 use Rattle.project_units.specs.declared.project.Project.{Project}
 use Rattle.project_units.specs.Refusals.{Refusal, BadStub, BadSource, DuplicateType, past}
 use Rattle.project_units.specs.Plans.{Plan, plan_of}
-use Rattle.project_units.specs.Units.{Obstacle, Duplicate, Full, Entered, enter_units, and_then}
+use Rattle.project_units.specs.Units.{Obstacle, Duplicate, Full, enter_units, and_then}
 use Rattle.project_reading.specs.declared.sources.ReadSource.{ReadSource}
 use Rattle.project_reading.specs.declared.sources.ReadSources.{ReadSources}
-use Rattle.project_reading.specs.declared.sources.EnteredSource.{EnteredSource}
 use Rattle.project_reading.specs.declared.sources.Tables.{Tables}
 use Rattle.project_reading.specs.Configuration.{Options, Configuration, files_of, plan_by, IsKeyOf}
 
@@ -41,7 +41,7 @@ unread_at part path (Bad place) = bad_at part path place
 unread_at part path (TooLarge what) = past what
 
 abbrev pub read_by : Part → List ℕ → Reading → Result ReadSource Refusal
-read_by part path (Ok units) = Ok (record { path = path; units = units })
+read_by part path (Ok declared) = Ok (record { path = path; declared = parsed_of declared })
 read_by part path (Err flaw) = Err (unread_at part path flaw)
 
 abbrev pub read_source : Part → RawSource → Result ReadSource Refusal
@@ -65,44 +65,27 @@ read_both files = and_then (read_all Stub files.stubs) (read_beside files.source
 
 -- ---- their units are entered
 
--- a file gave a unit of this name
-abbrev pub gives : List ℕ → EnteredSource → Bool
-gives name source = list_any (bytes_eq name) source.names
+-- what comes of the units of the file at this path
+abbrev pub entered_by : List ℕ → Result LocatedTable Obstacle → Result LocatedTable Refusal
+entered_by path (Ok table) = Ok table
+entered_by path (Err (Duplicate name first)) = Err (DuplicateType name first path)
+entered_by path (Err Full) = Err (past Types)
 
--- the path of the first of these files that gave a unit of this name, or else this one
-abbrev pub first_with : List ℕ → List EnteredSource → List ℕ → List ℕ
-first_with name [] path = path
-first_with name (source ∷ sources) path = if gives name source then source.path else first_with name sources path
-
--- a table, and the files whose units are in it
-pub record Filled : Type 0 where
-  pub table : TypeTable
-  pub sources : List EnteredSource
-
--- what comes of the units of the file at this path, behind these files
-abbrev pub enter_by : List EnteredSource → List ℕ → Result Entered Obstacle → Result Filled Refusal
-enter_by before path (Ok entered) = Ok (record { table = entered.table; sources = before ++ (record { path = path; names = entered.names }) ∷ [] })
-enter_by before path (Err (Duplicate name)) = Err (DuplicateType name (first_with name before path) path)
-enter_by before path (Err Full) = Err (past Types)
-
-abbrev pub enter_next : Part → Filled → ReadSource → Result Filled Refusal
-enter_next part filled source = enter_by filled.sources source.path (enter_units part filled.table source.units)
+abbrev pub enter_next : Part → LocatedTable → ReadSource → Result LocatedTable Refusal
+enter_next part table source = entered_by source.path (enter_units part source.path table (shown_parsed source.declared))
 
 -- files of one part are entered one after another, up to the first of which a unit can't be
-abbrev pub enter_all : Part → Filled → List ReadSource → Result Filled Refusal
-enter_all part filled [] = Ok filled
-enter_all part filled (source ∷ sources) = and_then (enter_next part filled source) (λ next. enter_all part next sources)
-
-abbrev pub nothing_entered : Filled
-nothing_entered = record { table = empty_table; sources = [] }
+abbrev pub enter_all : Part → LocatedTable → List ReadSource → Result LocatedTable Refusal
+enter_all part table [] = Ok table
+enter_all part table (source ∷ sources) = and_then (enter_next part table source) (λ next. enter_all part next sources)
 
 -- the table of the stubs alone, and that of the stubs and the sources
-abbrev pub enter_behind : List ReadSource → Filled → Result Tables Refusal
-enter_behind sources stubs = and_then (enter_all Source stubs sources) (λ all. Ok (record { stubs = stubs.table; initial = all.table }))
+abbrev pub enter_behind : List ReadSource → LocatedTable → Result Tables Refusal
+enter_behind sources stubs = and_then (enter_all Source stubs sources) (λ all. Ok (record { stubs = stubs; initial = all }))
 
 -- the stubs enter an empty table, and then the sources enter it
 abbrev pub enter_both : ReadSources → Result Tables Refusal
-enter_both read = and_then (enter_all Stub nothing_entered read.stubs) (enter_behind read.sources)
+enter_both read = and_then (enter_all Stub nothing_located read.stubs) (enter_behind read.sources)
 
 -- the tables of these files: all are read before the first is entered
 abbrev pub tables_of : RawSources → Result Tables Refusal
@@ -113,7 +96,7 @@ tables_of files = and_then (read_both files) enter_both
 -- what its run is told, and its type table
 pub record Read : Type 0 where
   pub plan : Plan
-  pub table : TypeTable
+  pub table : LocatedTable
 
 abbrev pub read_with : Plan → Result Tables Refusal → Result Read Refusal
 read_with plan entered = and_then entered (λ tables. Ok (record { plan = plan; table = tables.initial }))

@@ -15,7 +15,8 @@ use crate::status::{Place, past_limit};
 use apt_base::{List, Name, NoMemory, What};
 use apt_outside::Tree;
 use project_config::{ConfigFault, Processor, Settings, has_order, read_settings};
-use project_units::{Key, KeyProcessor, inits_fit};
+use project_units::inits_fit;
+use record_forms::{Key, KeyProcessor};
 use std::alloc::Global;
 use tree_store::{ConfigFile, ConfigReadFault, RawLists, read_config, read_lists};
 

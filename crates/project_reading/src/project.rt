@@ -13,7 +13,8 @@ use crate::sources::{Tables, named_files, tables_of};
 use crate::status::past_limit;
 use apt_base::{List, Name, NoMemory};
 use apt_outside::Tree;
-use project_units::{Key, Project};
+use project_units::Project;
+use record_forms::Key;
 use std::alloc::Global;
 use tree_store::{RawSource, RawSources, SourceReadFault, read_sources};
 

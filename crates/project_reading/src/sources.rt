@@ -4,27 +4,28 @@ ghost use Rattle.apt_base.specs.Limits.{max_file_bytes};
 ghost use Rattle.tree_store.specs.Sources.{AreShort, AreAllShort};
 ghost use Rattle.project_reading.specs.Verdicts.{verdict, named_in, Refused, OrMemory};
 ghost use Rattle.project_reading.specs.Endings.{EndsEarly};
-ghost use Rattle.project_reading.specs.Project.{bad_at, read_source, read_all, read_both, gives, first_with, enter_next, enter_all, enter_both, tables_of, named, raw_files};
-ghost use Rattle.project_reading.specs.Entering.{of_unread, given_again, of_units, filled, IsDueRead, ComesTo, Fills, StopsLeast};
+ghost use Rattle.project_reading.specs.Project.{bad_at, read_source, read_all, read_both, enter_next, enter_all, enter_both, tables_of, named, raw_files};
+ghost use Rattle.project_reading.specs.Entering.{of_unread, of_units, IsDueRead, ComesTo, Enters, StopsLeast};
 
 use crate::Status;
 use crate::status::past_limit;
 use apt_base::{List, Name, NoMemory, What};
-use decl_parser::ParseFault;
-use decl_tree::Unit;
-use element_table::{Part, Table};
+use decl_parser::{ParseFault, Parsed};
+use decl_tree::Shared;
+use element_table::Part;
 use file_readings::read_declarations;
 use project_units::{UnitFault, enter_units};
 use std::alloc::Global;
 use tree_store::RawSource;
+use unit_locations::LocatedTable;
 
 /// A file that was read, a source or a stub.
 #[derive(Drop)]
 pub struct ReadSource {
     /// Its path in the tree.
     pub path: Name,
-    /// Its units, in order.
-    pub units: List<Unit>,
+    /// What it declares: its units, in order, with the lines of their elements.
+    pub declared: Parsed,
 }
 
 /// All files of a project that were read.
@@ -36,22 +37,13 @@ pub struct ReadSources {
     pub sources: List<ReadSource>,
 }
 
-/// A file whose units are in the type table.
-#[derive(Drop)]
-pub struct EnteredSource {
-    /// Its path in the tree.
-    pub path: Name,
-    /// The names of its units, in order.
-    pub names: List<Name>,
-}
-
 /// The type tables of a project.
 #[derive(Drop)]
 pub struct Tables {
     /// That of its stubs alone.
-    pub stubs: Table,
+    pub stubs: LocatedTable,
     /// That of its stubs and its sources.
-    pub initial: Table,
+    pub initial: LocatedTable,
 }
 
 // ---- reading
@@ -89,10 +81,7 @@ fn read_source(alloc: Global, part: Part, source: &RawSource) -> Result<ReadSour
 {
     let path = source.path.copy()?;
     match read_declarations(alloc, path.as_str(), source.bytes.as_slice()) {
-        Ok(parsed) => Ok(ReadSource {
-            path,
-            units: parsed.units,
-        }),
+        Ok(declared) => Ok(ReadSource { path, declared }),
         Err(fault) => Err(unread(part, path, fault)),
     }
 }
@@ -186,93 +175,73 @@ fn read_both(
 
 // ---- entering
 
-fn gives(source: &EnteredSource, name: &Name) -> bool
-    ensures { result ≡ gives name.now source.now }
-{
-    source
-        .names
-        .as_slice()
-        .iter()
-        .any(|each| name.as_str() == each.as_str())
-}
-
-// The path of the first of these files that gave a unit of this name, or else this one.
-fn first_with<'a>(before: &'a [EnteredSource], name: &Name, path: &'a Name) -> &'a Name
-    ensures { result.now ≡ first_with name.now before.now path.now }
-{
-    for source in before {
-        if gives(source, name) {
-            return &source.path;
-        }
-    }
-    path
-}
-
-// The end of a call by a name that a file at this path gives again, or `Memory` where there is none for the other path.
-fn given_again(before: &[EnteredSource], name: Name, path: Name) -> Status
-    ensures is { OrMemory (given_again before.now name path) (verdict result) }
-    ensures early { EndsEarly (λ _. false) (verdict result) }
-    ensures unnamed { named_in (verdict result) ≡ None }
-{
-    let first = first_with(before, &name, &path).copy();
-    match first {
-        Ok(first) => Status::DuplicateType {
-            name,
-            first,
-            second: path,
-        },
-        Err(_) => Status::Memory,
-    }
-}
-
-// The end of a call by a file at this path whose units are not entered behind those of these files.
-fn unentered(before: &[EnteredSource], path: Name, fault: UnitFault) -> Status
-    ensures is { OrMemory (of_units before.now path fault) (verdict result) }
+// The end of a call by the file at this path whose units are not entered.
+fn unentered(path: Name, fault: UnitFault) -> Status
+    ensures is { verdict result ≡ of_units path fault }
     ensures early { EndsEarly (λ _. false) (verdict result) }
     ensures unnamed { named_in (verdict result) ≡ None }
 {
     match fault {
-        UnitFault::Duplicate { name } => given_again(before, name, path),
+        UnitFault::Duplicate { name, first } => Status::DuplicateType {
+            name,
+            first,
+            second: path,
+        },
         UnitFault::TooMany => past_limit(What::Types),
         UnitFault::Memory => Status::Memory,
     }
 }
 
+// The same, or `Memory` where there is none for the path.
+fn unentered_at(path: &Name, fault: UnitFault) -> Status
+    ensures is { OrMemory (of_units path.now fault) (verdict result) }
+    ensures early { EndsEarly (λ _. false) (verdict result) }
+    ensures unnamed { named_in (verdict result) ≡ None }
+{
+    match path.copy() {
+        Ok(path) => unentered(path, fault),
+        Err(_) => {
+            drop(fault);
+            Status::Memory
+        }
+    }
+}
+
+// Enters the units of a file, whose path their locations share.
 fn enter_next(
     alloc: Global,
-    table: &mut Table,
-    before: &mut List<EnteredSource>,
+    table: &mut LocatedTable,
     part: Part,
     source: ReadSource,
 ) -> Result<(), Status>
-    ensures fills { Fills (enter_next part (filled table.old before.old) source) table.new before.new result }
+    ensures enters { Enters (enter_next part table.old source) table.new result }
     ensures early { IfErr result (λ status. EndsEarly (λ _. false) (verdict status)) }
     ensures unnamed { IfErr result (λ status. named_in (verdict status) ≡ None) }
 {
-    let ReadSource { path, units } = source;
-    match enter_units(alloc, table, part, units) {
-        Ok(names) => {
-            before.push(EnteredSource { path, names })?;
-            Ok(())
-        }
-        Err(fault) => Err(unentered(before.as_slice(), path, fault)),
+    let ReadSource { path, declared } = source;
+    let Ok(path) = Shared::new(alloc, path) else {
+        drop(declared);
+        return Err(Status::Memory);
+    };
+    match enter_units(alloc, table, part, &path, declared) {
+        Ok(()) => Ok(()),
+        Err(fault) => Err(unentered_at(path.get(), fault)),
     }
 }
 
 // Enters the units of files of one part one after another, up to the first that has one which cannot be entered.
 fn enter_each(
     alloc: Global,
-    table: &mut Table,
-    before: &mut List<EnteredSource>,
+    table: &mut LocatedTable,
     part: Part,
     sources: List<ReadSource>,
 ) -> Result<(), Status>
-    ensures fills { Fills (enter_all part (filled table.old before.old) sources) table.new before.new result }
+    ensures enters { Enters (enter_all part table.old sources) table.new result }
     ensures early { IfErr result (λ status. EndsEarly (λ _. false) (verdict status)) }
     ensures unnamed { IfErr result (λ status. named_in (verdict status) ≡ None) }
 {
     for source in sources.into_vec() {
-        enter_next(alloc, table, before, part, source)?;
+        enter_next(alloc, table, part, source)?;
     }
     Ok(())
 }
@@ -285,11 +254,10 @@ fn enter_both(alloc: Global, read: ReadSources) -> Result<Tables, Status>
     ensures unnamed { IfErr result (λ status. named_in (verdict status) ≡ None) }
 {
     let ReadSources { stubs, sources } = read;
-    let mut initial = Table::new(alloc);
-    let mut before = List::new(alloc);
-    enter_each(alloc, &mut initial, &mut before, Part::Stub, stubs)?;
+    let mut initial = LocatedTable::new(alloc);
+    enter_each(alloc, &mut initial, Part::Stub, stubs)?;
     let alone = initial.copy(alloc)?;
-    enter_each(alloc, &mut initial, &mut before, Part::Source, sources)?;
+    enter_each(alloc, &mut initial, Part::Source, sources)?;
     Ok(Tables {
         stubs: alone,
         initial,

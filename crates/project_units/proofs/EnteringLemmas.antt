@@ -1,68 +1,109 @@
 -- Units that are entered one after another, and created sources.
-use Rattle.std.proofs.Common.{◌≡◌, ℕ, ◌<◌, ◌≤◌, cond, List, [], ◌∷◌, ◌++◌, length, map, Result, Ok, Err, inl, inr, ap, ◌∙◌, refl, sym, subst}
+use Rattle.std.proofs.Common.{◌≡◌, ℕ, suc, ◌<◌, ◌≤◌, cond, Option, Some, None, List, [], ◌∷◌, ◌++◌, length, map, Result, Ok, Err, inl, inr, ap, ◌∙◌, refl, sym, subst}
+use Rattle.std.specs.Option.{unwrap_or}
+use Rattle.std.specs.Vec.Iter.{into_iter_steps}
+use Rattle.std.specs.declared.vec.IntoIter.{IntoIter}
 use Rattle.std.proofs.lemmas.Bool.{lt-ltb, le-ltb}
 use Rattle.apt_base.specs.declared.kinds.What.TheVariants.{FileBytes}
 use Rattle.decl_tree.specs.declared.compilation.UnitText.{UnitText}
+use Rattle.decl_grammar.specs.declared.written.Lines.{Lines}
+use Rattle.decl_grammar.specs.Grammar.{line_alone}
+use Rattle.decl_limits.specs.Units.{Declared}
+use Rattle.decl_parser.specs.Parsed.{shown_parsed}
 use Rattle.decl_parser.specs.declared.parsing.FileFault.{FileFault}
 use Rattle.decl_parser.specs.declared.parsing.FileFault.TheVariants as file
 use Rattle.decl_parser.specs.declared.parsing.Parsed.{Parsed}
 use Rattle.file_answers.specs.Flaws.{TooLarge, Reading}
-use Rattle.file_readings.specs.FileReadings.{reading_of, Parses, GivesUnits}
+use Rattle.file_readings.specs.FileReadings.{reading_of, Parses}
 use Rattle.element_table.specs.declared.fault.EnterFault.{EnterFault}
 use Rattle.element_table.specs.declared.fault.EnterFault.TheVariants as enter
 use Rattle.element_table.specs.declared.part.Part.{Part}
 use Rattle.element_table.specs.declared.part.Part.TheVariants.{Source}
 use Rattle.element_table.specs.UnitNames.{unit_name}
-use Rattle.element_table.specs.TypeTable.{TypeTable, answer_to, entered, Answers, unit_back}
+use Rattle.element_table.specs.TypeTable.{TypeTable, Against, answer_to, entered, Answers, unit_back}
 use Rattle.element_table.proofs.TableLaws.{outcome_of-Ok, outcome_of-Duplicate, outcome_of-TooMany}
+use Rattle.unit_locations.specs.declared.location.UnitLocation.{UnitLocation}
+use Rattle.unit_locations.specs.LocatedTable.{LocatedTable, entered_at, located_by}
 use Rattle.project_units.specs.declared.unit_fault.UnitFault.{UnitFault}
 use Rattle.project_units.specs.declared.unit_fault.UnitFault.TheVariants as code
 use Rattle.project_units.specs.declared.refusal.Refusal as declared
 use Rattle.apt_base.specs.Names.{NameSet, with_name, with_names}
 use Rattle.apt_base.specs.Limits.{max_file_bytes}
 use Rattle.project_units.specs.Refusals.{Refusal, Stop, Refused, Failed, Memory, OrMemory}
-use Rattle.project_units.specs.Units.{Obstacle, Duplicate, Entered, enter_by, enter_unit, and_then, enter_each, enter_units, Gathered, gather, enter_read, created_reading, enter_created, gather_all, ascending}
-use Rattle.project_units.specs.Entering.{Reports, Obstructs, EntersEach, EntersUnits, RefusesAs, of_unread, of_units, Gathers}
+use Rattle.project_units.specs.Units.{Obstacle, Duplicate, Entered, with_lines, first_path, enter_by, enter_unit, and_then, enter_each, enter_units, enter_sources, Gathered, gather, enter_read, created_reading, enter_created, gather_all, ascending}
+use Rattle.project_units.specs.Entering.{Reports, Obstructs, EntersUnits, EntersNamed, RefusesAs, of_unread, of_units, Gathers}
 
 -- ---- one unit
 
--- a unit that the table took
-pub enters_unit : (part : Part) (table next : TypeTable) (unit : UnitText) → Answers (answer_to table unit) (Ok tt) → next ≡ entered part unit table → EntersEach (enter_unit part table unit) next (Ok tt)
-enters_unit part table next unit answer is = ap (enter_by (unit_name unit)) (outcome_of-Ok part table unit next answer is)
+module _ (part : Part) (path : List ℕ) (table next : LocatedTable) (unit : UnitText) (lines : Lines) where
+  abbrev at : UnitLocation
+  at = record { path = path; lines = lines }
 
--- a unit that it did not take
-pub enters_unit-not : (part : Part) (table next : TypeTable) (unit : UnitText) (fault : EnterFault) (told : UnitFault) → Answers (answer_to table unit) (Err fault) → unit_back fault ≡ unit → Reports fault told → EntersEach (enter_unit part table unit) next (Err told)
-enters_unit-not part table next unit (enter.Duplicate back) (code.Duplicate name) answer is told = ap (enter_by (unit_name unit)) (outcome_of-Duplicate part table unit back answer) ∙ ap (λ n. Err (Duplicate n)) (sym (told ∙ ap unit_name is))
-enters_unit-not part table next unit (enter.Duplicate back) code.TooMany answer is told = absurd told
-enters_unit-not part table next unit (enter.TooMany back) (code.Duplicate name) answer is told = absurd told
-enters_unit-not part table next unit (enter.TooMany back) code.TooMany answer is told = ap (enter_by (unit_name unit)) (outcome_of-TooMany part table unit back answer)
-enters_unit-not part table next unit (enter.Memory back) (code.Duplicate name) answer is told = absurd told
-enters_unit-not part table next unit (enter.Memory back) code.TooMany answer is told = absurd told
-enters_unit-not part table next unit fault code.Memory answer is told = tt
+  abbrev told_by : Result TypeTable Against → Result LocatedTable Obstacle
+  told_by outcome = enter_by (unit_name unit) (first_path table (unit_name unit) path) (located_by outcome unit at table)
+
+  -- a unit that the table took
+  pub enters_unit : Answers (answer_to table.table unit) (Ok tt) → next ≡ entered_at part unit at table → EntersUnits (enter_unit part path table (unit, lines)) next (Ok tt)
+  enters_unit answer is = ap told_by (outcome_of-Ok part table.table unit (entered part unit table.table) answer refl) ∙ ap Ok (sym is)
+
+  -- a unit that it did not take: it is as it was
+  pub enters_unit-not : (fault : EnterFault) (told : UnitFault) → Answers (answer_to table.table unit) (Err fault) → next ≡ table → unit_back fault ≡ unit → Reports next path fault told
+      → EntersUnits (enter_unit part path table (unit, lines)) next (Err told)
+  enters_unit-not (enter.Duplicate back) (code.Duplicate name first) answer same is told =
+      let name_is : name ≡ unit_name unit = told.0 ∙ ap unit_name is in
+      let first_is : first ≡ first_path table (unit_name unit) path = told.1 ∙ ap (λ t. first_path t name path) same ∙ ap (λ n. first_path table n path) name_is in
+      ap told_by (outcome_of-Duplicate part table.table unit back answer) ∙ ap (λ n. Err (Duplicate n (first_path table (unit_name unit) path))) (sym name_is) ∙ ap (λ f. Err (Duplicate name f)) (sym first_is)
+  enters_unit-not (enter.Duplicate back) code.TooMany answer same is told = absurd told
+  enters_unit-not (enter.TooMany back) (code.Duplicate name first) answer same is told = absurd told
+  enters_unit-not (enter.TooMany back) code.TooMany answer same is told = ap told_by (outcome_of-TooMany part table.table unit back answer)
+  enters_unit-not (enter.Memory back) (code.Duplicate name first) answer same is told = absurd told
+  enters_unit-not (enter.Memory back) code.TooMany answer same is told = absurd told
+  enters_unit-not fault code.Memory answer same is told = tt
 
 -- ---- more units
 
+-- the lines of the next unit are taken from those that are left
+abbrev pub NextLines : List Lines → Option Lines → List Lines → Type 0
+NextLines before None after = (length before ≡ 0) × (length after ≡ 0)
+NextLines before (Some lines) after = before ≡ lines ∷ after
+
+pub next_lines : {Z : Type 0} (s t : IntoIter Lines Z) (r : Option Lines) → into_iter_steps s r t → NextLines s.rest.items r t.rest.items
+next_lines s t None is = (sym s.rest.ok.0 ∙ is.0, sym t.rest.ok.0 ∙ is.1)
+next_lines s t (Some lines) is = is.0
+
+-- a unit has them, or line 1 where there are none
+pub with_next : (unit : UnitText) (units : List UnitText) (before after : List Lines) (next : Option Lines) → NextLines before next after
+    → with_lines (unit ∷ units) before ≡ (unit, unwrap_or next (line_alone 1)) ∷ with_lines units after
+with_next unit units [] [] None is = refl
+with_next unit units [] (first ∷ rest) None is = absurd (let e : suc (length rest) ≡ 0 = is.1 in cc)
+with_next unit units (first ∷ rest) after None is = absurd (let e : suc (length rest) ≡ 0 = is.0 in cc)
+with_next unit units before after (Some lines) is = ap (with_lines (unit ∷ units)) is
+
 -- one that entered decides nothing
-pub enters_more : (part : Part) (table next : TypeTable) (unit : UnitText) (units : List UnitText) → enter_unit part table unit ≡ Ok next → enter_each part table (unit ∷ units) ≡ enter_each part next units
-enters_more part table next unit units is = ap (λ o. and_then o (λ t. enter_each part t units)) is
+pub enters_more : (part : Part) (path : List ℕ) (table next : LocatedTable) (unit : UnitText × Lines) (units : List (UnitText × Lines)) → enter_unit part path table unit ≡ Ok next
+    → enter_each part path table (unit ∷ units) ≡ enter_each part path next units
+enters_more part path table next unit units is = ap (λ o. and_then o (λ t. enter_each part path t units)) is
 
 obstructs_then : {A B : Type 0} (outcome : Result A Obstacle) (fault : UnitFault) (next : A → Result B Obstacle) → Obstructs outcome fault → Obstructs (and_then outcome next) fault
-obstructs_then outcome (code.Duplicate name) next is = ap (λ o. and_then o next) is
+obstructs_then outcome (code.Duplicate name first) next is = ap (λ o. and_then o next) is
 obstructs_then outcome code.TooMany next is = ap (λ o. and_then o next) is
 obstructs_then outcome code.Memory next is = tt
 
 -- the first that did not
-pub enters_no_more : (part : Part) (table : TypeTable) (unit : UnitText) (units : List UnitText) (fault : UnitFault) → Obstructs (enter_unit part table unit) fault → Obstructs (enter_each part table (unit ∷ units)) fault
-enters_no_more part table unit units fault stands = obstructs_then (enter_unit part table unit) fault (λ t. enter_each part t units) stands
+pub enters_no_more : (part : Part) (path : List ℕ) (table : LocatedTable) (unit : UnitText × Lines) (units : List (UnitText × Lines)) (fault : UnitFault) → Obstructs (enter_unit part path table unit) fault
+    → Obstructs (enter_each part path table (unit ∷ units)) fault
+enters_no_more part path table unit units fault stands = obstructs_then (enter_unit part path table unit) fault (λ t. enter_each part path t units) stands
 
 -- ---- with their names
 
-pub enters_named : (part : Part) (table next : TypeTable) (units : List UnitText) (names : List (List ℕ)) → enter_each part table units ≡ Ok next → names ≡ map unit_name units → EntersUnits (enter_units part table units) next (Ok names)
-enters_named part table next units names each named =
-    ap (λ o. and_then o (λ t. Ok (record { table = t; names = map unit_name units }))) each ∙ ap (λ ns. Ok (record { table = next; names = ns })) (sym named)
+pub enters_named : (path : List ℕ) (table next : LocatedTable) (declared : Declared) (names : List (List ℕ)) → enter_units Source path table declared ≡ Ok next → names ≡ map unit_name declared.0
+    → EntersNamed (enter_sources path table declared) next (Ok names)
+enters_named path table next declared names each named =
+    ap (λ o. and_then o (λ t. Ok (record { table = t; names = map unit_name declared.0 }))) each ∙ ap (λ ns. Ok (record { table = next; names = ns })) (sym named)
 
-pub enters_unnamed : (part : Part) (table next : TypeTable) (units : List UnitText) (fault : UnitFault) → Obstructs (enter_each part table units) fault → EntersUnits (enter_units part table units) next (Err fault)
-enters_unnamed part table next units fault stands = obstructs_then (enter_each part table units) fault (λ t. Ok (record { table = t; names = map unit_name units })) stands
+pub enters_unnamed : (path : List ℕ) (table next : LocatedTable) (declared : Declared) (fault : UnitFault) → Obstructs (enter_units Source path table declared) fault
+    → EntersNamed (enter_sources path table declared) next (Err fault)
+enters_unnamed path table next declared fault stands = obstructs_then (enter_units Source path table declared) fault (λ t. Ok (record { table = t; names = map unit_name declared.0 })) stands
 
 -- ---- a created source is read
 
@@ -74,16 +115,8 @@ module _ (path bytes : List ℕ) where
   reading-short : length bytes ≤ max_file_bytes → created_reading path bytes ≡ reading_of path bytes
   reading-short short = ap (λ b. cond b (Err (TooLarge FileBytes)) (reading_of path bytes)) (le-ltb max_file_bytes (length bytes) short)
 
-  pub gives-parsed : (parsed : Parsed) → length bytes ≤ max_file_bytes → Parses (reading_of path bytes) (Ok parsed) → GivesUnits (created_reading path bytes) (Ok parsed.units)
-  gives-parsed parsed short is = reading-short short ∙ is
-
-  gives_as : (fault : FileFault) → Parses (reading_of path bytes) (Err fault) → GivesUnits (reading_of path bytes) (Err fault)
-  gives_as (file.Bad place) is = is
-  gives_as (file.TooLarge limit) is = is
-  gives_as file.Memory is = tt
-
-  pub gives-unparsed : (fault : FileFault) → length bytes ≤ max_file_bytes → Parses (reading_of path bytes) (Err fault) → GivesUnits (created_reading path bytes) (Err fault)
-  gives-unparsed fault short is = subst (λ (r : Reading). GivesUnits r (Err fault)) (sym (reading-short short)) (gives_as fault is)
+  pub short-parses : (result : Result Parsed FileFault) → length bytes ≤ max_file_bytes → Parses (reading_of path bytes) result → Parses (created_reading path bytes) result
+  short-parses result short is = subst (λ (r : Reading). Parses r result) (sym (reading-short short)) is
 
 -- ---- and entered, or refused
 
@@ -92,22 +125,22 @@ or_memory outcome due s is (inl same) = subst (RefusesAs outcome) (sym same) is
 or_memory outcome due s is (inr memory) = subst (RefusesAs outcome) (sym memory) tt
 
 module _ (before : Gathered) (path bytes : List ℕ) where
-  refused_unread : (fault : FileFault) → GivesUnits (created_reading path bytes) (Err fault) → RefusesAs (enter_created before (path, bytes)) (of_unread path fault)
+  refused_unread : (fault : FileFault) → Parses (created_reading path bytes) (Err fault) → RefusesAs (enter_created before (path, bytes)) (of_unread path fault)
   refused_unread (file.Bad place) is = ap (enter_read before path) is
   refused_unread (file.TooLarge limit) is = ap (enter_read before path) is
   refused_unread file.Memory is = tt
 
   -- it gives no units
-  pub gathers-unread : (fault : FileFault) (s : Stop) → GivesUnits (created_reading path bytes) (Err fault) → OrMemory (of_unread path fault) s → RefusesAs (enter_created before (path, bytes)) s
+  pub gathers-unread : (fault : FileFault) (s : Stop) → Parses (created_reading path bytes) (Err fault) → OrMemory (of_unread path fault) s → RefusesAs (enter_created before (path, bytes)) s
   gathers-unread fault s is due = or_memory (enter_created before (path, bytes)) (of_unread path fault) s (refused_unread fault is) due
 
   -- it gives units, and what comes of these comes of it
-  pub gathers-read : (units : List UnitText) (table : TypeTable) (roots : NameSet) (result : Result Unit declared.Refusal) → GivesUnits (created_reading path bytes) (Ok units)
-      → Gathers (gather before.roots (enter_units Source before.table units)) table roots result → Gathers (enter_created before (path, bytes)) table roots result
-  gathers-read units table roots result is gathers = subst (λ (o : Result Gathered Refusal). Gathers o table roots result) (sym (ap (enter_read before path) is)) gathers
+  pub gathers-read : (parsed : Parsed) (table : LocatedTable) (roots : NameSet) (result : Result Unit declared.Refusal) → Parses (created_reading path bytes) (Ok parsed)
+      → Gathers (gather before.roots (enter_sources path before.table (shown_parsed parsed))) table roots result → Gathers (enter_created before (path, bytes)) table roots result
+  gathers-read parsed table roots result is gathers = subst (λ (o : Result Gathered Refusal). Gathers o table roots result) (sym (ap (enter_read before path) is)) gathers
 
 refused_by : (roots : NameSet) (outcome : Result Entered Obstacle) (fault : UnitFault) → Obstructs outcome fault → RefusesAs (gather roots outcome) (of_units fault)
-refused_by roots outcome (code.Duplicate name) is = ap (gather roots) is
+refused_by roots outcome (code.Duplicate name first) is = ap (gather roots) is
 refused_by roots outcome code.TooMany is = ap (gather roots) is
 refused_by roots outcome code.Memory is = tt
 
@@ -116,7 +149,7 @@ pub gathers-unentered : (roots : NameSet) (outcome : Result Entered Obstacle) (f
 gathers-unentered roots outcome fault s is same = subst (RefusesAs (gather roots outcome)) (sym same) (refused_by roots outcome fault is)
 
 -- those of one that were entered
-pub gathers-entered : (roots roots' : NameSet) (outcome : Result Entered Obstacle) (table : TypeTable) (names : List (List ℕ)) → outcome ≡ Ok (record { table = table; names = names }) → roots' ≡ with_names roots names
+pub gathers-entered : (roots roots' : NameSet) (outcome : Result Entered Obstacle) (table : LocatedTable) (names : List (List ℕ)) → outcome ≡ Ok (record { table = table; names = names }) → roots' ≡ with_names roots names
     → Gathers (gather roots outcome) table roots' (Ok tt)
 gathers-entered roots roots' outcome table names is named = ap (gather roots) is ∙ ap (λ (ns : NameSet). Ok (record { table = table; roots = ns })) (sym named)
 

@@ -6,8 +6,8 @@ use Rattle.apt_outside.specs.Child.{Try}
 use Rattle.wire_frames.specs.declared.frame.Frame.{Frame}
 use Rattle.wire_frames.specs.declared.frame.Frame.TheVariants as frame
 use Rattle.wire_frames.specs.Frames.{spelling}
-use Rattle.project_units.specs.declared.project.Key.{Key}
-use Rattle.project_units.specs.declared.project.KeyProcessor.{KeyProcessor}
+use Rattle.record_forms.specs.declared.record.Key.{Key}
+use Rattle.record_forms.specs.declared.record.KeyProcessor.{KeyProcessor}
 use Rattle.project_units.specs.Limits.{limit_of}
 
 -- the source level, the options, and the processors in the order of discovery, each by its name and its command

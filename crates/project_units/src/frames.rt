@@ -4,8 +4,8 @@ ghost use Rattle.wire_frames.specs.Frames.{spelling};
 ghost use Rattle.wire_frames.specs.Limits.{is_too_large};
 ghost use Rattle.project_units.specs.Plans.{init_of, init_frame, plan_of, init_fits, inits_fit};
 
-use crate::project::Key;
 use apt_base::{List, Name, NoMemory};
+use record_forms::Key;
 use std::alloc::Global;
 use wire_frames::{Frame, FrameFault, Init, copy_options, encode};
 

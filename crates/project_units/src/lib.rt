@@ -22,7 +22,7 @@ pub use entering::{enter_all, enter_units};
 pub use files::Files;
 pub use frames::{init_bytes, inits_fit};
 pub use limits::limit_of;
-pub use project::{Key, KeyProcessor, Project};
+pub use project::Project;
 pub use refusal::Refusal;
 pub use sources::{creates_source, files_among, unread_among};
 pub use unit_fault::UnitFault;

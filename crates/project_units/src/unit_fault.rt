@@ -11,6 +11,8 @@ pub enum UnitFault {
     Duplicate {
         /// The canonical name of the unit.
         name: Name,
+        /// The path of the file that gave it first.
+        first: Name,
     },
     /// With the types of one the table would have more than 50,000.
     TooMany,
@@ -24,7 +26,10 @@ impl UnitFault {
         ensures { IfOk result (λ fault. fault ≡ self.now) }
     {
         match self {
-            UnitFault::Duplicate { name } => Ok(UnitFault::Duplicate { name: name.copy()? }),
+            UnitFault::Duplicate { name, first } => Ok(UnitFault::Duplicate {
+                name: name.copy()?,
+                first: first.copy()?,
+            }),
             UnitFault::TooMany => Ok(UnitFault::TooMany),
             UnitFault::Memory => Ok(UnitFault::Memory),
         }

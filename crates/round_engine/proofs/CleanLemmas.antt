@@ -7,13 +7,14 @@ use Rattle.std.proofs.lemmas.List.{length-map}
 use Rattle.apt_outside.specs.Count.{Told}
 use Rattle.apt_outside.specs.Child.{Says, Try, State}
 use Rattle.apt_filer.specs.Filing.{Filings}
+use Rattle.apt_filer.specs.Orders.{in_order}
 use Rattle.wire_frames.specs.declared.frame.Creation.{Creation}
-use Rattle.element_table.specs.TypeTable.{TypeTable}
+use Rattle.unit_locations.specs.LocatedTable.{LocatedTable}
 use Rattle.round_engine.specs.declared.beginning.Discovered as code_discovered
-use Rattle.round_engine.specs.declared.messages.Placed.{Placed}
+use Rattle.apt_filer.specs.declared.messages.Placed.{Placed}
 use Rattle.round_engine.specs.declared.progress.Progress as code_progress
-use Rattle.project_units.specs.declared.project.Key.{Key}
-use Rattle.project_units.specs.declared.project.KeyProcessor.{KeyProcessor}
+use Rattle.record_forms.specs.declared.record.Key.{Key}
+use Rattle.record_forms.specs.declared.record.KeyProcessor.{KeyProcessor}
 use Rattle.project_units.specs.declared.refusal.Refusal as code
 use Rattle.round_engine.specs.declared.rounds.Rounds.{Rounds}
 use Rattle.round_engine.specs.declared.running.Finished as declared
@@ -27,17 +28,26 @@ use Rattle.round_engine.specs.Run.{Frames, Progress, Run, first_sent, hellos_fro
 use Rattle.project_units.specs.Creations.{unread_among}
 use Rattle.round_engine.specs.Clean.{Has, Closes, ShowsWhole, Cleans, Talked}
 use Rattle.round_engine.specs.Fronts.{FrontsBut}
-use Rattle.round_engine.specs.Shown.{frames_to, all_sent, AreSent, Stands, standing, shown_discovered, shown_rounds, AttendsAll, StopsAs, hellos_sent, ShowsNoMore, sent_in_finished, Goes, EndsAll, TellsOf, TellsMore, StopsAll, AllSayHello, Begins}
+use Rattle.round_engine.specs.Shown.{frames_to, all_sent, AreSent, Stands, standing, shown_discovered, shown_rounds, rounds_of_none, AttendsAll, StopsAs, hellos_sent, ShowsNoMore, sent_in_finished, Goes, EndsAll, TellsOf, TellsMore, StopsAll, AllSayHello, Begins}
 use Rattle.round_engine.proofs.FrontsOfFrames.{fronts_more}
 use Rattle.round_engine.proofs.FrontsOfHellos.{sent_to_each, sent_are, each_same, tells_no_more, shows_nothing, frames_by, run_fronts}
 use Rattle.round_engine.proofs.StoppedProcessors.{sent_same, sent_count, all_same}
 
 -- a run that came to its end, and one that was refused
-abbrev ended_by : List Frames → ℕ → List Creation → List Placed → List (List ℕ) → Run
-ended_by sent rounds made messages unread = Ok (record { sent = sent; rounds = rounds; made = made; messages = messages; unread = unread })
+abbrev ended_by : List Frames → ℕ → List Creation → List Placed → List (List ℕ) → LocatedTable → Run
+ended_by sent rounds made messages unread table = Ok (record { sent = sent; rounds = rounds; made = made; messages = messages; unread = unread; table = table })
 
 abbrev refused_by : List Frames → Refusal → Run
 refused_by sent refusal = Err (record { sent = sent; refusal = refusal })
+
+-- what a finished run has of the rounds is what they came to
+ended_so : (sent : List Frames) (rounds : Rounds) (started : ℕ) (finished : declared.Finished) → Closes rounds started finished
+    → ended_by sent rounds.count rounds.made rounds.messages rounds.unread rounds.table ≡ ended_by sent finished.rounds rounds.made finished.messages finished.unread finished.table
+ended_so sent rounds started finished closes =
+    ap (λ n. ended_by sent n rounds.made rounds.messages rounds.unread rounds.table) (sym closes.0)
+    ∙ ap (λ printed. ended_by sent finished.rounds rounds.made printed rounds.unread rounds.table) (sym closes.1)
+    ∙ ap (λ unread. ended_by sent finished.rounds rounds.made finished.messages unread rounds.table) (sym closes.2)
+    ∙ ap (ended_by sent finished.rounds rounds.made finished.messages finished.unread) (sym closes.4)
 
 -- ---- where it is told
 
@@ -51,27 +61,26 @@ talked_told talks (processor ∷ others) P some p = p
 
 -- ---- no processor
 
-run_empty : (says : Says) (level : ℕ) (options : List (List ℕ × List ℕ)) (table : TypeTable)
-    → run_of says (record { level = level; options = options; processors = [] }) table ≡ ended_by [] 2 [] [] (unread_among [])
-unfolding rounds_from asks_from
+run_empty : (says : Says) (level : ℕ) (options : List (List ℕ × List ℕ)) (table : LocatedTable)
+    → run_of says (record { level = level; options = options; processors = [] }) table ≡ ended_by [] 2 [] [] (unread_among []) table
+unfolding rounds_from asks_from in_order
 run_empty says level options table = refl
 
 -- nobody is asked in two rounds
-pub run_none : (says : Says) (plan : Plan) (table : TypeTable) → plan.processors ≡ [] → run_of says plan table ≡ ended_by [] 2 [] [] []
+pub run_none : (says : Says) (plan : Plan) (table : LocatedTable) → plan.processors ≡ [] → run_of says plan table ≡ ended_by [] 2 [] [] [] table
 run_none says plan table none =
     ap (λ (processors : List Try). run_of says (record { level = plan.level; options = plan.options; processors = processors }) table) none ∙ run_empty says plan.level plan.options table
-    ∙ ap (ended_by [] 2 [] []) unread_none
+    ∙ ap (λ unread. ended_by [] 2 [] [] unread table) unread_none
 
-pub cleans_none : (plan : Plan) (table : TypeTable) (k : State) (finished : declared.Finished) → plan.processors ≡ []
-    → Closes (record { count = 2; made = []; messages = []; unread = [] }) 0 finished → Has [] finished → Cleans plan table k k (Ok finished)
+pub cleans_none : (plan : Plan) (table : LocatedTable) (k : State) (finished : declared.Finished) → plan.processors ≡ []
+    → Closes (rounds_of_none table) 0 finished → Has [] finished → Cleans plan table k k (Ok finished)
 cleans_none plan table k finished none closes has =
     let whole = run_none k.says plan table none in
     let sent : frames_of (run_of k.says plan table) ≡ [] = ap frames_of whole in
     record {
       comes = record {
         made = [];
-        is = whole ∙ ap (λ n. ended_by [] n [] [] []) (sym closes.0) ∙ ap (λ printed. ended_by [] finished.rounds [] printed []) (sym closes.1)
-            ∙ ap (ended_by [] finished.rounds [] finished.messages) (sym closes.2) ∙ ap (λ frames. ended_by frames finished.rounds [] finished.messages finished.unread) (sym sent);
+        is = whole ∙ ended_so [] (rounds_of_none table) 0 finished closes ∙ ap (λ frames. ended_by frames finished.rounds [] finished.messages finished.unread finished.table) (sym sent);
         has = has;
         started = closes.3 ∙ ap length (sym none);
       };
@@ -86,7 +95,7 @@ cleans_none plan table k finished none closes has =
 
 -- ---- memory was wanted
 
-pub cleans_memory : (plan : Plan) (table : TypeTable) (k0 k : State) (refusal : code.Refusal) → stop_of refusal ≡ stop.Memory → ShowsNoMore None plan.processors (frames_of (run_of k0.says plan table)) k0 k → Cleans plan table k0 k (Err refusal)
+pub cleans_memory : (plan : Plan) (table : LocatedTable) (k0 k : State) (refusal : code.Refusal) → stop_of refusal ≡ stop.Memory → ShowsNoMore None plan.processors (frames_of (run_of k0.says plan table)) k0 k → Cleans plan table k0 k (Err refusal)
 cleans_memory plan table k0 k refusal memory none = record {
   comes = subst (StopsAs (run_of k0.says plan table) (frames_of (run_of k0.says plan table))) (sym memory) tt;
   more = tells_no_more None plan.processors (frames_of (run_of k0.says plan table)) k0 k none;
@@ -108,7 +117,7 @@ stopped_whole whole sent (stop.Failed object) is = tt
 stopped_whole whole sent stop.Memory is = tt
 
 -- at a Hello
-hello_stops : (says : Says) (plan : Plan) (table : TypeTable) (sent : List Frames) (s : Stop) → StopsAs (hellos_from says plan [] plan.processors) sent s → StopsAs (run_of says plan table) sent s
+hello_stops : (says : Says) (plan : Plan) (table : LocatedTable) (sent : List Frames) (s : Stop) → StopsAs (hellos_from says plan [] plan.processors) sent s → StopsAs (run_of says plan table) sent s
 hello_stops says plan table sent (stop.Refused refusal) is = ap (λ o. o >>= (λ supported. rounds_from ask (discovered says plan supported) rounds_before_last (next_of 1 (all_of table)) (start plan table))) is
 hello_stops says plan table sent (stop.Failed object) is = tt
 hello_stops says plan table sent stop.Memory is = tt
@@ -119,7 +128,7 @@ due_comes whole (stop.Refused refusal) due = due refl
 due_comes whole (stop.Failed object) due = tt
 due_comes whole stop.Memory due = tt
 
-pub cleans_at_hello : (plan : Plan) (table : TypeTable) (k0 k : State) (refusal : code.Refusal) → Begins plan k0 k (Err refusal) → Cleans plan table k0 k (Err refusal)
+pub cleans_at_hello : (plan : Plan) (table : LocatedTable) (k0 k : State) (refusal : code.Refusal) → Begins plan k0 k (Err refusal) → Cleans plan table k0 k (Err refusal)
 cleans_at_hello plan table k0 k refusal begins = record {
   comes = due_comes (run_of k0.says plan table) (stop_of refusal)
       (λ due. let h = begins.0 due in stopped_whole (run_of k0.says plan table) h.sent (stop_of refusal) (hello_stops k0.says plan table h.sent (stop_of refusal) h.comes));
@@ -149,7 +158,7 @@ names_are : (processors : List KeyProcessor) → map (λ (t : Try). t.0) (map tr
 names_are [] = refl
 names_are (p ∷ processors) = ap (λ names. p.name ∷ names) (names_are processors)
 
-module _ (key : Key) (table : TypeTable) (d : code_discovered.Discovered) (p : code_progress.Progress) (k0 k1 k2 k3 : State) (names : d.names ≡ names_in key)
+module _ (key : Key) (table : LocatedTable) (d : code_discovered.Discovered) (p : code_progress.Progress) (k0 k1 k2 k3 : State) (names : d.names ≡ names_in key)
     (begins : AllSayHello (plan_of key) d.group d.supported k0 k1) (said : k1.says ≡ k0.says) (contributed : p.contributed.items ≡ replicate (length key.processors) false) (filed : p.filer ≡ new_filings table) (printed : p.messages ≡ [])
     (attends : AttendsAll d.group k1 k2) (stops : StopsAll d.group k2 k3) (result : Result Rounds code.Refusal) (ends : EndsAll d table p k1 k2 result) where
   abbrev plan : Plan
@@ -259,10 +268,8 @@ module _ (key : Key) (table : TypeTable) (d : code_discovered.Discovered) (p : c
       record {
         comes = record {
           made = rounds.made;
-          is = ended.comes ∙ ap (λ n. ended_by (all_sent k2.known d.group) n rounds.made rounds.messages rounds.unread) (sym closes.0)
-              ∙ ap (λ printed. ended_by (all_sent k2.known d.group) finished.rounds rounds.made printed rounds.unread) (sym closes.1)
-              ∙ ap (ended_by (all_sent k2.known d.group) finished.rounds rounds.made finished.messages) (sym closes.2)
-              ∙ ap (λ frames. ended_by frames finished.rounds rounds.made finished.messages finished.unread) (sym sent);
+          is = ended.comes ∙ ended_so (all_sent k2.known d.group) rounds (length processors) finished closes
+              ∙ ap (λ frames. ended_by frames finished.rounds rounds.made finished.messages finished.unread finished.table) (sym sent);
           has = has;
           started = closes.3;
         };

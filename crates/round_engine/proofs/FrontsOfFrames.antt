@@ -5,6 +5,7 @@ use Rattle.std.specs.FinMap as fin
 use Rattle.std.proofs.lemmas.Option.{slice_get-get_or}
 use Rattle.apt_outside.specs.Child.{Try}
 use Rattle.element_table.specs.TypeTable.{TypeTable}
+use Rattle.unit_locations.specs.LocatedTable.{LocatedTable}
 use Rattle.round_env.specs.declared.environment.RoundEnv.{RoundEnv}
 use Rattle.child_session.specs.declared.request.Turn.{Turn}
 use Rattle.child_session.specs.declared.request.Turn.TheVariants.{Ends, Differs, Asks, Leaves}
@@ -148,7 +149,7 @@ abbrev pub StepsOn : Asking → Discovered → Type 0
 StepsOn asking d = (r : Round) (p : Progress) (next : ℕ × List ℕ) → AreFronts p.sent (sent_by sent_in_step (asking d r p next))
 
 pub ask_fronts : (d : Discovered) → StepsOn ask d
-ask_fronts d r p next = show_fronts d r.table (env_of r (offered_names r next.1)) p next.0
+ask_fronts d r p next = show_fronts d r.table.table (env_of r (offered_names r next.1)) p next.0
 
 -- ---- one round
 
@@ -179,9 +180,9 @@ module _ (asking : Asking) (d : Discovered) (steps : StepsOn asking d) (r : Roun
 
 module _ (asking : Asking) (d : Discovered) (steps : StepsOn asking d) where
   -- behind the last round
-  pub last_fronts : (number : ℕ) (error : Bool) (table : TypeTable) (before : Progress)
+  pub last_fronts : (number : ℕ) (error : Bool) (table : LocatedTable) (before : Progress)
       → AreFronts (sent_by sent_in_progress (round_of asking d (last_of number error table) before)) (sent_by sent_in_finished (last_round asking d number error table before))
-  last_fronts number error table before = then_fronts sent_in_progress sent_in_finished (round_of asking d (last_of number error table) before) (λ after. Ok (finished number before after)) (λ after. fronts_same after.sent)
+  last_fronts number error table before = then_fronts sent_in_progress sent_in_finished (round_of asking d (last_of number error table) before) (λ after. Ok (finished number table before after)) (λ after. fronts_same after.sent)
 
   by_test : (b : Bool) (sent : List Frames) (x y : Run) → AreFronts sent (sent_by sent_in_finished x) → AreFronts sent (sent_by sent_in_finished y) → AreFronts sent (sent_by sent_in_finished (cond b x y))
   by_test true sent x y one other = one

@@ -5,7 +5,7 @@ use Rattle.std.proofs.lemmas.List.{map-append}
 use Rattle.apt_outside.specs.Child.{Says, Try, Child, Known, State, AllKept}
 use Rattle.frame_breaches.specs.declared.breach.Breach.{Breach}
 use Rattle.processor_claims.specs.declared.supported.Supported.{Supported}
-use Rattle.element_table.specs.TypeTable.{TypeTable}
+use Rattle.unit_locations.specs.LocatedTable.{LocatedTable}
 use Rattle.child_session.specs.Round.{IsFront}
 use Rattle.project_units.specs.Units.{all_of}
 use Rattle.project_units.specs.Plans.{Plan}
@@ -187,7 +187,7 @@ module _ (says : Says) (plan : Plan) where
   frames_by exempt processors all run fronts = subst (FrontsBut exempt processors all) (frames_are run) fronts
 
   -- and then come the rounds
-  pub run_fronts : (table : TypeTable) → AreFronts (hellos_sent says plan) (frames_of (run_of says plan table))
+  pub run_fronts : (table : LocatedTable) → AreFronts (hellos_sent says plan) (frames_of (run_of says plan table))
   run_fronts table = subst (AreFronts (hellos_sent says plan)) (frames_are (run_of says plan table))
       (then_fronts (λ (supported : List Supported). map (first_sent plan) plan.processors) sent_in_finished (hellos_from says plan [] plan.processors)
       (λ supported. rounds_from ask (discovered says plan supported) rounds_before_last (next_of 1 (all_of table)) (start plan table))

@@ -1,7 +1,7 @@
 -- Messages that are placed one after another.
 use Rattle.std.proofs.Common.{◌≡◌, ℕ, suc, ◌+◌, List, [], ◌∷◌, ◌++◌, length, sym, ap, ◌∙◌, arith}
 use Rattle.wire_frames.specs.declared.frame.Message.{Message}
-use Rattle.round_engine.specs.declared.messages.Placed.{Placed}
+use Rattle.apt_filer.specs.declared.messages.Placed.{Placed}
 use Rattle.round_engine.specs.Run.{place}
 
 abbrev pub placed : ℕ → ℕ → ℕ → Message → Placed

@@ -4,9 +4,8 @@ use Rattle.std.specs.Prelude.{◌||◌, not}
 use Rattle.std.specs.FinMap as fin
 use Rattle.apt_outside.specs.Child.{Try, State}
 use Rattle.wire_frames.specs.declared.frame.Creation.{Creation}
-use Rattle.element_table.specs.TypeTable.{TypeTable}
+use Rattle.unit_locations.specs.LocatedTable.{LocatedTable}
 use Rattle.round_engine.specs.declared.beginning.Discovered as code_discovered
-use Rattle.round_engine.specs.declared.messages.Placed.{Placed}
 use Rattle.round_engine.specs.declared.progress.Progress as code_progress
 use Rattle.project_units.specs.declared.refusal.Refusal as declared
 use Rattle.project_units.specs.declared.refusal.Refusal.TheVariants as code
@@ -18,9 +17,9 @@ use Rattle.project_units.specs.Faults.{stop_of}
 use Rattle.project_units.specs.Entering.{RefusesAs}
 use Rattle.project_units.specs.Units.{Entered, enter_all, all_of}
 use Rattle.round_engine.specs.Run.{Discovered, Progress, Run, Finished, round_of, has_error, ask, last_of, next_of, last_round, rounds_before_last, rounds_from}
-use Rattle.project_units.specs.Creations.{creates_source, sources_among, unread_among}
+use Rattle.project_units.specs.Creations.{creates_source, sources_among}
 use Rattle.round_engine.specs.Fronts.{AreFronts, FrontsBut}
-use Rattle.round_engine.specs.Shown.{Stands, Goes, StopsAs, sent_by, sent_in_progress, sent_in_finished, all_sent, standing, shown_discovered, shown_rounds}
+use Rattle.round_engine.specs.Shown.{Stands, Goes, StopsAs, sent_by, sent_in_progress, sent_in_finished, all_sent, standing, shown_discovered, shown_rounds, rounds_until}
 use Rattle.round_engine.proofs.FrontsOfFrames.{fronts_exact, fronts_more, ask_fronts, last_fronts, later_fronts, round_then}
 use Rattle.round_engine.proofs.AskedProcessors.{still_theirs, goes_memory}
 use Rattle.round_engine.proofs.RoundsOfARun.{last_ok, last_err, rounds_opened, rounds_after, rounds_stop, rounds_close, rounds_refused, rounds_go, rounds_full}
@@ -66,33 +65,27 @@ module _ (d : code_discovered.Discovered) (processors : List Try) (r : Round) (p
 
   -- it was shown, and this is what the run comes to
   pub last_ends : {T : Type 0} (done : T) (p' : code_progress.Progress) (k' : State) (rounds : Rounds) → Goes sent_in_progress d processors (round_of ask run r before) (λ (x : T). standing d.group p' k') (Ok done) k'
-      → rounds.count ≡ r.number → rounds.made ≡ p'.filer.made → rounds.messages ≡ p'.messages → rounds.unread ≡ unread_among (drop (length p.filer.made) p'.filer.made)
+      → rounds ≡ rounds_until r (length p.filer.made) p'
       → Goes sent_in_finished d processors last (λ all. shown_rounds d.group all k') (Ok rounds) k'
-  last_ends done p' k' rounds goes count made messages unread = record {
+  last_ends done p' k' rounds goes is = record {
     comes = last_ok ask run r.number r.error r.table before (standing d.group p' k') (ap (λ q. round_of ask run q before) (sym is_last) ∙ goes.comes)
-        ∙ ap (λ n. ended n p'.filer.made p'.messages (unread_among (drop (length p.filer.made) p'.filer.made))) (sym count)
-        ∙ ap (λ all. ended rounds.count all p'.messages (unread_among (drop (length p.filer.made) p'.filer.made))) (sym made)
-        ∙ ap (λ all. ended rounds.count rounds.made all (unread_among (drop (length p.filer.made) p'.filer.made))) (sym messages)
-        ∙ ap (ended rounds.count rounds.made rounds.messages) (sym unread);
+        ∙ ap (λ all. Ok (shown_rounds d.group all k')) (sym is);
     same = goes.same;
     ready = goes.ready;
     fronts = fronts_exact (all_sent k'.known d.group) (sent_by sent_in_finished last)
         (ap (sent_by sent_in_finished) (last_ok ask run r.number r.error r.table before (standing d.group p' k') (ap (λ q. round_of ask run q before) (sym is_last) ∙ goes.comes)));
   }
-    where
-      ended : ℕ → List Creation → List Placed → List (List ℕ) → Run
-      ended n files printed names = Ok (record { sent = all_sent k'.known d.group; rounds = n; made = files; messages = printed; unread = names })
 
 -- ---- a round that is not the last
 
 -- The rounds are under way: the processors stand ready, and what is left decides what comes of the whole.
-pub record AreUnderway (d : code_discovered.Discovered) (processors : List Try) (table : TypeTable) (p0 : code_progress.Progress) (k0 : State) (left : ℕ) (r : Round) (p : code_progress.Progress) (k : State) : Type 0 where
+pub record AreUnderway (d : code_discovered.Discovered) (processors : List Try) (table : LocatedTable) (p0 : code_progress.Progress) (k0 : State) (left : ℕ) (r : Round) (p : code_progress.Progress) (k : State) : Type 0 where
   pub stands : Stands d processors k
   pub said : k.says ≡ k0.says
   pub way : rounds_from ask (shown_discovered k0.says processors d) left r (standing d.group p k)
       ≡ rounds_from ask (shown_discovered k0.says processors d) rounds_before_last (next_of 1 (all_of table)) (standing d.group p0 k0)
 
-pub rounds_begin : (d : code_discovered.Discovered) (processors : List Try) (table : TypeTable) (p : code_progress.Progress) (k : State) (r : Round) → Stands d processors k → r ≡ next_of 1 (all_of table)
+pub rounds_begin : (d : code_discovered.Discovered) (processors : List Try) (table : LocatedTable) (p : code_progress.Progress) (k : State) (r : Round) → Stands d processors k → r ≡ next_of 1 (all_of table)
     → AreUnderway d processors table p k rounds_before_last r p k
 rounds_begin d processors table p k r stands is = record {
   stands = stands;
@@ -100,7 +93,7 @@ rounds_begin d processors table p k r stands is = record {
   way = ap (λ q. rounds_from ask (shown_discovered k.says processors d) rounds_before_last q (standing d.group p k)) is;
 }
 
-module _ (d : code_discovered.Discovered) (processors : List Try) (table : TypeTable) (p0 : code_progress.Progress) (k0 : State) where
+module _ (d : code_discovered.Discovered) (processors : List Try) (table : LocatedTable) (p0 : code_progress.Progress) (k0 : State) where
   abbrev all : Discovered
   all = shown_discovered k0.says processors d
 
@@ -198,5 +191,5 @@ module _ (d : code_discovered.Discovered) (processors : List Try) (table : TypeT
       }
 
 -- the same for any processors that stand so
-pub record RunsOn (d : code_discovered.Discovered) (table : TypeTable) (p0 : code_progress.Progress) (k0 : State) (left : ℕ) (r : Round) (p : code_progress.Progress) (k : State) : Type 0 where
+pub record RunsOn (d : code_discovered.Discovered) (table : LocatedTable) (p0 : code_progress.Progress) (k0 : State) (left : ℕ) (r : Round) (p : code_progress.Progress) (k : State) : Type 0 where
   pub on : (processors : List Try) → Stands d processors k0 → AreUnderway d processors table p0 k0 left r p k

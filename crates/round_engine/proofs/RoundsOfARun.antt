@@ -2,7 +2,7 @@
 use Rattle.std.proofs.Common.{◌≡◌, ℕ, suc, Bool, true, false, cond, Result, Ok, Err, refl, sym, ap, ◌∙◌}
 use Rattle.std.specs.Prelude.{◌||◌, not}
 use Rattle.std.specs.FinMap as fin
-use Rattle.element_table.specs.TypeTable.{TypeTable}
+use Rattle.unit_locations.specs.LocatedTable.{LocatedTable}
 use Rattle.round_engine.specs.declared.rounds.Round.{Round}
 use Rattle.project_units.specs.Refusals.{Refusal, TooManyRounds}
 use Rattle.project_units.specs.Units.{Entered, enter_all}
@@ -11,12 +11,12 @@ use Rattle.project_units.specs.Creations.{creates_source, sources_among}
 
 -- ---- the last round
 
-module _ (asking : Asking) (d : Discovered) (number : ℕ) (error : Bool) (table : TypeTable) (before : Progress) where
-  pub last_ok : (after : Progress) → round_of asking d (last_of number error table) before ≡ Ok after → last_round asking d number error table before ≡ Ok (finished number before after)
-  last_ok after is = ap (λ o. o >>= (λ q. Ok (finished number before q))) is
+module _ (asking : Asking) (d : Discovered) (number : ℕ) (error : Bool) (table : LocatedTable) (before : Progress) where
+  pub last_ok : (after : Progress) → round_of asking d (last_of number error table) before ≡ Ok after → last_round asking d number error table before ≡ Ok (finished number table before after)
+  last_ok after is = ap (λ o. o >>= (λ q. Ok (finished number table before q))) is
 
   pub last_err : (stopped : Stopped) → round_of asking d (last_of number error table) before ≡ Err stopped → last_round asking d number error table before ≡ Err stopped
-  last_err stopped is = ap (λ o. o >>= (λ q. Ok (finished number before q))) is
+  last_err stopped is = ap (λ o. o >>= (λ q. Ok (finished number table before q))) is
 
 -- ---- a round that is not the last
 

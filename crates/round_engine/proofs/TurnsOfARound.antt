@@ -90,7 +90,7 @@ module _ (d : code_discovered.Discovered) (r : Round) (p0 : code_progress.Progre
   asking_memory means refusal memory = goes_memory sent_in_progress d processors (round_of ask run r before) means refusal k (still_theirs d processors k is.stands) memory far
 
   module _ (number : ℕ) (new : Turn) (asks : Asks turn claimed number new) (fewer : waiting_count new < waiting_count turn) (table : TypeTable) (env : RoundEnv)
-      (table_is : table ≡ r.table) (env_is : env ≡ env_of r (offered_names r (offered new))) where
+      (table_is : table ≡ r.table.table) (env_is : env ≡ env_of r (offered_names r (offered new))) where
     next_is : next_asked run r before.contributed is.answers ≡ Some (number, offered new)
     next_is = ahead_next listed is.answers turn claimed is.ahead number new asks
 
@@ -103,7 +103,7 @@ module _ (d : code_discovered.Discovered) (r : Round) (p0 : code_progress.Progre
     -- what the code asks is what the definition asks
     asks_it : show (shown_discovered k.says processors d) table env now number ≡ ask run r now (number, offered new)
     asks_it = ap (λ says. show (shown_discovered says processors d) table env now number) is.said
-        ∙ ap (λ t. show run t env now number) table_is ∙ ap (λ e. show run r.table e now number) env_is
+        ∙ ap (λ t. show run t env now number) table_is ∙ ap (λ e. show run r.table.table e now number) env_is
 
     -- one more has answered
     pub asking_goes : (p' : code_progress.Progress) (k' : State) (claim : Bool)

@@ -7,8 +7,8 @@ use Rattle.apt_outside.specs.Files.{Files}
 use Rattle.apt_outside.specs.Child.{Try, State}
 use Rattle.wire_frames.specs.declared.frame.Creation.{Creation}
 use Rattle.wire_frames.specs.declared.frame.Message.{Message}
-use Rattle.round_engine.specs.declared.messages.Placed.{Placed}
-use Rattle.project_units.specs.declared.project.Key.{Key}
+use Rattle.apt_filer.specs.declared.messages.Placed.{Placed}
+use Rattle.record_forms.specs.declared.record.Key.{Key}
 use Rattle.project_units.specs.declared.project.Project.{Project}
 use Rattle.round_engine.specs.declared.rounds.Rounds.{Rounds}
 use Rattle.round_engine.specs.declared.numbering.Made.{Made}
@@ -16,7 +16,7 @@ use Rattle.round_engine.specs.declared.running.Finished as declared
 use Rattle.project_units.specs.declared.refusal.Refusal as code
 use Rattle.project_units.specs.Refusals.{NamesAmong}
 use Rattle.project_units.specs.Faults.{stop_of, is_due, exempt_in}
-use Rattle.element_table.specs.TypeTable.{TypeTable}
+use Rattle.unit_locations.specs.LocatedTable.{LocatedTable}
 use Rattle.round_engine.specs.Numbering.{AreLeast}
 use Rattle.round_engine.specs.Numbered.{shown_made, number_of, HasText, IsWritten, Fits}
 use Rattle.project_units.specs.Plans.{Plan, names_in, plan_of, tries_in}
@@ -59,10 +59,12 @@ pub record Has (made : List Creation) (finished : declared.Finished) : Type 0 wh
 abbrev pub Closes : Rounds → ℕ → declared.Finished → Type 0
 Closes rounds started finished =
     (finished.rounds ≡ rounds.count) × (finished.messages ≡ rounds.messages) × (finished.unread ≡ rounds.unread) × (finished.started ≡ started)
+    × (finished.table ≡ rounds.table)
 
 -- a finished run, with the frames that were sent and the files that were made
 abbrev pub shown_finished : List (List (List ℕ)) → List Creation → declared.Finished → Finished
-shown_finished sent made finished = record { sent = sent; rounds = finished.rounds; made = made; messages = finished.messages; unread = finished.unread }
+shown_finished sent made finished =
+    record { sent = sent; rounds = finished.rounds; made = made; messages = finished.messages; unread = finished.unread; table = finished.table }
 
 -- it is this run, and has its files
 pub record FinishesAs (whole : Run) (count : ℕ) (finished : declared.Finished) : Type 0 where
@@ -83,7 +85,7 @@ pub record ShowsWhole (processors : List Try) (whole : Run) (old new : State) : 
   pub starts : new.starts ≡ old.starts + length (frames_of whole)
   pub tried : new.tried ≡ old.tried ++ take (length (frames_of whole)) processors
 
-pub record Cleans (plan : Plan) (table : TypeTable) (old new : State) (result : Result declared.Finished code.Refusal) : Type 0 where
+pub record Cleans (plan : Plan) (table : LocatedTable) (old new : State) (result : Result declared.Finished code.Refusal) : Type 0 where
   pub comes : ComesOf (run_of old.says plan table) (length plan.processors) result
   pub more : TellsMore (length plan.processors) old new
   pub shown : is_due result ≡ true → ShowsWhole plan.processors (run_of old.says plan table) old new

@@ -5,11 +5,12 @@ use Rattle.apt_outside.specs.Count.{Told}
 use Rattle.apt_outside.specs.Child.{State}
 use Rattle.processor_claims.specs.declared.supported.Supported.{Supported}
 use Rattle.element_table.specs.TypeTable.{TypeTable}
+use Rattle.unit_locations.specs.LocatedTable.{LocatedTable}
 use Rattle.round_env.specs.declared.environment.RoundEnv.{RoundEnv}
 use Rattle.round_engine.specs.declared.beginning.Discovered.{Discovered}
 use Rattle.round_engine.specs.declared.progress.Progress.{Progress}
-use Rattle.project_units.specs.declared.project.Key.{Key}
-use Rattle.project_units.specs.declared.project.KeyProcessor.{KeyProcessor}
+use Rattle.record_forms.specs.declared.record.Key.{Key}
+use Rattle.record_forms.specs.declared.record.KeyProcessor.{KeyProcessor}
 use Rattle.project_units.specs.declared.refusal.Refusal.{Refusal}
 use Rattle.round_engine.specs.declared.rounds.Round.{Round}
 use Rattle.round_engine.specs.declared.rounds.Rounds.{Rounds}
@@ -44,5 +45,5 @@ Asks c d r p p' old new result = Told c.tells (shown.Asks d r p p' (c.state old)
 abbrev pub EndsLast : {C : Type 0} → children.Ghosts C → Discovered → Round → Progress → C → C → Result Rounds Refusal → Type 0
 EndsLast c d r p old new result = Told c.tells (shown.EndsLast d r p (c.state old) (c.state new) result)
 
-abbrev pub EndsAll : {C : Type 0} → children.Ghosts C → Discovered → TypeTable → Progress → C → C → Result Rounds Refusal → Type 0
+abbrev pub EndsAll : {C : Type 0} → children.Ghosts C → Discovered → LocatedTable → Progress → C → C → Result Rounds Refusal → Type 0
 EndsAll c d table p old new result = Told c.tells (shown.EndsAll d table p (c.state old) (c.state new) result)

@@ -12,6 +12,7 @@ use Rattle.wire_frames.specs.declared.frame.Creation.{Creation}
 use Rattle.wire_frames.specs.declared.frame.Message.{Message}
 use Rattle.frame_breaches.specs.declared.breach.Breach.{Breach}
 use Rattle.apt_filer.specs.Filing.{Filings, taken_at_first}
+use Rattle.apt_filer.specs.Reports.{in_report_order}
 use Rattle.processor_claims.specs.declared.supported.Supported.{Supported}
 use Rattle.processor_claims.specs.Asked.{asked}
 use Rattle.child_session.specs.declared.round.Showing.{Showing}
@@ -23,10 +24,11 @@ use Rattle.child_session.specs.Acts as acts
 use Rattle.child_session.specs.Acts.{Act, messages}
 use Rattle.child_session.specs.Round as session
 use Rattle.round_env.specs.declared.environment.RoundEnv.{RoundEnv}
-use Rattle.round_engine.specs.declared.messages.Placed.{Placed}
+use Rattle.apt_filer.specs.declared.messages.Placed.{Placed}
 use Rattle.round_engine.specs.declared.rounds.Round.{Round}
 use Rattle.project_units.specs.Refusals.{Refusal, LeavesProtocol, TooManyQuestions, ClaimBroken, TooManyRounds}
 use Rattle.element_table.specs.TypeTable.{TypeTable}
+use Rattle.unit_locations.specs.LocatedTable.{LocatedTable}
 use Rattle.project_units.specs.Units.{Entered, enter_all, all_of, unit_names}
 use Rattle.round_env.specs.Presence.{present_names}
 use Rattle.project_units.specs.Creations.{sources_among, creates_source, unread_among}
@@ -115,7 +117,7 @@ sent_at p number = slice_index_or p.sent number []
 
 -- the annotations that are present on the roots; the last round has none
 abbrev pub present_in : Round → List (List ℕ)
-present_in r = present_names r.table r.roots
+present_in r = present_names r.table.table r.roots
 
 -- those at these positions
 abbrev pub offered_names : Round → List ℕ → List (List ℕ)
@@ -180,7 +182,7 @@ Asking = Discovered → Round → Progress → ℕ × List ℕ → Course (Progr
 
 -- it is shown all roots, over the table of the round
 abbrev pub ask : Asking
-ask d r p next = show d r.table (env_of r (offered_names r next.1)) p next.0
+ask d r p next = show d r.table.table (env_of r (offered_names r next.1)) p next.0
 
 -- ---- one round
 
@@ -220,20 +222,21 @@ has_error messages = list_any (λ placed. placed.message.kind == 0) messages
 
 -- ---- the run
 
--- a run that was not refused: the frames that each child was sent, how many rounds there were, the files, the messages in order of round, processor and
--- number, and the sources of the last round by their names
+-- a run that was not refused: the frames that each child was sent, how many rounds there were, the files, the messages in the order of a report, the sources of the
+-- last round by their names, and the units of that round with their locations
 pub record Finished : Type 0 where
   pub sent : List Frames
   pub rounds : ℕ
   pub made : List Creation
   pub messages : List Placed
   pub unread : List (List ℕ)
+  pub table : LocatedTable
 
 abbrev pub Run : Type 0
 Run = Course Finished
 
 -- The last round has no roots, and nothing is offered in it.
-abbrev pub last_of : ℕ → Bool → TypeTable → Round
+abbrev pub last_of : ℕ → Bool → LocatedTable → Round
 last_of number error table = record { number = number; over = true; error = error; table = table; roots = [] }
 
 -- the units that were entered are the roots
@@ -241,19 +244,20 @@ abbrev pub next_of : ℕ → Entered → Round
 next_of number entered = record { number = number; over = false; error = false; table = entered.table; roots = entered.names }
 
 -- The sources of the last round are kept and not read.
-abbrev pub finished : ℕ → Progress → Progress → Finished
-finished rounds before after = record {
+abbrev pub finished : ℕ → LocatedTable → Progress → Progress → Finished
+finished rounds table before after = record {
   sent = after.sent;
   rounds = rounds;
   made = after.filings.made;
-  messages = after.messages;
+  messages = in_report_order after.messages;
   unread = unread_among (new_since before.filings after.filings);
+  table = table;
 }
 
-abbrev pub last_round : Asking → Discovered → ℕ → Bool → TypeTable → Progress → Run
+abbrev pub last_round : Asking → Discovered → ℕ → Bool → LocatedTable → Progress → Run
 last_round asking d number error table before = do
   after ← round_of asking d (last_of number error table) before
-  Ok (finished number before after)
+  Ok (finished number table before after)
 
 -- sources were entered, or the run is refused
 abbrev pub entering : List Frames → Result Entered Refusal → Course Entered
@@ -280,7 +284,7 @@ abbrev pub rounds_before_last : ℕ
 rounds_before_last = 63
 
 -- what a filer has at first: the names of all units are taken
-abbrev pub new_filings : TypeTable → Filings
+abbrev pub new_filings : LocatedTable → Filings
 new_filings table = record { taken = taken_at_first (unit_names table); made = [] }
 
 -- for each processor, that it was not asked
@@ -288,7 +292,7 @@ abbrev pub none_asked : {A : Type 0} → List A → List Bool
 none_asked processors = replicate (length processors) false
 
 -- each child was sent the first frame, and none was asked
-abbrev pub start : Plan → TypeTable → Progress
+abbrev pub start : Plan → LocatedTable → Progress
 start plan table = record {
   sent = map (first_sent plan) plan.processors;
   contributed = none_asked plan.processors;
@@ -300,7 +304,7 @@ abbrev pub discovered : Says → Plan → List Supported → Discovered
 discovered says plan supported = record { says = says; processors = plan.processors; supported = supported }
 
 -- the first round has all units of the sources as roots
-abbrev pub run_of : Says → Plan → TypeTable → Run
+abbrev pub run_of : Says → Plan → LocatedTable → Run
 run_of says plan table = do
   supported ← hellos_from says plan [] plan.processors
   rounds_from ask (discovered says plan supported) rounds_before_last (next_of 1 (all_of table)) (start plan table)

@@ -1,5 +1,5 @@
 -- What the calls of the engine say: what came of a part of a run, and what each child was sent by then.
-use Rattle.std.specs.Prelude.{◌≡◌, ◌≢◌, ◌⊎◌, ℕ, ◌+◌, ◌≤◌, ◌<◌, Bool, true, false, List, [], ◌∷◌, ◌++◌, length, map, take, Contains, Option, None, Some, Result, Ok, Err, OnOk, IfSome, IsSomeAnd}
+use Rattle.std.specs.Prelude.{◌≡◌, ◌≢◌, ◌⊎◌, ℕ, ◌+◌, ◌≤◌, ◌<◌, Bool, true, false, List, [], ◌∷◌, ◌++◌, length, map, take, drop, Contains, Option, None, Some, Result, Ok, Err, OnOk, IfSome, IsSomeAnd}
 use Rattle.std.specs.List.{AllByRecursion}
 use Rattle.std.specs.Option.{option_map_or}
 use Rattle.apt_outside.specs.Child.{Says, Try, Child, Known, State, without}
@@ -22,7 +22,10 @@ use Rattle.project_units.specs.Refusals.{Stop, is_refusal, is_failure, is_of_hel
 use Rattle.project_units.specs.Faults.{stop_of, is_due, exempt_in}
 use Rattle.round_engine.specs.Fronts.{FrontsBut}
 use Rattle.element_table.specs.TypeTable.{TypeTable}
+use Rattle.unit_locations.specs.LocatedTable.{LocatedTable}
 use Rattle.round_env.specs.declared.environment.RoundEnv.{RoundEnv}
+use Rattle.apt_filer.specs.Reports.{in_report_order}
+use Rattle.project_units.specs.Creations.{unread_among}
 use Rattle.project_units.specs.Units.{all_of}
 use Rattle.project_units.specs.Plans.{Plan, init_frame}
 use Rattle.round_engine.specs.Run.{Frames, Course, first_sent, hello_of, hellos_from, Discovered, Progress, most_questions, show, ask, round_of, Finished, last_round, rounds_from, rounds_before_last, next_of}
@@ -99,7 +102,15 @@ standing group p now = record { sent = all_sent now.known group; contributed = p
 -- a run that was not refused
 abbrev pub shown_rounds : List ℕ → Rounds → State → Finished
 shown_rounds group rounds now =
-    record { sent = all_sent now.known group; rounds = rounds.count; made = rounds.made; messages = rounds.messages; unread = rounds.unread }
+    record { sent = all_sent now.known group; rounds = rounds.count; made = rounds.made; messages = rounds.messages; unread = rounds.unread; table = rounds.table }
+
+-- what the rounds come to of which this was the last, where there were this many files before it
+abbrev pub rounds_until : Round → ℕ → code_progress.Progress → Rounds
+rounds_until last count p = record { count = last.number; made = p.filer.made; messages = in_report_order p.messages; unread = unread_among (drop count p.filer.made); table = last.table }
+
+-- and what two rounds over a table come to in which nobody is asked
+abbrev pub rounds_of_none : LocatedTable → Rounds
+rounds_of_none table = record { count = 2; made = []; messages = []; unread = []; table = table }
 
 -- ---- a part of a run
 
@@ -172,7 +183,7 @@ EndsLast d r p old new result =
     Part sent_in_finished d (λ run. last_round ask run r.number r.error r.table (standing d.group p old)) (λ rounds. shown_rounds d.group rounds new) result old new
 
 -- so did all rounds over this table
-abbrev pub EndsAll : code_discovered.Discovered → TypeTable → code_progress.Progress → State → State → Result Rounds declared.Refusal → Type 0
+abbrev pub EndsAll : code_discovered.Discovered → LocatedTable → code_progress.Progress → State → State → Result Rounds declared.Refusal → Type 0
 EndsAll d table p old new result =
     Part sent_in_finished d (λ run. rounds_from ask run rounds_before_last (next_of 1 (all_of table)) (standing d.group p old)) (λ rounds. shown_rounds d.group rounds new) result old new
 

@@ -15,8 +15,7 @@ use crate::rounds::Round;
 use crate::session_fault::refusal_by;
 use apt_base::{Claim, List, Name, NoMemory, copy_names};
 use apt_outside::Children;
-use child_answers::Answering;
-use child_session::{Showing, show_round};
+use child_session::{Answering, Showing, show_round};
 use processor_claims::Turn;
 use project_units::Refusal;
 use round_env::{RoundEnv, present};
@@ -162,7 +161,7 @@ fn ask_in_turn<C: Children>(
     requires listed { AreListed run.now }
     requires each { HasEach run.now so_far.old }
     requires lives { AllLive run.now.group (C.state children.old) }
-    requires table { answering.old ≡ round.now.table }
+    requires table { answering.old ≡ round.now.table.table }
     requires names { present.now ≡ present_in round.now }
     requires coming { IsTurnOf run.now round.now so_far.old present.now turn }
     requires within { IsWithin (length run.now.supported) (length present.now) turn }
@@ -207,9 +206,10 @@ pub(crate) fn ask_all<C: Children>(
     ensures attends { Over C.Children children.old children.new (AttendsAll run.now.group) }
     ensures asks { Asks C.Children run.now round.now so_far.old so_far.new children.old children.new result }
 {
-    let present = present(alloc, &round.table, &round.roots)?;
+    let table = round.table.table();
+    let present = present(alloc, table, &round.roots)?;
     let turn = turn_of(alloc, run, round, so_far, &present)?;
-    let mut answering = Answering::new(alloc, &round.table)?;
+    let mut answering = Answering::new(alloc, table)?;
     let asked = ask_in_turn(
         alloc,
         children,

@@ -15,7 +15,8 @@ use apt_base::{List, Name, NoMemory};
 use apt_outside::Children;
 use child_session::begin;
 use processor_claims::{Pattern, Supported};
-use project_units::{Key, KeyProcessor, Refusal, init_bytes};
+use project_units::{Refusal, init_bytes};
+use record_forms::{Key, KeyProcessor};
 use std::alloc::Global;
 use wire_frames::Hello;
 

@@ -14,6 +14,5 @@ mod rounds;
 mod running;
 mod session_fault;
 
-pub use messages::Placed;
 pub use numbering::{Made, number_files};
 pub use running::{Finished, clean};

@@ -4,35 +4,9 @@ ghost use Rattle.round_engine.specs.Run.{place, has_error};
 ghost use Rattle.round_engine.specs.Clean.{is_error, is_warning, count_of};
 
 use apt_base::{List, NoMemory};
+use apt_filer::Placed;
 use std::alloc::Global;
 use wire_frames::Message;
-
-/// A message with its place in the order of a run's messages.
-#[derive(Drop)]
-pub struct Placed {
-    /// The round in which it was printed, from 1.
-    pub round: u32,
-    /// The number of the processor that printed it, from 0.
-    pub processor: u16,
-    /// Its number among the messages of that processor in that round, from 0.
-    pub number: u32,
-    /// The message.
-    pub message: Message,
-}
-
-impl Placed {
-    /// An equal message at an equal place.
-    pub fn copy(&self, alloc: Global) -> Result<Placed, NoMemory>
-        ensures { IfOk result (λ placed. placed ≡ self.now) }
-    {
-        Ok(Placed {
-            round: self.round,
-            processor: self.processor,
-            number: self.number,
-            message: self.message.copy(alloc)?,
-        })
-    }
-}
 
 /// Equal messages in the same order.
 pub fn copy_messages(alloc: Global, messages: &[Placed]) -> Result<List<Placed>, NoMemory>

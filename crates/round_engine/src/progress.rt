@@ -1,7 +1,6 @@
 // How far a run is.
-use crate::messages::Placed;
 use apt_base::List;
-use apt_filer::Filer;
+use apt_filer::{Filer, Placed};
 
 /// How far a run is, beside what its children were sent.
 #[derive(Drop)]

@@ -5,19 +5,20 @@ ghost use Rattle.project_units.specs.Faults.{stop_of, HasReason};
 ghost use Rattle.project_units.specs.Units.{all_of};
 ghost use Rattle.project_units.specs.Creations.{creates_source};
 ghost use Rattle.round_engine.specs.Run.{next_of};
-ghost use Rattle.round_engine.specs.Shown.{AreListed, HasEach, AllLive, AttendsAll, IsDueStop};
+ghost use Rattle.round_engine.specs.Shown.{AreListed, HasEach, AllLive, AttendsAll, IsDueStop, rounds_until};
 ghost use Rattle.round_engine.specs.Moments.{Over, EndsLast, EndsAll};
 
 use crate::asking::ask_all;
 use crate::beginning::Discovered;
-use crate::messages::{Placed, has_error};
+use crate::messages::has_error;
 use crate::progress::Progress;
 use apt_base::{List, Name, NoMemory};
-use apt_filer::Filer;
+use apt_filer::{Filer, Placed, report_order};
 use apt_outside::Children;
-use element_table::{Part, Table};
+use element_table::Part;
 use project_units::{Refusal, creates_source, enter_all, unread_among};
 use std::alloc::Global;
+use unit_locations::LocatedTable;
 use wire_frames::Creation;
 
 // The most rounds of a run, the last included.
@@ -32,8 +33,8 @@ pub struct Round {
     pub over: bool,
     /// Whether an error was printed in the round before.
     pub error: bool,
-    /// The units of the project, and of the sources that were created before.
-    pub table: Table,
+    /// The units of the project, and of the sources that were created before, with their locations.
+    pub table: LocatedTable,
     /// The names of its root units, ascending; the last round has none.
     pub roots: List<Name>,
 }
@@ -45,10 +46,12 @@ pub struct Rounds {
     pub count: u32,
     /// The files that were made, in order.
     pub made: List<Creation>,
-    /// The messages, in order.
+    /// The messages, in the order of a report.
     pub messages: List<Placed>,
     /// The names of the sources that were created in the last round, ascending.
     pub unread: List<Name>,
+    /// The table of the last round.
+    pub table: LocatedTable,
 }
 
 // What was made since there were `count` files.
@@ -70,6 +73,27 @@ fn printed_since(messages: &[Placed], count: usize) -> &[Placed]
         return &[];
     }
     &messages[count..]
+}
+
+// What the rounds come to of which this was the last, where there were `count` files before it.
+fn rounds_until(
+    alloc: Global,
+    last: Round,
+    count: usize,
+    progress: Progress,
+) -> Result<Rounds, NoMemory>
+    ensures { IfOk result (λ rounds. rounds ≡ rounds_until last count progress) }
+{
+    let mut progress = progress;
+    report_order(alloc, &mut progress.messages)?;
+    let unread = unread_among(alloc, made_since(&progress.filer, count))?;
+    Ok(Rounds {
+        count: last.number,
+        made: progress.filer.into_made(),
+        messages: progress.messages,
+        unread,
+        table: last.table,
+    })
 }
 
 /// The last round, and what the whole run comes to.
@@ -96,13 +120,7 @@ fn finish<C: Children>(
     let mut progress = progress;
     let count = progress.filer.made().len();
     ask_all(alloc, children, run, &last, &mut progress)?;
-    let unread = unread_among(alloc, made_since(&progress.filer, count))?;
-    Ok(Rounds {
-        count: last.number,
-        made: progress.filer.into_made(),
-        messages: progress.messages,
-        unread,
-    })
+    Ok(rounds_until(alloc, last, count, progress)?)
 }
 
 // Whether the last round follows one in which an error was printed or not, and these files were made.
@@ -113,7 +131,7 @@ fn is_followed_by_last(error: bool, made: &[Creation]) -> bool
 }
 
 // The first round over a table, of which all source units are roots.
-fn first_round(alloc: Global, project: &Table) -> Result<Round, NoMemory>
+fn first_round(alloc: Global, project: &LocatedTable) -> Result<Round, NoMemory>
     ensures { IfOk result (λ round. round ≡ next_of 1 (all_of project.now)) }
 {
     Ok(Round {
@@ -121,7 +139,7 @@ fn first_round(alloc: Global, project: &Table) -> Result<Round, NoMemory>
         over: false,
         error: false,
         table: project.copy(alloc)?,
-        roots: project.names(alloc, Part::Source)?,
+        roots: project.table().names(alloc, Part::Source)?,
     })
 }
 
@@ -131,7 +149,7 @@ pub fn show_rounds<C: Children>(
     alloc: Global,
     children: &mut C,
     run: &Discovered,
-    project: &Table,
+    project: &LocatedTable,
     progress: Progress,
 ) -> Result<Rounds, Refusal>
     requires listed { AreListed run.now }

@@ -6,19 +6,20 @@ ghost use Rattle.apt_outside.specs.Count.{Told};
 ghost use Rattle.project_units.specs.Faults.{HasReason, stop_of};
 ghost use Rattle.round_engine.specs.Run.{new_filings, none_asked};
 ghost use Rattle.round_engine.specs.Clean.{AreNumbered, Closes, Has, NamesProcessor, Starts, Tries, CleansOver};
-ghost use Rattle.round_engine.specs.Shown.{AreListed, CountsTries, IsDueStop};
+ghost use Rattle.round_engine.specs.Shown.{AreListed, CountsTries, IsDueStop, rounds_of_none};
 ghost use Rattle.round_engine.specs.Moments.{Over};
 
 use crate::beginning::{Discovered, begin_all, end_all};
-use crate::messages::{Placed, copy_messages, count_errors, count_warnings};
+use crate::messages::{copy_messages, count_errors, count_warnings};
 use crate::numbering::{Made, copy_files, number_files};
 use crate::progress::Progress;
 use crate::rounds::{Rounds, show_rounds};
 use apt_base::{List, Name, NoMemory, copy_names};
-use apt_filer::Filer;
+use apt_filer::{Filer, Placed};
 use apt_outside::Children;
 use project_units::{Project, Refusal, files_among, unit_names};
 use std::alloc::Global;
+use unit_locations::LocatedTable;
 
 /// What a run came to that was not refused.
 #[derive(Drop)]
@@ -33,10 +34,13 @@ pub struct Finished {
     pub started: u32,
     /// The files, ascending by path.
     pub files: List<Made>,
-    /// The messages, in order.
+    /// The messages, in the order of a report.
     pub messages: List<Placed>,
     /// The names of the sources that were created in the last round, ascending.
     pub unread: List<Name>,
+    /// The units of the last round with their locations: those of the project, and those of the sources that were created in
+    /// earlier rounds and entered.
+    pub table: LocatedTable,
 }
 
 impl Finished {
@@ -52,6 +56,7 @@ impl Finished {
             files: copy_files(alloc, self.files.as_slice())?,
             messages: copy_messages(alloc, self.messages.as_slice())?,
             unread: copy_names(alloc, self.unread.as_slice())?,
+            table: self.table.copy(alloc)?,
         })
     }
 }
@@ -70,16 +75,17 @@ fn first_progress(alloc: Global, project: &Project) -> Result<Progress, NoMemory
     })
 }
 
-// What two rounds come to in which nobody is asked.
-fn no_rounds(alloc: Global) -> Rounds
-    ensures { result ≡ record { count = 2; made = []; messages = []; unread = [] } }
+// What two rounds over a table come to in which nobody is asked.
+fn no_rounds(alloc: Global, project: &LocatedTable) -> Result<Rounds, NoMemory>
+    ensures { IfOk result (λ rounds. rounds ≡ rounds_of_none project.now) }
 {
-    Rounds {
+    Ok(Rounds {
         count: 2,
         made: List::new(alloc),
         messages: List::new(alloc),
         unread: List::new(alloc),
-    }
+        table: project.copy(alloc)?,
+    })
 }
 
 // How many children a run has.
@@ -116,7 +122,19 @@ fn finish_run(
         files,
         messages: rounds.messages,
         unread: rounds.unread,
+        table: rounds.table,
     })
+}
+
+// What a run over a table comes to in which nobody is asked.
+fn finish_none(alloc: Global, taken: &[u32], project: &LocatedTable) -> Result<Finished, NoMemory>
+    requires { IsStrictlyIncreasing taken.now }
+    ensures is { IfOk result (Closes (rounds_of_none project.now) 0) }
+    ensures numbered { IfOk result (λ finished. AreNumbered taken.now finished.files) }
+    ensures has { IfOk result (Has []) }
+{
+    let rounds = no_rounds(alloc, project)?;
+    finish_run(alloc, taken, 0, rounds)
 }
 
 /// Runs the rounds over a project, from nothing, with at most 64 processors. All processors are started before round 1, in
@@ -152,7 +170,7 @@ pub fn clean<C: Children>(
     let processors = project.key.processors.len();
     if processors == 0 {
         // nobody is asked in the two rounds, whatever the children tell
-        return Ok(finish_run(alloc, taken, 0, no_rounds(alloc))?);
+        return Ok(finish_none(alloc, taken, &project.initial)?);
     }
     let run = begin_all(alloc, children, &project.key)?;
     let outcome = show_rounds(alloc, children, &run, &project.initial, progress);

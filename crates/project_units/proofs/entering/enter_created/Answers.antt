@@ -5,7 +5,7 @@ use Rattle.project_units.proofs.entering.enter_created.Goals as goal
 
 pub returns-in-Ok-clause-gathers : goal.returns-in-Ok-clause-gathers
 returns-in-Ok-clause-gathers c =
-    gathers-read (gathered c.args.table.now c.args.roots.now) c.args.path.now c.args.content.now c.in-Ok.units c.gather.new.table c.gather.new.roots c.gather.result c.in-Ok.ensures c.gather.ensures.gathers
+    gathers-read (gathered c.args.table.now c.args.roots.now) c.args.path.now c.args.content.now c.in-Ok.parsed c.gather.new.table c.gather.new.roots c.gather.result c.in-Ok.ensures c.gather.ensures.gathers
 
 pub returns-in-Err-clause-gathers : goal.returns-in-Err-clause-gathers
 returns-in-Err-clause-gathers c =

@@ -14,7 +14,7 @@ invariant-loop-number g l =
       later : C.faults l.fn.children ≤ C.faults l.children;
       starts : (C.state l.children).starts ≡ (C.state l.fn.children).starts;
       live : (C.state l.children).live ≡ (C.state l.fn.children).live;
-      table : l.answering ≡ l.round.table;
+      table : l.answering ≡ l.round.table.table;
       still : HasEach l.run l.so_far;
       within : IsWithin (length l.run.supported) (length (present_in l.round)) l.turn;
       attends : Told C.tells (AttendsAll l.run.group (C.state l.fn.children) (C.state l.children));

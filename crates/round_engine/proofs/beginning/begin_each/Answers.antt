@@ -4,7 +4,7 @@ use Rattle.std.proofs.lemmas.Result.{err_from_is_err_and}
 use Rattle.std.proofs.lemmas.List.Elements.{Contains-append_right}
 use Rattle.apt_outside.specs.Child.{State, without}
 use Rattle.apt_outside.proofs.Live.{without_last}
-use Rattle.project_units.specs.declared.project.KeyProcessor.{KeyProcessor}
+use Rattle.record_forms.specs.declared.record.KeyProcessor.{KeyProcessor}
 use Rattle.project_units.specs.declared.refusal.Refusal.TheVariants as code
 use Rattle.project_units.specs.Refusals as stop
 use Rattle.project_units.specs.Faults.{stop_of}

@@ -1,13 +1,12 @@
 use Rattle.std.proofs.Common.{◌≡◌, ◌<◌, ◌+◌, false, [], Ok, Err, length, map, refl, sym, ap, ◌∙◌, subst, inl, arith, rules}
 use Rattle.std.proofs.lemmas.List.{length-map, nil_from_length}
 use Rattle.std.proofs.lemmas.Result.{err_from_is_err_and}
-use Rattle.round_engine.specs.declared.rounds.Rounds.{Rounds}
 use Rattle.project_units.specs.Refusals as stop
 use Rattle.project_units.specs.Refusals.{NamesAmong}
 use Rattle.project_units.specs.Faults.{stop_of}
 use Rattle.round_engine.specs.Run.{run_of, frames_of}
 use Rattle.project_units.specs.Plans.{plan_of, try_of, tries_in}
-use Rattle.round_engine.specs.Clean.{Has, Closes}
+use Rattle.round_engine.specs.Clean.{Closes}
 use Rattle.round_engine.specs.Shown.{IsCounted, LiveInTurn, without_each}
 use Rattle.round_engine.proofs.StoppedChildren.{all_live, fresh_ends, fresh_live}
 use Rattle.round_engine.proofs.FrontsOfHellos.{shows_nothing}
@@ -163,15 +162,15 @@ returns-clause-starts g c = omega (arith, c.end_all.ensures.starts, c.show_round
 pub returns-in-Err-clause-named : goal.returns-in-Err-clause-named
 returns-in-Err-clause-named g c = subst (λ names. NamesAmong names (stop_of c.in-Err.refusal)) c.in_ok-run.ensures.names c.in-Err.ensures.named
 
-pub returns-in_err-finish_run-clause-cleans : goal.returns-in_err-finish_run-clause-cleans
-returns-in_err-finish_run-clause-cleans g c =
-    let e = err_from_is_err_and c.from_residual-in_err-finish_run.result c.from_residual-in_err-finish_run.ensures.1 in
+pub returns-in_err-finish_none-clause-cleans : goal.returns-in_err-finish_none-clause-cleans
+returns-in_err-finish_none-clause-cleans g c =
+    let e = err_from_is_err_and c.from_residual-in_err-finish_none.result c.from_residual-in_err-finish_none.ensures.1 in
     let plan = plan_of c.args.project.now.key in
     let k0 = g.C.Children.state c.args.children.now in
     rw (e.1, e.2) (talked _ _ _ (cleans_memory plan c.args.project.now.initial k0 k0 _ refl (shows_nothing plan.processors (frames_of (run_of k0.says plan c.args.project.now.initial)) k0)))
 
-pub returns-in_err-finish_run-clause-tried : goal.returns-in_err-finish_run-clause-tried
-returns-in_err-finish_run-clause-tried g c = λ told. tries_nothing (tries_in c.args.project.now.key) (g.C.Children.state c.args.children.now)
+pub returns-in_err-finish_none-clause-tried : goal.returns-in_err-finish_none-clause-tried
+returns-in_err-finish_none-clause-tried g c = λ told. tries_nothing (tries_in c.args.project.now.key) (g.C.Children.state c.args.children.now)
 
 pub returns-then-processors-eq0-clause-tried : goal.returns-then-processors-eq0-clause-tried
 returns-then-processors-eq0-clause-tried g c = λ told. tries_nothing (tries_in c.args.project.now.key) (g.C.Children.state c.args.children.now)
@@ -185,11 +184,11 @@ pub returns-then-processors-eq0-clause-cleans : goal.returns-then-processors-eq0
 returns-then-processors-eq0-clause-cleans g c =
     let key = c.args.project.now.key in
     let k0 = g.C.Children.state c.args.children.now in
-    let finished = c.in_ok-finish_run.field-0 in
+    let finished = c.in_ok-finish_none.field-0 in
     let empty : length key.processors ≡ 0 = search rules in
     let none : tries_in key ≡ [] = ap (map try_of) (nil_from_length key.processors empty) in
     talked _ _ _ (cleans_none (plan_of key) c.args.project.now.initial k0 finished none
-    (subst (λ rounds. Closes rounds 0 finished) c.no_rounds.ensures c.in_ok-finish_run.ensures.is) (subst (λ (rounds : Rounds). Has rounds.made finished) c.no_rounds.ensures c.in_ok-finish_run.ensures.has))
+    c.in_ok-finish_none.ensures.is c.in_ok-finish_none.ensures.has)
 
 pub returns-in_err-progress-clause-starts : goal.returns-in_err-progress-clause-starts
 returns-in_err-progress-clause-starts g c =
@@ -197,10 +196,10 @@ returns-in_err-progress-clause-starts g c =
     let e = err_from_is_err_and c.from_residual.result c.from_residual.ensures.1 in
     rw (e.1, e.2) (starts_memory (length (tries_in c.args.project.now.key)) stop.Memory k0 k0 refl (omega arith) (omega arith))
 
-pub returns-in_err-finish_run-clause-starts : goal.returns-in_err-finish_run-clause-starts
-returns-in_err-finish_run-clause-starts g c =
+pub returns-in_err-finish_none-clause-starts : goal.returns-in_err-finish_none-clause-starts
+returns-in_err-finish_none-clause-starts g c =
     let k0 = g.C.Children.state c.args.children.now in
-    let e = err_from_is_err_and c.from_residual-in_err-finish_run.result c.from_residual-in_err-finish_run.ensures.1 in
+    let e = err_from_is_err_and c.from_residual-in_err-finish_none.result c.from_residual-in_err-finish_none.ensures.1 in
     rw (e.1, e.2) (starts_memory (length (tries_in c.args.project.now.key)) stop.Memory k0 k0 refl (omega arith) (omega arith))
 
 pub returns-in_err-run-clause-starts : goal.returns-in_err-run-clause-starts
@@ -211,7 +210,7 @@ returns-in_err-run-clause-starts g c =
 pub returns-then-processors-eq0-clause-started : goal.returns-then-processors-eq0-clause-started
 returns-then-processors-eq0-clause-started g c =
     let empty : length c.args.project.now.key.processors ≡ 0 = search rules in
-    c.in_ok-finish_run.ensures.is.3 ∙ sym empty
+    c.in_ok-finish_none.ensures.is.3 ∙ sym empty
 
 pub returns-clause-started : goal.returns-clause-started
 returns-clause-started g c =
@@ -228,9 +227,9 @@ returns-in_err-progress-clause-counted g c = λ told.
     let e = err_from_is_err_and c.from_residual.result c.from_residual.ensures.1 in
     rw (e.1, e.2) (inl (omega arith))
 
-pub returns-in_err-finish_run-clause-counted : goal.returns-in_err-finish_run-clause-counted
-returns-in_err-finish_run-clause-counted g c = λ told.
-    let e = err_from_is_err_and c.from_residual-in_err-finish_run.result c.from_residual-in_err-finish_run.ensures.1 in
+pub returns-in_err-finish_none-clause-counted : goal.returns-in_err-finish_none-clause-counted
+returns-in_err-finish_none-clause-counted g c = λ told.
+    let e = err_from_is_err_and c.from_residual-in_err-finish_none.result c.from_residual-in_err-finish_none.ensures.1 in
     rw (e.1, e.2) (inl (omega arith))
 
 pub returns-then-processors-eq0-clause-counted : goal.returns-then-processors-eq0-clause-counted

@@ -1,0 +1,4 @@
+pub mod Lines
+pub mod LinesShown
+pub mod LocatedTable
+pub mod Held

@@ -1,0 +1,6 @@
+/**
+ * A package.
+ */
+@Deprecated
+package
+p;
