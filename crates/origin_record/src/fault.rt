@@ -1,14 +1,18 @@
 // Why a record was not written or read.
 use apt_base::NoMemory;
+use thiserror::Error;
 
 /// Why there are no bytes of a record, or no record of bytes.
-#[derive(Clone, Copy, Debug, PartialEq, Eq)]
+#[derive(Clone, Copy, Debug, PartialEq, Eq, Error)]
 pub enum RecordFault {
     /// The record would have more than `MAX_RECORD` bytes.
+    #[error("the record is too large")]
     TooLarge,
     /// The bytes have no reading as a record.
+    #[error("the bytes are no record")]
     Damaged,
     /// Memory ran out.
+    #[error("out of memory")]
     Memory,
 }
 
