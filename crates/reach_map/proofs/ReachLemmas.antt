@@ -9,7 +9,7 @@ use Rattle.element_table.specs.TypeTable.{TypeTable}
 use Rattle.reach_map.specs.Candidates.{candidates}
 use Rattle.reach_map.specs.CandidateSets.{candidate_set, candidate_list}
 use Rattle.reach_map.specs.ClosedCuts.{among, HoldsAll, IsClosedSet}
-use Rattle.reach_map.specs.Reach.{IsReachList}
+use Rattle.reach_map.specs.Reach.{IsReachList, IsReachOfAll}
 use Rattle.reach_map.specs.Reaching.{is_new_source, left_with, left_after, candidates_of, candidates_behind, holds, IsReaching, missing, to_do}
 use Rattle.reach_map.proofs.CandidateSetsLemmas.{drop_next}
 use Rattle.decl_elements.proofs.Everywhere.{each_append, each_left, each_right, each_to}
@@ -96,7 +96,7 @@ module _ (table : TypeTable) where
       to_each (holds (with_names reached (candidates_behind table name))) (candidates u) (λ q m.
       has_new reached (candidates_behind table name) q (subst (λ (found : Option UnitText). T (among (candidates_of found) q)) (sym e) (to_list u q m)))
 
-  module _ (root : List ℕ) (reached : NameSet) (left : List (List ℕ)) (name : List ℕ) (so : IsReaching table root reached (left ++ name ∷ [])) where
+  module _ (roots : List (List ℕ)) (reached : NameSet) (left : List (List ℕ)) (name : List ℕ) (so : IsReaching table roots reached (left ++ name ∷ [])) where
     abbrev more : List (List ℕ)
     more = candidates_behind table name
 
@@ -114,9 +114,9 @@ module _ (table : TypeTable) where
     by_name q u false same e before out =
         each_to (λ p. T (holds reached p)) (λ p. T (holds (with_names reached more) p)) (all_grow reached more) (candidates u) (so.done q u before e (not_left q out same))
 
-    pub follows : IsReaching table root (with_names reached more) (left_after table reached left more)
+    pub follows : IsReaching table roots (with_names reached more) (left_after table reached left more)
     follows = record {
-      itself = all_grow reached more root so.itself;
+      themselves = each_to (λ q. T (holds reached q)) (λ q. T (holds (with_names reached more) q)) (all_grow reached more) roots so.themselves;
       least = λ other o closed q t.
           or_cases (among more q) (holds reached q) (subst T (holds-with_names reached more q) t) (in_closed other closed name (so.least other o closed name name_there) q)
           (so.least other o closed q);
@@ -126,24 +126,27 @@ module _ (table : TypeTable) where
 
   -- ---- the first step, and the end
 
-  pub begins : (root : List ℕ) → IsReaching table root (with_name fin.empty root) (left_with table fin.empty [] root)
-  unfolding left_after
-  begins root = record {
-    itself = has_new fin.empty (root ∷ []) root (or_left (bytes_eq root root) false (is_itself root));
-    least = λ other o closed q t. from_each other (root ∷ []) (o, tt) q (none_more q (root ∷ []) t);
-    done = λ q u t e out. absurd (subst T (contains-empty q) (was_reached fin.empty [] (root ∷ []) q t (ap is_some e) out));
-    there = all_there fin.empty [] (root ∷ []) tt;
+  pub begins : (roots : List (List ℕ)) → IsReaching table roots (with_names fin.empty roots) (left_after table fin.empty [] roots)
+  begins roots = record {
+    themselves = to_each (holds (with_names fin.empty roots)) roots (has_new fin.empty roots);
+    least = λ other o closed q t. from_each other roots o q (none_more q roots t);
+    done = λ q u t e out. absurd (subst T (contains-empty q) (was_reached fin.empty [] roots q t (ap is_some e) out));
+    there = all_there fin.empty [] roots tt;
   }
 
-  pub ends : (root : List ℕ) (reached : NameSet) → IsReaching table root reached [] → IsReachList table root (names_in reached)
-  ends root reached so =
+  pub ends : (roots : List (List ℕ)) (reached : NameSet) → IsReaching table roots reached [] → IsReachOfAll table roots (holds reached)
+  ends roots reached so = record { themselves = so.themselves; closed = λ q u t e. so.done q u t e refl; least = so.least }
+
+  -- that of one unit as a list
+  listed : (root : List ℕ) (reached : NameSet) → IsReachOfAll table (root ∷ []) (holds reached) → IsReachList table root (names_in reached)
+  listed root reached so =
       let in_list : (q : List ℕ) → T (holds reached q) → T (among (names_in reached) q) = λ q t. subst T (among-keys reached q) t in
       let of_list : (q : List ℕ) → T (among (names_in reached) q) → T (holds reached q) = λ q t. subst T (sym (among-keys reached q)) t in
       record {
         reach = record {
-          itself = in_list root so.itself;
-          closed = λ q u t e. each_to (λ p. T (holds reached p)) (λ p. T (among (names_in reached) p)) in_list (candidates u) (so.done q u (of_list q t) e refl);
-          least = λ other o closed q t. so.least other o closed q (of_list q t);
+          itself = in_list root so.themselves.0;
+          closed = λ q u t e. each_to (λ p. T (holds reached p)) (λ p. T (among (names_in reached) p)) in_list (candidates u) (so.closed q u (of_list q t) e);
+          least = λ other o closed q t. so.least other (o, tt) closed q (of_list q t);
         };
         ascending = ascends (fin.entries reached) (fin.entries_sorted reached);
       }
@@ -231,19 +234,19 @@ module _ (table : TypeTable) where
 
   -- ---- the same by equations
 
-  pub begins_by : (root : List ℕ) (reached start : NameSet) (left first : List (List ℕ)) → start ≡ fin.empty → first ≡ [] → reached ≡ with_name start root → left ≡ left_with table start first root
-      → IsReaching table root reached left
-  begins_by root reached start left first s f r l =
-      let set : reached ≡ with_name fin.empty root = r ∙ ap (λ (n : NameSet). with_name n root) s in
-      let list : left ≡ left_with table fin.empty [] root = l ∙ ap (λ (n : NameSet). left_with table n first root) s ∙ ap (λ (t : List (List ℕ)). left_with table fin.empty t root) f in
-      subst (λ (n : NameSet). IsReaching table root n left) (sym set) (subst (IsReaching table root (with_name fin.empty root)) (sym list) (begins root))
+  pub begins_by : (roots : List (List ℕ)) (reached start : NameSet) (left first : List (List ℕ)) → start ≡ fin.empty → first ≡ [] → reached ≡ with_names start roots → left ≡ left_after table start first roots
+      → IsReaching table roots reached left
+  begins_by roots reached start left first s f r l =
+      let set : reached ≡ with_names fin.empty roots = r ∙ ap (λ (n : NameSet). with_names n roots) s in
+      let list : left ≡ left_after table fin.empty [] roots = l ∙ ap (λ (n : NameSet). left_after table n first roots) s ∙ ap (λ (t : List (List ℕ)). left_after table fin.empty t roots) f in
+      subst (λ (n : NameSet). IsReaching table roots n left) (sym set) (subst (IsReaching table roots (with_names fin.empty roots)) (sym list) (begins roots))
 
-  pub follows_by : (root : List ℕ) (before after : NameSet) (held rest left : List (List ℕ)) (name : List ℕ) → held ≡ rest ++ name ∷ []
-      → after ≡ with_names before (candidates_behind table name) → left ≡ left_after table before rest (candidates_behind table name) → IsReaching table root before held
-      → IsReaching table root after left
-  follows_by root before after held rest left name h a l so =
-      let next = follows root before rest name (subst (IsReaching table root before) h so) in
-      subst (λ (n : NameSet). IsReaching table root n left) (sym a) (subst (IsReaching table root (with_names before (candidates_behind table name))) (sym l) next)
+  pub follows_by : (roots : List (List ℕ)) (before after : NameSet) (held rest left : List (List ℕ)) (name : List ℕ) → held ≡ rest ++ name ∷ []
+      → after ≡ with_names before (candidates_behind table name) → left ≡ left_after table before rest (candidates_behind table name) → IsReaching table roots before held
+      → IsReaching table roots after left
+  follows_by roots before after held rest left name h a l so =
+      let next = follows roots before rest name (subst (IsReaching table roots before) h so) in
+      subst (λ (n : NameSet). IsReaching table roots n left) (sym a) (subst (IsReaching table roots (with_names before (candidates_behind table name))) (sym l) next)
 
   pub smaller_by : (before after : NameSet) (held rest left : List (List ℕ)) (name : List ℕ) → held ≡ rest ++ name ∷ []
       → after ≡ with_names before (candidates_behind table name) → left ≡ left_after table before rest (candidates_behind table name)
@@ -254,11 +257,14 @@ module _ (table : TypeTable) where
       (subst (λ (t : List (List ℕ)). to_do table (with_names before (candidates_behind table name)) t < to_do table before (rest ++ name ∷ [])) (sym l)
       (smaller before rest name (candidates_behind table name))))
 
-  pub ends_by : {E : Type 0} (root : List ℕ) (reached : NameSet) (left : List (List ℕ)) (list : Result (List (List ℕ)) E) → length left ≡ 0 → IfOk list (λ names. names ≡ names_in reached)
-      → IsReaching table root reached left → IfOk list (λ names. IsReachList table root names)
-  ends_by root reached [] (Ok names) e is so = subst (IsReachList table root) (sym is) (ends root reached so)
-  ends_by root reached [] (Err fault) e is so = tt
-  ends_by root reached (name ∷ left) list e is so = absurd (omega arith)
+  pub ends_by : (roots : List (List ℕ)) (reached : NameSet) (left : List (List ℕ)) → length left ≡ 0 → IsReaching table roots reached left → IsReachOfAll table roots (holds reached)
+  ends_by roots reached [] e so = ends roots reached so
+  ends_by roots reached (name ∷ left) e so = absurd (omega arith)
+
+  pub listed_by : {E : Type 0} (root : List ℕ) (units : List (List ℕ)) (reached : NameSet) (list : Result (List (List ℕ)) E) → units ≡ root ∷ [] → IfOk list (λ names. names ≡ names_in reached)
+      → IsReachOfAll table units (holds reached) → IfOk list (λ names. IsReachList table root names)
+  listed_by root units reached (Ok names) one is so = subst (IsReachList table root) (sym is) (listed root reached (subst (λ (roots : List (List ℕ)). IsReachOfAll table roots (holds reached)) one so))
+  listed_by root units reached (Err fault) one is so = tt
 
 -- nothing is left where nothing was taken off
 pub nothing_left : (held rest : List (List ℕ)) (n : ℕ) → held ≡ rest ++ [] → rest ≡ take (n - 1) held → n ≡ 0 → length held ≡ 0

@@ -38,11 +38,11 @@ left_behind table reached left name = left_after table reached left (candidates_
 abbrev pub holds : NameSet → List ℕ → Bool
 holds reached name = fin.contains_key reached name
 
--- where a gathering stands: each closed set with the root has what is reached, and of each source that is reached and not left the candidates are reached
-pub record IsReaching (table : TypeTable) (root : List ℕ) (reached : NameSet) (left : List (List ℕ)) : Type 0 where
-  pub itself : T (holds reached root)
+-- where a gathering stands: each closed set with the roots has what is reached, and of each source that is reached and not left the candidates are reached
+pub record IsReaching (table : TypeTable) (roots : List (List ℕ)) (reached : NameSet) (left : List (List ℕ)) : Type 0 where
+  pub themselves : HoldsAll (holds reached) roots
   pub least :
-      (other : List ℕ → Bool) → T (other root) → IsClosedSet table other → (name : List ℕ) → T (holds reached name) → T (other name)
+      (other : List ℕ → Bool) → HoldsAll other roots → IsClosedSet table other → (name : List ℕ) → T (holds reached name) → T (other name)
   pub done :
       (name : List ℕ) (u : UnitText) → T (holds reached name) → fin.get table.source name ≡ Some u → among left name ≡ false
       → HoldsAll (holds reached) (candidates u)

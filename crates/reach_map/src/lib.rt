@@ -4,7 +4,7 @@
 //!
 //! `candidates` lists the candidates of a unit, in time that is linear in what the unit declares but for the logarithm of how many candidates it has.
 //!
-//! `reach` lists the reach of a unit, and `agrees` says whether two tables have the same source units under some names.
+//! `reach` lists the reach of a unit, `reach_of_all` has that of several units together, and `agrees` says whether two tables have the same source units under some names.
 //!
 //! Not promised: that memory is there.
 #![tactic(auto)]
@@ -29,7 +29,7 @@ use apt_base::{List, Name};
 use decl_tree::Unit;
 use element_table::{Part, Table};
 pub use gathered::candidates;
-pub use reaching::reach;
+pub use reaching::{reach, reach_of_all};
 
 fn is_among(names: &[Name], name: &Name) -> bool
     ensures { result ≡ among names.now name.now }

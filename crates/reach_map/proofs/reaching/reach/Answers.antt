@@ -1,24 +1,6 @@
-use Rattle.reach_map.proofs.ReachLemmas.{begins_by, follows_by, smaller_by, nothing_left, ends_by}
+use Rattle.reach_map.proofs.ReachLemmas.{listed_by}
 use Rattle.reach_map.proofs.reaching.reach.Goals as goal
-
-pub loop-name-init : goal.loop-name-init
-loop-name-init c =
-    begins_by c.args.table.now c.args.unit.now c.visit.new.reached c.new-reached.result c.visit.new.left.items c.new-left.result.items c.new-reached.ensures c.new-left.ensures.items
-    c.in_ok-visit.ensures.reached c.in_ok-visit.ensures.left
-
-pub loop-name-preserved : goal.loop-name-preserved
-loop-name-preserved c =
-    follows_by c.args.table.now c.args.unit.now c.loop-name.reached c.follow.new.reached c.loop-name.left.items c.pop.new.self.items c.follow.new.left.items c.in-Some.name c.in-Some.ensures.items
-    c.in_ok-follow.ensures.reached c.in_ok-follow.ensures.left c.loop-name.invariant
-
-pub loop-name-smaller : goal.loop-name-smaller
-loop-name-smaller c =
-    smaller_by c.args.table.now c.loop-name.reached c.follow.new.reached c.loop-name.left.items c.pop.new.self.items c.follow.new.left.items c.in-Some.name c.in-Some.ensures.items
-    c.in_ok-follow.ensures.reached c.in_ok-follow.ensures.left
 
 pub returns : goal.returns
 returns c =
-    let held = c.loop-name.left.items in
-    let rest = c.pop.new.self.items in
-    let none = nothing_left held rest _ (rw c.in_default.is at c.pop.ensures.items) c.pop.ensures.rest (rw c.in_default.is at c.pop.ensures.cases).0 in
-    ends_by c.args.table.now c.args.unit.now c.loop-name.reached held c.list.result none c.list.ensures c.loop-name.invariant
+    listed_by c.args.table.now c.args.unit.now c.from_ref.result.now c.in_ok-reached.reached c.list.result c.from_ref.ensures.value c.list.ensures c.in_ok-reached.ensures
