@@ -1,1 +1,2 @@
+pub mod NamesOutside
 pub mod ReachedLemmas

@@ -19,6 +19,35 @@ use Rattle.beyond_reach.specs.Beyond.{LeadsTo, IsReached, IsOutside, SomeOutside
 use Rattle.beyond_reach.specs.Reached.{behind_all, with_candidates, after_steps, reached_from, is_outside, some_outside, asked_beyond}
 use Rattle.beyond_reach.specs.Decided.{BeyondLaws, BeyondIsDecided}
 
+-- ---- tests
+
+pub not_both : (b : Bool) → T (not b) → T b → ⊥
+not_both true n t = n
+not_both false n t = t
+
+pub not_is : (b : Bool) → (T b → ⊥) → T (not b)
+not_is true f = absurd (f tt)
+not_is false f = tt
+
+false_of : (b : Bool) → T (not b) → b ≡ false
+false_of true n = absurd n
+false_of false n = refl
+
+pub both_of : (a b : Bool) → T (a && b) → T a × T b
+both_of true b t = (tt, t)
+both_of false b t = absurd t
+
+pub both_to : (a b : Bool) → T a → T b → T (a && b)
+both_to true b s t = t
+both_to false b s t = s
+
+true_of : (b : Bool) → T b → b ≡ true
+true_of true t = refl
+true_of false t = absurd t
+
+of_true : (b : Bool) → b ≡ true → T b
+of_true b e = subst T (sym e) tt
+
 -- ---- lists of names
 
 -- what stands in one of the lists
@@ -44,7 +73,7 @@ from_flat f (n ∷ names) q m =
 
 -- ---- candidates as a list
 
-no_more : (q : List ℕ) (list : List (List ℕ)) → T (holds (with_names fin.empty list) q) → T (among list q)
+pub no_more : (q : List ℕ) (list : List (List ℕ)) → T (holds (with_names fin.empty list) q) → T (among list q)
 no_more q list t =
     or_cases (among list q) (holds fin.empty q) (subst T (holds-with_names fin.empty list q) t) (λ m. m) (λ h. absurd (subst T (contains-empty q) h))
 
@@ -181,40 +210,24 @@ module _ (table : TypeTable) where
 
     -- ---- the law
 
-    found_is_reached : (name : List ℕ) → T (fin.contains_key (reached_from table units) name) → IsReached table units name
+    pub found_is_reached : (name : List ℕ) → T (fin.contains_key (reached_from table units) name) → IsReached table units name
     unfolding reached_from
     found_is_reached name t = all_steps (suc (length (fin.keys table.source))) (with_names fin.empty units) at_first name t
 
-    reached_is_found : (name : List ℕ) → IsReached table units name → T (fin.contains_key (reached_from table units) name)
+    pub reached-is_closed : IsClosedSet table (holds (reached_from table units))
     unfolding reached_from
-    reached_is_found name (unit, (there, leads)) =
-        let n : ℕ = suc (length (fin.keys table.source)) in
+    reached-is_closed =
         let most = most_missing (with_names fin.empty units) (fin.keys table.source) in
-        leads (holds (after_steps table n (with_names fin.empty units)))
-        (all_there n (with_names fin.empty units) unit (has_new fin.empty units unit there))
-        (closes n (with_names fin.empty units) (omega (arith, most)))
+        closes (suc (length (fin.keys table.source))) (with_names fin.empty units) (omega (arith, most))
+
+    pub units_are_found : (unit : List ℕ) → T (among units unit) → T (holds (reached_from table units) unit)
+    unfolding reached_from
+    units_are_found unit m = all_there (suc (length (fin.keys table.source))) (with_names fin.empty units) unit (has_new fin.empty units unit m)
+
+    pub reached_is_found : (name : List ℕ) → IsReached table units name → T (fin.contains_key (reached_from table units) name)
+    reached_is_found name (unit, (m, leads)) = leads (holds (reached_from table units)) (units_are_found unit m) reached-is_closed
 
     -- ---- names outside
-
-    not_both : (b : Bool) → T (not b) → T b → ⊥
-    not_both true n t = n
-    not_both false n t = t
-
-    not_is : (b : Bool) → (T b → ⊥) → T (not b)
-    not_is true f = absurd (f tt)
-    not_is false f = tt
-
-    false_of : (b : Bool) → T (not b) → b ≡ false
-    false_of true n = absurd n
-    false_of false n = refl
-
-    both_of : (a b : Bool) → T (a && b) → T a × T b
-    both_of true b t = (tt, t)
-    both_of false b t = absurd t
-
-    both_to : (a b : Bool) → T a → T b → T (a && b)
-    both_to true b s t = t
-    both_to false b s t = s
 
     outside_is : (name : List ℕ) → T (is_outside table (reached_from table units) name) → IsOutside table units name
     outside_is name t =
@@ -243,13 +256,6 @@ module _ (table : TypeTable) where
         or_cases (bytes_eq name n) (among names name) m
         (λ e. or_left (is_outside table (reached_from table units) n) (some_outside table units names) (subst (λ x. T (is_outside table (reached_from table units) x)) (same_as name n e) (is_outside-of name out)))
         (λ r. or_right (is_outside table (reached_from table units) n) (some_outside table units names) (is_some_of names (name, (r, out))))
-
-    true_of : (b : Bool) → T b → b ≡ true
-    true_of true t = refl
-    true_of false t = absurd t
-
-    of_true : (b : Bool) → b ≡ true → T b
-    of_true b e = subst T (sym e) tt
 
     beyond_is : (kind : Kind) (noted : Noted) → T (asked_beyond kind table units noted) → AskedBeyond kind table units noted
     beyond_is Isolating noted t = or_cases (some_outside table units noted.asked) noted.wide t (λ o. inl (some_is noted.asked o)) (λ w. inr (true_of noted.wide w))

@@ -3,10 +3,17 @@
 //!
 //! `specs/Beyond` says it of a question and of all questions of a round, by the reach of units: each closed set that
 //! holds a unit holds all to which it leads. `specs/Reached` finds that set step by step, and `beyond_is_decided`
-//! carries the law that both say the same.
+//! carries the law that both say the same. `is_beyond` decides it of the questions of a round.
+//!
+//! Not promised: that memory is there.
 #![tactic(auto)]
 
+mod outside;
+mod round_questions;
+
 ghost use Rattle.beyond_reach.specs.Decided.{BeyondIsDecided};
+
+pub use round_questions::is_beyond;
 
 /// The set that is found step by step from some units has exactly the names to which one of them leads; so whether a
 /// question of a round was beyond reach is decided by it.
