@@ -1,0 +1,10 @@
+pub mod OnceEach
+pub mod Ascending
+pub mod InOrder
+pub mod Parted
+pub mod EachEntry
+pub mod EntriesInOrder
+pub mod KeptFiles
+pub mod OrderWithin
+pub mod EntryFields
+pub mod NoteLawsProofs
