@@ -8,3 +8,4 @@ pub mod KeptFiles
 pub mod OrderWithin
 pub mod EntryFields
 pub mod NoteLawsProofs
+pub mod RecordLawsProofs

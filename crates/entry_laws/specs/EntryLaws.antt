@@ -13,6 +13,7 @@ use Rattle.origin_record.specs.Conditions.{is_numbered, stores_in, paths_in, are
 use Rattle.run_entries.specs.declared.processed.Processed.{Processed}
 use Rattle.run_entries.specs.Entries.{stored_file, entries_of}
 use Rattle.run_entries.specs.Maps.{Stores}
+use Rattle.run_entries.specs.Stands.{HasAscendingNumbers}
 use Rattle.entry_laws.specs.Asked.{AreInOrder, files_of, HaveOwnPaths, HaveOwnNumbers, is_within, HasFields}
 
 -- ---- order
@@ -31,6 +32,10 @@ abbrev pub EntriesHaveOrder : Type 0
 EntriesHaveOrder =
     (stores : Stores) (processed : List Processed) → AreInOrder processed → HaveOwnPaths processed
     → AllByRecursion HasOrder (entries_of stores processed)
+
+-- the numbers of the messages of an entry ascend
+abbrev pub MessagesAreNumbered : Type 0
+MessagesAreNumbered = (stores : Stores) (processed : List Processed) → AllByRecursion HasAscendingNumbers (entries_of stores processed)
 
 -- ---- files
 

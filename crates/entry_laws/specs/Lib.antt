@@ -1,3 +1,4 @@
 pub mod Asked
 pub mod EntryLaws
 pub mod NoteLaws
+pub mod RecordLaws

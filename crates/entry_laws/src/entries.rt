@@ -1,5 +1,5 @@
 // The laws on entries.
-ghost use Rattle.entry_laws.specs.EntryLaws.{EntriesAscend, EntriesHaveOrder, FilesAreKept, PathsAreDistinct, StoresAreDistinct, EntriesAreNumbered, EntriesFit};
+ghost use Rattle.entry_laws.specs.EntryLaws.{EntriesAscend, EntriesHaveOrder, MessagesAreNumbered, FilesAreKept, PathsAreDistinct, StoresAreDistinct, EntriesAreNumbered, EntriesFit};
 
 /// The entries of what was done in order ascend strictly by round, processor and origin; an absent origin comes first.
 pub fn entries_ascend()
@@ -10,6 +10,11 @@ pub fn entries_ascend()
 /// strictly, where no two files have one path.
 pub fn entries_have_order()
     ensures { EntriesHaveOrder }
+{}
+
+/// The numbers of the messages of each entry ascend.
+pub fn messages_are_numbered()
+    ensures { MessagesAreNumbered }
 {}
 
 /// The files of the entries are those that processors created: each stands in exactly one entry, once, and no other

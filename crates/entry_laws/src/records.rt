@@ -1,0 +1,8 @@
+// The law on records with what a run left.
+ghost use Rattle.entry_laws.specs.RecordLaws.{RunsAreRecorded};
+
+/// A record that can be read without entries and notes can be read with those of what was done, where that can be
+/// recorded: so its bytes are read again as it.
+pub fn runs_are_recorded()
+    ensures { RunsAreRecorded }
+{}
