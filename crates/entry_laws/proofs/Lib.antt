@@ -9,3 +9,4 @@ pub mod OrderWithin
 pub mod EntryFields
 pub mod NoteLawsProofs
 pub mod RecordLawsProofs
+pub mod SpelledEntries

@@ -1,8 +1,10 @@
--- The law on records: one that can be read without entries and notes can be read with those of a run.
-use Rattle.std.specs.Prelude.{◌≡◌, true, nat_le, List, [], length}
+-- The laws on records: one that can be read without entries and notes can be read with those of a run.
+use Rattle.std.specs.Prelude.{◌≡◌, ◌≤◌, true, nat_le, List, [], length}
 use Rattle.std.specs.List.{list_all, AllByRecursion}
 use Rattle.apt_base.specs.Forms.{is_short}
+use Rattle.record_forms.specs.RecordTable.{spelling}
 use Rattle.record_forms.specs.declared.record.Record.{Record}
+use Rattle.origin_record.specs.Conditions.{most_bytes}
 use Rattle.origin_record.specs.RecordReadings.{IsRecord}
 use Rattle.run_entries.specs.declared.processed.Processed.{Processed}
 use Rattle.run_entries.specs.Entries.{entries_of}
@@ -32,3 +34,7 @@ abbrev pub RunsAreRecorded : Type 0
 RunsAreRecorded =
     (value : Record) (stores : Stores) (processed : List Processed) → IsRecord (bare value) → CanBeRecorded value stores processed
     → IsRecord (with_run value stores processed)
+
+-- the entries of a record are not too many to be counted where its bytes are not too many
+abbrev pub EntriesAreShort : Type 0
+EntriesAreShort = (value : Record) → length (spelling value) ≤ most_bytes → is_short value.entries ≡ true

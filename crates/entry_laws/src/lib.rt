@@ -19,4 +19,4 @@ pub use entries::{
     messages_are_numbered, paths_are_distinct, stores_are_distinct,
 };
 pub use notes::{notes_are_below, notes_ascend, notes_fit};
-pub use records::runs_are_recorded;
+pub use records::{entries_are_short, runs_are_recorded};
