@@ -50,9 +50,6 @@ pub record Noted : Type 0 where
   pub wide : Bool
   pub gathered : Bool
 
-abbrev pub noted_of : List (List ℕ) → Bool → Bool → Noted
-noted_of asked wide gathered = record { asked = asked; wide = wide; gathered = gathered }
-
 -- one of them is beyond reach
 abbrev pub AskedBeyond : Kind → TypeTable → List (List ℕ) → Noted → Type 0
 AskedBeyond kind table units noted = IsBeyondBy kind (SomeOutside table units noted.asked) (noted.wide ≡ true) (noted.gathered ≡ true)

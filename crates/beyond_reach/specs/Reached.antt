@@ -42,3 +42,7 @@ is_beyond_by Undeclared outside wide gathered = false
 
 abbrev pub asked_beyond : Kind → TypeTable → List (List ℕ) → Noted → Bool
 asked_beyond kind table units noted = is_beyond_by kind (some_outside table units noted.asked) noted.wide noted.gathered
+
+-- by what is noted, part for part
+abbrev pub round_beyond : Kind → TypeTable → List (List ℕ) → List (List ℕ) → Bool → Bool → Bool
+round_beyond kind table units asked wide gathered = asked_beyond kind table units (record { asked = asked; wide = wide; gathered = gathered })

@@ -1,7 +1,6 @@
 // Whether the questions of a processor in a round were beyond reach.
 ghost use Rattle.std.specs.Prelude.{◌≡◌, true, false, IfOk};
-ghost use Rattle.beyond_reach.specs.Beyond.{noted_of};
-ghost use Rattle.beyond_reach.specs.Reached.{is_beyond_by, asked_beyond};
+ghost use Rattle.beyond_reach.specs.Reached.{is_beyond_by, round_beyond};
 
 use crate::outside::some_outside;
 use apt_base::{Kind, Name, NoMemory};
@@ -49,7 +48,7 @@ pub fn is_beyond(
     wide: bool,
     gathered: bool,
 ) -> Result<bool, NoMemory>
-    ensures { IfOk result (λ it. it ≡ asked_beyond kind table.now units.now (noted_of asked.now wide gathered)) }
+    ensures { IfOk result (λ beyond. beyond ≡ round_beyond kind table.now units.now asked.now wide gathered) }
 {
     if asked_for_all(kind, wide, gathered) {
         return Ok(true);
