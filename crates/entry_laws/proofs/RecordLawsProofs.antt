@@ -1,5 +1,5 @@
 -- The law on records: the laws on entries and notes put together.
-use Rattle.std.proofs.Common.{◌≡◌, Bool, true, ◌&&◌, List, length, refl}
+use Rattle.std.proofs.Common.{◌≡◌, Bool, true, ◌&&◌, List, length}
 use Rattle.std.proofs.lemmas.Bool.{and_parts, and_from}
 use Rattle.record_forms.specs.Forms.{list, ascending}
 use Rattle.record_forms.specs.RecordTable as form

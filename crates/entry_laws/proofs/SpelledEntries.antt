@@ -1,13 +1,12 @@
 -- Each entry has a byte at least, so that there are no more entries than bytes.
-use Rattle.std.proofs.Common.{◌≡◌, ℕ, ◌+◌, ◌≤◌, ◌<◌, true, List, [], ◌∷◌, ◌++◌, length, refl, length-append, arith}
+use Rattle.std.proofs.Common.{◌≡◌, ℕ, ◌+◌, ◌≤◌, List, [], ◌∷◌, ◌++◌, length, refl, length-append, arith}
 use Rattle.std.specs.List.{flat_map}
 use Rattle.std.proofs.lemmas.Bool.{lt-ltb}
 use Rattle.apt_base.specs.Forms.{count_form, u16_form, list_form, opt_form, name_form}
-use Rattle.record_forms.specs.Forms.{u32_form, list}
+use Rattle.record_forms.specs.Forms.{u32_form}
 use Rattle.record_forms.specs.RecordTable as form
-use Rattle.record_forms.specs.RecordTable.{entry, record_form, record_head, spelling}
+use Rattle.record_forms.specs.RecordTable.{entry, record_form, spelling}
 use Rattle.record_forms.specs.declared.record.Entry.{Entry}
-use Rattle.record_forms.specs.declared.record.Record.{Record}
 use Rattle.entry_laws.specs.RecordLaws.{EntriesAreShort}
 
 longer : {A : Type 0} (xs ys : List A) → 1 ≤ length xs → 1 ≤ length (xs ++ ys)
