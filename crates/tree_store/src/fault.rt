@@ -8,16 +8,13 @@ use crate::ConfigFile;
 use apt_base::{NoMemory, What};
 use apt_outside::Fault;
 use std::alloc::{AllocError, AllocFailed};
-use thiserror::Error;
 
 /// Why a call of the store was refused.
-#[derive(Clone, Copy, Debug, PartialEq, Eq, Error)]
+#[derive(Clone, Copy, Debug, PartialEq, Eq)]
 pub enum StoreFault {
     /// The tree failed. It comes only where the tree's count of faults rose in the call.
-    #[error("the tree failed")]
     Failed,
     /// There was no memory.
-    #[error("out of memory")]
     Memory,
 }
 
