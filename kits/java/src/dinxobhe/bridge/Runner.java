@@ -6,7 +6,6 @@ import java.io.BufferedOutputStream;
 import java.io.IOException;
 import java.io.InputStream;
 import java.io.OutputStream;
-import java.io.UncheckedIOException;
 import javax.annotation.processing.Processor;
 
 /** Runs a processor over two streams. */
@@ -21,7 +20,8 @@ public final class Runner {
      */
     public static boolean run(String name, Answers.Claim claim, InputStream from, OutputStream to) {
         try {
-            Class<?> named = Class.forName(name);
+            // It is made ready where an object of it is made: what fails then is a failure of the processor.
+            Class<?> named = Class.forName(name, false, Runner.class.getClassLoader());
             if (!Processor.class.isAssignableFrom(named)) {
                 System.err.println(name + " is no annotation processor");
                 return false;
@@ -35,7 +35,9 @@ public final class Runner {
             System.err.println("no class " + name + " on the class path");
         } catch (ReflectiveOperationException e) {
             System.err.println(name + " can't be made: " + e);
-        } catch (IOException | UncheckedIOException e) {
+        } catch (LinkageError e) {
+            System.err.println(name + " can't be loaded: " + e);
+        } catch (IOException e) {
             System.err.println(e.getMessage());
         }
         return false;

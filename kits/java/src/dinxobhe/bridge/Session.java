@@ -4,10 +4,11 @@ import dinxobhe.frames.Answers;
 import dinxobhe.frames.Frame;
 import dinxobhe.frames.Tag;
 import java.io.IOException;
-import java.io.UncheckedIOException;
+import java.lang.reflect.InvocationTargetException;
 import java.util.List;
 import java.util.Optional;
 import java.util.Set;
+import java.util.stream.Collectors;
 import javax.annotation.processing.Processor;
 import javax.lang.model.SourceVersion;
 import javax.lang.model.element.TypeElement;
@@ -17,9 +18,11 @@ import javax.tools.Diagnostic;
 final class Session {
     private final Talk talk;
     private final Class<? extends Processor> type;
-    private final Answers.Claim claim;
+    private Answers.Claim claim;
     private Environment environment;
     private Supported supported;
+    /** Why it can't say what it supports before it is initialised with what the host answers. */
+    private Optional<Throwable> whyLate = Optional.empty();
     /** The processor, once the first round has begun. */
     private Processor processor;
     private boolean isCalled;
@@ -37,8 +40,7 @@ final class Session {
             return;
         }
         check(init.get(), Tag.INIT);
-        Environment before = new Environment(new NothingKnown(), init.get());
-        supported = Supported.by(instance(), before);
+        supported = supportedBefore(new Environment(new NothingKnown(), init.get()));
         talk.say(supported.hello(ProcessorKind.optionsOf(type), claim));
         environment = new Environment(talk, init.get());
         for (Optional<Frame> round = talk.next(); round.isPresent(); round = talk.next()) {
@@ -59,17 +61,32 @@ final class Session {
         return type.getDeclaredConstructor().newInstance();
     }
 
+    /**
+     * What the processor supports, as it says that before the first round. One that fails is asked again in
+     * the first round. Until then it supports all annotations, and it never claims them.
+     */
+    private Supported supportedBefore(Environment before) throws ReflectiveOperationException {
+        try {
+            return Supported.by(instance(), before);
+        } catch (InvocationTargetException | RuntimeException | Error e) {
+            whyLate = Optional.of(e);
+            claim = Answers.Claim.NEVER;
+            return Supported.everything();
+        }
+    }
+
     /** Runs the processor in a round. Whether it claims what it was offered. */
-    private boolean claimed(Frame round) {
+    private boolean claimed(Frame round) throws IOException {
         boolean isClaimed = claim == Answers.Claim.ALWAYS;
         if (hasFailed) {
             return isClaimed;
         }
         try {
             begin();
-            List<String> names = round.list(3, String.class);
+            List<String> names = round.list(3, String.class).stream().filter(supported::isSupported)
+                .collect(Collectors.toList());
             Set<TypeElement> offered = environment.model().offered(names, supported::isSupported);
-            if (offered.isEmpty() && !names.isEmpty() && !isCalled) {
+            if (offered.isEmpty() && !supported.isEverything() && !isCalled) {
                 return isClaimed;
             }
             isCalled = true;
@@ -77,10 +94,9 @@ final class Session {
             if (round.truth(1)) {
                 warnOfUnclosed();
             }
-            return claims;
-        } catch (UncheckedIOException e) {
-            throw e;
+            return claims && whyLate.isEmpty();
         } catch (Exception | Error e) {
+            talk.checkIsWhole();
             fail(e);
             return isClaimed;
         }
@@ -94,8 +110,7 @@ final class Session {
         processor.init(environment);
         // They are asked again, since javac asks after this too, and some print warnings then.
         SourceVersion version = processor.getSupportedSourceVersion();
-        processor.getSupportedAnnotationTypes();
-        processor.getSupportedOptions();
+        supported = Supported.asked(processor);
         if (version.compareTo(environment.getSourceVersion()) < 0) {
             warn("Supported source version '" + version + "' from annotation processor '" + type.getName()
                 + "' less than -source '" + environment.getSourceVersion().ordinal() + "'");
@@ -114,8 +129,13 @@ final class Session {
         environment.getMessager().printMessage(Diagnostic.Kind.WARNING, text);
     }
 
-    private void fail(Throwable thrown) {
+    private void fail(Throwable caught) {
         hasFailed = true;
+        // A class that can't be made ready says why the first time alone.
+        Throwable first = processor == null ? whyLate.orElse(caught) : caught;
+        boolean isAround =
+            first instanceof InvocationTargetException || first instanceof ExceptionInInitializerError;
+        Throwable thrown = isAround && first.getCause() != null ? first.getCause() : first;
         thrown.printStackTrace();
         environment.getMessager().printMessage(Diagnostic.Kind.ERROR, Failure.text(type.getName(), thrown));
     }

@@ -27,13 +27,20 @@ final class Supported {
     static Supported by(Processor processor, ProcessingEnvironment environment) {
         try {
             return asked(processor);
-        } catch (RuntimeException e) {
+        } catch (RuntimeException | Error e) {
             processor.init(environment);
             return asked(processor);
         }
     }
 
-    private static Supported asked(Processor processor) {
+    /** Supports all annotations, and no options. */
+    static Supported everything() {
+        Supported supported = new Supported();
+        supported.patterns.add(ANY);
+        return supported;
+    }
+
+    static Supported asked(Processor processor) {
         Supported supported = new Supported();
         for (String pattern : processor.getSupportedAnnotationTypes()) {
             // The name of a module may stand in front, and the host has none.
@@ -52,6 +59,11 @@ final class Supported {
 
     private static String front(String pattern) {
         return pattern.substring(0, pattern.length() - ANY_BELOW.length());
+    }
+
+    /** Whether all annotations are supported, and rounds without any. */
+    boolean isEverything() {
+        return patterns.contains(ANY);
     }
 
     /** Whether an annotation of this name is supported. */

@@ -46,6 +46,13 @@ final class Talk implements Host {
         say(done);
     }
 
+    /** Throws what keeps anything more from being read or written, if there is such a fault. */
+    synchronized void checkIsWhole() throws IOException {
+        if (fault != null) {
+            throw fault;
+        }
+    }
+
     /** Prints how many exchanges there were, if that was asked for. */
     synchronized void printExchanges(PrintStream to) {
         exchanges.ifPresent(counts -> counts.print(to));
