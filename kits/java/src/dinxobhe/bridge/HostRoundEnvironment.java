@@ -3,9 +3,11 @@ package dinxobhe.bridge;
 import dinxobhe.frames.Frame;
 import dinxobhe.model.Model;
 import java.lang.annotation.Annotation;
+import java.util.Arrays;
 import java.util.Collections;
 import java.util.LinkedHashSet;
 import java.util.List;
+import java.util.Optional;
 import java.util.Set;
 import javax.annotation.processing.RoundEnvironment;
 import javax.lang.model.element.Element;
@@ -49,21 +51,34 @@ final class HostRoundEnvironment implements RoundEnvironment {
 
     @Override
     public Set<? extends Element> getElementsAnnotatedWith(TypeElement annotation) {
-        if (annotation.getKind() != ElementKind.ANNOTATION_TYPE) {
-            throw new IllegalArgumentException(NO_ANNOTATION + annotation);
+        return getElementsAnnotatedWithAny(annotation);
+    }
+
+    @Override
+    public Set<? extends Element> getElementsAnnotatedWithAny(TypeElement... annotations) {
+        for (TypeElement annotation : annotations) {
+            check(annotation.getKind() == ElementKind.ANNOTATION_TYPE, annotation);
         }
-        return hasRoots ? set(model.annotatedWith(annotation)) : Set.of();
+        return hasRoots ? set(model.annotatedWithAny(Arrays.asList(annotations))) : Set.of();
     }
 
     @Override
     public Set<? extends Element> getElementsAnnotatedWith(Class<? extends Annotation> annotation) {
-        if (!annotation.isAnnotation()) {
-            throw new IllegalArgumentException(NO_ANNOTATION + annotation);
+        return getElementsAnnotatedWithAny(Set.of(annotation));
+    }
+
+    @Override
+    public Set<? extends Element> getElementsAnnotatedWithAny(Set<Class<? extends Annotation>> annotations) {
+        annotations.forEach(annotation -> check(annotation.isAnnotation(), annotation));
+        return getElementsAnnotatedWithAny(annotations.stream().map(Class::getCanonicalName)
+            .flatMap(name -> Optional.ofNullable(name).flatMap(model::annotation).stream())
+            .toArray(TypeElement[]::new));
+    }
+
+    private static void check(boolean isAnnotation, Object argument) {
+        if (!isAnnotation) {
+            throw new IllegalArgumentException(NO_ANNOTATION + argument);
         }
-        String name = annotation.getCanonicalName();
-        return name == null ? Set.of()
-            : model.annotation(name).<Set<? extends Element>>map(this::getElementsAnnotatedWith)
-                .orElse(Set.of());
     }
 
     @Override

@@ -3,13 +3,17 @@ package dinxobhe.model;
 import dinxobhe.frames.Info;
 import dinxobhe.frames.Mirror;
 import dinxobhe.frames.Ref;
+import java.util.Collection;
+import java.util.Comparator;
 import java.util.List;
 import java.util.Map;
 import java.util.Optional;
 import java.util.Set;
 import java.util.concurrent.ConcurrentHashMap;
 import java.util.function.Predicate;
+import java.util.stream.Collectors;
 import javax.lang.model.element.Element;
+import javax.lang.model.element.ElementKind;
 import javax.lang.model.element.PackageElement;
 import javax.lang.model.element.TypeElement;
 import javax.lang.model.util.Elements;
@@ -135,14 +139,18 @@ public final class Model {
         return typeElement(name).map(type -> type);
     }
 
+    /** The round's roots in the order of javac: the packages behind the types. */
     public List<Element> roots() {
-        return elements(questions.roots(), Element.class);
+        return elements(questions.roots(), Element.class).stream()
+            .sorted(Comparator.comparing(root -> root.getKind() == ElementKind.PACKAGE))
+            .collect(Collectors.toList());
     }
 
-    /** The elements of the round's roots on which an annotation is present, in the order of javac. */
-    public List<Element> annotatedWith(TypeElement annotation) {
-        return annotation instanceof HostTypeElement
-            ? new Presence(this).annotatedWith((HostTypeElement) annotation) : List.of();
+    /** The elements in the round's roots on which one of some annotations is present, in javac's order. */
+    public List<Element> annotatedWithAny(Collection<? extends TypeElement> annotations) {
+        return new Presence(this).annotatedWithAny(annotations.stream()
+            .filter(one -> one instanceof HostTypeElement).map(HostTypeElement.class::cast)
+            .collect(Collectors.toList()));
     }
 
     /**

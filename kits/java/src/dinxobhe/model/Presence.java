@@ -2,6 +2,7 @@ package dinxobhe.model;
 
 import dinxobhe.frames.Ref;
 import java.util.ArrayList;
+import java.util.Collection;
 import java.util.LinkedHashSet;
 import java.util.List;
 import java.util.Optional;
@@ -36,14 +37,21 @@ final class Presence {
         return offered;
     }
 
-    List<Element> annotatedWith(HostTypeElement annotation) {
+    /** The elements on which one of some annotations is present, in the order of javac. */
+    List<Element> annotatedWithAny(Collection<HostTypeElement> annotations) {
+        return new RootOrder(model).of(annotations.stream().flatMap(one -> annotatedWith(one).stream())
+            .distinct().collect(Collectors.toList()));
+    }
+
+    /** The elements on which an annotation is present. */
+    private List<HostElement> annotatedWith(HostTypeElement annotation) {
         List<Ref> refs = new ArrayList<>(annotatedBy(annotation));
         Optional<HostTypeElement> contained = contained(annotation);
         contained.ifPresent(one -> refs.addAll(annotatedBy(one)));
         List<HostElement> elements = model.elements(refs, HostElement.class);
         boolean isSure = contained.isEmpty() && !mayDiffer(annotation);
-        return new RootOrder(model).of(elements.stream().distinct()
-            .filter(one -> isSure || isPresent(annotation, one)).collect(Collectors.toList()));
+        return elements.stream().filter(one -> isSure || isPresent(annotation, one))
+            .collect(Collectors.toList());
     }
 
     private List<Ref> annotatedBy(HostTypeElement annotation) {

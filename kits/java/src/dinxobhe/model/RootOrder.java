@@ -15,15 +15,17 @@ final class RootOrder {
         this.model = model;
     }
 
-    /** Elements with those of each unit in this order, and the units by their names. */
+    /** Elements with those of each unit in this order, the units by their names, and packages behind them. */
     List<Element> of(List<HostElement> found) {
         Map<String, List<HostElement>> byUnit = new TreeMap<>();
         found.forEach(one -> byUnit.computeIfAbsent(one.ref().unit(), key -> new ArrayList<>()).add(one));
         List<Element> ordered = new ArrayList<>();
+        List<Element> packages = new ArrayList<>();
         for (List<HostElement> unit : byUnit.values()) {
             unit.sort(this::compare);
-            ordered.addAll(unit);
+            (unit.get(0).ref().isPackage() ? packages : ordered).addAll(unit);
         }
+        ordered.addAll(packages);
         return ordered;
     }
 

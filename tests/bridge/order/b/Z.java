@@ -1,0 +1,7 @@
+package b;
+
+@FunctionalInterface
+interface Z {
+    void run();
+    @Deprecated default void more() {}
+}
