@@ -28,6 +28,9 @@ DONE, FAILED, WRONG_WORDS = 0, 1, 2
 NEVER, VARIES = 1, 2
 # A file that is opened and never closed, which javac leaves empty and the host doesn't have.
 UNCLOSED = os.path.join("made", "Open.java")
+# The methods that the language adds to an enum, as Elements.Origin says; the javac of JDK 17 says otherwise.
+OF_EVERY_ENUM = [(f"METHOD {method}: EXPLICIT", f"METHOD {method}: MANDATED")
+                 for method in ("values()", "valueOf(java.lang.String)")]
 # A file that is read after it was created, which the bridge gives and javac doesn't.
 READ, UNREAD = ("note", "after: done"), ("note", "after: FilerException")
 
@@ -206,6 +209,25 @@ def lines_of_elements(project):
 
 
 @case
+def printed_declarations(project):
+    """What is printed of declarations, what is deprecated, and what the language adds."""
+    same(project, ["Printed"], "printed", different=2 * OF_EVERY_ENUM)
+
+
+@case
+def the_printed_model(project):
+    constants = [("  public static final int SIZE", " = 12"), ("  static final long L", " = 1099511627776L"),
+                 ("  static final java.lang.String TEXT", ' = "a12"'), ("  static final boolean YES", " = true")]
+    same(project, ["Printed"], "model", different=[
+        *OF_EVERY_ENUM, *((f"{front}{value};", f"{front};") for front, value in constants), *(2 * OF_EVERY_ENUM)])
+
+
+@case
+def the_order_of_annotated_elements(project):
+    same(project, ["Ordered"], "order")
+
+
+@case
 def types_in_init(project):
     own = same(project, ["InInit"], "files")
     expect("whether a type was found", ("note", "initialised with java.lang.Object") in own.messages, True)
@@ -225,12 +247,34 @@ def a_processor_that_claims_all(project):
 @case
 def a_processor_that_fails(project):
     use(project, os.path.join(SOURCES, "files"), stubs=stubs_of_the_jdk())
-    own = under_host(project, {"maker": bridge("Failing", class_path=classes())})
-    expect("the files", own.files, {})
-    (kind, text), = own.messages
-    expect("the error", (kind, text.splitlines()[0]),
-           ("error", "the processor Failing failed: java.lang.IllegalStateException: on purpose"))
-    expect("whether the trace is there", "\n  at Failing.process(Failing.java" in text, True)
+    on_purpose = "IllegalStateException: on purpose"
+    for name, exception, place in [
+            ("Failing", f"lang.{on_purpose}", "Failing.process"),
+            ("Failing$InClass", 'lang.NumberFormatException: For input string: "none"', "java.base/java.lang.Number"),
+            ("Failing$InConstructor", "io.IOException: on purpose", "Failing$InConstructor.<init>"),
+            ("Failing$WhereInitialised", f"lang.{on_purpose}", "Failing$WhereInitialised.init"),
+            ("Failing$InOptions", f"lang.{on_purpose}", "Failing$InOptions.getSupportedOptions"),
+            ("Failing$ByFiles", "io.UncheckedIOException: java.io.IOException: on purpose", "Failing$ByFiles.process"),
+            ("Failing$ByDepth", "lang.StackOverflowError", "")]:
+        own = under_host(project, {"maker": bridge(name, class_path=classes())})
+        expect("the files", own.files, {})
+        (kind, text), = own.messages
+        expect("the error", (kind, text.splitlines()[0]), ("error", f"the processor {name} failed: java.{exception}"))
+        expect("whether the trace is there", f"\n  at {place}" in text, True)
+
+
+@case
+def a_processor_that_is_initialised_first(project):
+    """It is asked what it supports in the first round, and then for what it supports."""
+    same(project, ["Late", "Making"], "files")
+
+
+@case
+def a_processor_that_is_not_asked(project):
+    """It has said that it supports all, and none of the annotations that it does support is there."""
+    use(project, os.path.join(SOURCES, "objects"), stubs=stubs_of_the_jdk())
+    own = under_host(project, {"late": bridge("Late", class_path=classes())})
+    expect("the messages", own.messages, [("note", "initialised"), ("note", "supports java.lang.Deprecated")])
 
 
 def main():

@@ -1,11 +1,21 @@
 package dinxobhe.model;
 
+import java.util.regex.Pattern;
+
 /**
  * The texts of doc comments. The host keeps what stands behind the first two stars; for javac any number of
  * stars, a line end and blanks there are part of the marker, and so are stars at the end.
  */
 final class DocTexts {
+    /** A line that says that what is commented is deprecated. */
+    private static final Pattern DEPRECATED = Pattern.compile("^\\s*@deprecated(\\s|$)", Pattern.MULTILINE);
+
     private DocTexts() {}
+
+    /** Whether a comment, which need not be there, says that something is deprecated. */
+    static boolean isDeprecating(String text) {
+        return text != null && DEPRECATED.matcher(text).find();
+    }
 
     /** The text that javac has where the host has this one. */
     static String of(String text) {

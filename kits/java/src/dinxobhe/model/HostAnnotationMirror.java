@@ -18,17 +18,21 @@ import javax.lang.model.util.ElementFilter;
 /** An annotation. Its values have the types of the annotation interface's methods. */
 final class HostAnnotationMirror implements AnnotationMirror {
     private final HostType type;
+    private final boolean isWritten;
     private final Kept<Map<ExecutableElement, AnnotationValue>> values;
 
-    private HostAnnotationMirror(HostType type, Kept<Map<ExecutableElement, AnnotationValue>> values) {
+    private HostAnnotationMirror(HostType type, boolean isWritten,
+            Kept<Map<ExecutableElement, AnnotationValue>> values) {
         this.type = type;
+        this.isWritten = isWritten;
         this.values = values;
     }
 
     /** An annotation that is written at a place. */
     static HostAnnotationMirror of(Model model, WrittenAnnotation written, Ref place) {
         HostType type = model.types().of(written.type(), place);
-        return new HostAnnotationMirror(type, new Kept<>(model, () -> values(model, type, written, place)));
+        return new HostAnnotationMirror(type, true,
+            new Kept<>(model, () -> values(model, type, written, place)));
     }
 
     /** The annotation that holds some of the same type, which are written one by one. */
@@ -36,7 +40,7 @@ final class HostAnnotationMirror implements AnnotationMirror {
             List<AnnotationMirror> held) {
         List<AnnotationValue> items =
             held.stream().map(HostAnnotationValue::new).collect(JavacList.collector());
-        return new HostAnnotationMirror(container, new Kept<>(model, () -> {
+        return new HostAnnotationMirror(container, false, new Kept<>(model, () -> {
             Optional<ExecutableElement> method = method(container, "value");
             return method.<Map<ExecutableElement, AnnotationValue>>map(
                 one -> Map.of(one, new HostAnnotationValue(items))).orElse(Map.of());
@@ -69,6 +73,11 @@ final class HostAnnotationMirror implements AnnotationMirror {
 
     HostType type() {
         return type;
+    }
+
+    /** Whether it stands in a source, and does not only hold others that do. */
+    boolean isWritten() {
+        return isWritten;
     }
 
     /** Whether the annotation interface has this binary name. */

@@ -54,6 +54,13 @@ abstract class HostDeclaration extends HostElement {
         return modifiers;
     }
 
+    /** Whether it stands in a source, and is not added by the language. */
+    boolean isWritten() {
+        HostElement around = getEnclosingElement();
+        return around instanceof HostTypeElement ? ((HostTypeElement) around).hasWritten(this)
+            : !(around instanceof HostDeclaration) || ((HostDeclaration) around).isWritten();
+    }
+
     boolean is(Modifier modifier) {
         return modifiers.contains(modifier);
     }

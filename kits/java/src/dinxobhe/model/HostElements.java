@@ -7,6 +7,7 @@ import java.util.LinkedHashMap;
 import java.util.List;
 import java.util.Map;
 import java.util.Optional;
+import javax.lang.model.AnnotatedConstruct;
 import javax.lang.model.element.AnnotationMirror;
 import javax.lang.model.element.AnnotationValue;
 import javax.lang.model.element.Element;
@@ -21,6 +22,7 @@ import javax.lang.model.util.Elements;
 /** What processors ask about elements. */
 final class HostElements implements Elements {
     private static final String INHERITED = "java.lang.annotation.Inherited";
+    private static final String DEPRECATED = "java.lang.Deprecated";
 
     private final Model model;
 
@@ -51,8 +53,23 @@ final class HostElements implements Elements {
     public boolean isDeprecated(Element element) {
         boolean isNeverDeprecated =
             element.getKind() == ElementKind.PARAMETER || element.getKind() == ElementKind.TYPE_PARAMETER;
-        return !isNeverDeprecated && element.getAnnotationMirrors().stream()
-            .anyMatch(one -> one.getAnnotationType().toString().equals("java.lang.Deprecated"));
+        return !isNeverDeprecated && (element.getAnnotationMirrors().stream()
+            .anyMatch(one -> one.getAnnotationType().toString().equals(DEPRECATED))
+            || element.getKind() != ElementKind.PACKAGE && DocTexts.isDeprecating(getDocComment(element)));
+    }
+
+    // What is written, and what the language adds.
+
+    @Override
+    public Origin getOrigin(Element element) {
+        return element instanceof HostDeclaration && !((HostDeclaration) element).isWritten()
+            ? Origin.MANDATED : Origin.EXPLICIT;
+    }
+
+    @Override
+    public Origin getOrigin(AnnotatedConstruct construct, AnnotationMirror annotation) {
+        return annotation instanceof HostAnnotationMirror && !((HostAnnotationMirror) annotation).isWritten()
+            ? Origin.MANDATED : Origin.EXPLICIT;
     }
 
     // Names.
@@ -163,7 +180,7 @@ final class HostElements implements Elements {
     public void printElements(Writer writer, Element... elements) {
         PrintWriter printer = new PrintWriter(writer);
         for (Element element : elements) {
-            new ElementPrinter(printer).print(element);
+            new ElementPrinter(this, printer).print(element);
         }
         printer.flush();
     }

@@ -17,7 +17,7 @@ import javax.lang.model.element.TypeElement;
 final class HostTypeElement extends HostDeclaration implements TypeElement {
     private final Name qualifiedName;
     private final Kept<List<HostTypeParameterElement>> typeParameters;
-    private final Kept<List<HostDeclaration>> enclosed;
+    private final Kept<Members> enclosed;
     private final Kept<HostDeclaredType> type;
     private final Kept<HostType> superclass;
     private final Kept<List<HostType>> interfaces;
@@ -30,7 +30,7 @@ final class HostTypeElement extends HostDeclaration implements TypeElement {
         typeParameters = new Kept<>(model,
             () -> model.elements(questions.typeParameters(ref), HostTypeParameterElement.class));
         enclosed = new Kept<>(model,
-            () -> MemberOrder.of(this, model.elements(questions.enclosed(ref), HostDeclaration.class)));
+            () -> new Members(this, model.elements(questions.enclosed(ref), HostDeclaration.class)));
         type = new Kept<>(model, this::ownType);
         superclass = new Kept<>(model, () -> named(questions.superclass(ref)));
         interfaces = new Kept<>(model, () -> questions.interfaces(ref).stream().map(this::named)
@@ -106,7 +106,12 @@ final class HostTypeElement extends HostDeclaration implements TypeElement {
 
     @Override
     public List<HostDeclaration> getEnclosedElements() {
-        return enclosed.get();
+        return enclosed.get().inOrder();
+    }
+
+    /** Whether an element in it is written, type parameters included. */
+    boolean hasWritten(HostDeclaration element) {
+        return !enclosed.get().added().contains(element);
     }
 
     @Override

@@ -8,28 +8,40 @@ import javax.lang.model.element.ElementKind;
 import javax.lang.model.element.Modifier;
 
 /**
- * The order in which javac has the elements in a type: the nested types, then those that are not written,
- * then the others as they are written. The host has those that are not written behind all others.
+ * The elements in a type, in the order in which javac has them: the nested types, then those that are not
+ * written, then the others as they are written. The host has those that are not written behind all others.
  */
-final class MemberOrder {
+final class Members {
     /** The methods of an enum that are not written. */
     private static final int OF_EVERY_ENUM = 2;
 
-    private MemberOrder() {}
+    private final List<HostDeclaration> ordered;
+    private final List<HostDeclaration> added;
 
-    static List<HostDeclaration> of(HostTypeElement type, List<HostDeclaration> enclosed) {
+    /** @param enclosed the elements in the type, in the order of the host */
+    Members(HostTypeElement type, List<HostDeclaration> enclosed) {
         int end = enclosed.size() - (type.getKind() == ElementKind.ENUM ? OF_EVERY_ENUM : 0);
         List<HostDeclaration> written = new ArrayList<>(enclosed.subList(0, end));
-        List<HostDeclaration> ordered = new ArrayList<>();
-        written.stream().filter(MemberOrder::isType).forEach(ordered::add);
-        ordered.addAll(enclosed.subList(end, enclosed.size()));
-        written.removeIf(MemberOrder::isType);
+        List<HostDeclaration> all = new ArrayList<>();
+        written.stream().filter(Members::isType).forEach(all::add);
+        written.removeIf(Members::isType);
+        added = new ArrayList<>(enclosed.subList(end, enclosed.size()));
         int last = written.size() - 1;
         if (last >= 0 && isDefaultConstructor(type, written)) {
-            ordered.add(written.remove(last));
+            added.add(written.remove(last));
         }
-        ordered.addAll(written);
-        return JavacList.of(ordered);
+        all.addAll(added);
+        all.addAll(written);
+        ordered = JavacList.of(all);
+    }
+
+    List<HostDeclaration> inOrder() {
+        return ordered;
+    }
+
+    /** The elements that are not written. */
+    List<HostDeclaration> added() {
+        return added;
     }
 
     private static boolean isType(HostDeclaration element) {
@@ -50,7 +62,8 @@ final class MemberOrder {
         Set<Modifier> access = type.getKind() == ElementKind.ENUM ? Set.of(Modifier.PRIVATE) : access(type);
         return access.equals(constructor.getModifiers()) && constructor.getParameters().isEmpty()
             && constructor.getTypeParameters().isEmpty() && constructor.getThrownTypes().isEmpty()
-            && constructor.getAnnotationMirrors().isEmpty();
+            && constructor.getAnnotationMirrors().isEmpty()
+            && type.model().questions().docComment(constructor.ref()).isEmpty();
     }
 
     private static Set<Modifier> access(HostTypeElement type) {

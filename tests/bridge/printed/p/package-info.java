@@ -1,0 +1,3 @@
+/** Of p.
+ * @deprecated p */
+package p;
