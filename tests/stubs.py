@@ -9,7 +9,8 @@ run with status 1. The last line is 'stubs: N passed, M failed'. Without a JDK n
 failed case.
 
 What is expected is written by hand, or comes from the JDK: SameDeclarations.java compares the stubs of java.base with
-its class files, as javax.lang.model has both. No expected text was made by the command itself.
+its class files, as javax.lang.model has both, and as the host answers a processor for javac whose sources are the
+stubs. No expected text was made by the command itself.
 """
 import concurrent.futures
 import functools
@@ -26,6 +27,9 @@ from host import DONE_STATUS, HERE, KINDS, SERVICES, Cases, Failure, NotRun, exp
 KIT = os.path.join(HERE, "..", "kits", "java")
 JAR = os.path.join(KIT, "out", "dinxobhe.jar")
 WRITTEN, FAULT, WRONG_WORDS = 0, 1, 2
+COMPARING = ["SameDeclarations", "Declarations", "HostDeclarations"]
+# The seconds that all questions on a module of the JDK may take on a busy machine.
+LONG = 600
 
 # Each run of Java takes a second or two, in which its best compiler would be no help.
 FAST = ["-XX:+UseSerialGC", "-XX:TieredStopAtLevel=1"]
@@ -813,15 +817,36 @@ def shown_as_sources(project):
     return sent.texts(), sent.texts()
 
 
+def comparing_classes(project):
+    """The folder of the classes that collect and compare declarations."""
+    sources = [os.path.join(HERE, name + ".java") for name in COMPARING]
+    output_of(["javac", *(f"-J{word}" for word in FAST), "-proc:none", "-d", "classes", *sources], project.folder)
+    return project.path("classes")
+
+
+def declared_by_the_host(project, classes):
+    """A file with the declarations of the sources, as the host answers a processor for javac."""
+    command = ["java", *FAST, "-cp", os.pathsep.join([JAR, classes]), "dinxobhe.Bridge", "HostDeclarations"]
+    project.configure({"HostDeclarations": command})
+    run = project.run(["build"], seconds=LONG)
+    if run.status != DONE_STATUS:
+        raise Failure(f"the build ended with {run.status}: {run.output.decode()[-2000:]}")
+    project.write("declarations", project.published()["CLASS_OUTPUT/declarations"])
+    return "declarations"
+
+
 @case
 def the_module_java_base(project):
+    """The stubs declare what the class files declare, for javac and for the host."""
     _, run = written(project, "--module", "java.base")
-    compare = os.path.join(HERE, "SameDeclarations.java")
-    compared = output_of(["java", *FAST, compare, "module", "java.base", "stubs"], project.folder)
-    *said, types, annotations = compared.splitlines()
-    expect("whether there are many declarations", int(said[-1].split()[0]) > 10_000, True)
     is_read(project)
     offered, roots = shown_as_sources(project)
+    classes = comparing_classes(project)
+    declared = declared_by_the_host(project, classes)
+    compared = output_of(["java", *FAST, "-cp", classes, "SameDeclarations", "module", "java.base", "src", declared],
+                         project.folder)
+    *said, types, annotations = compared.splitlines()
+    expect("whether there are many declarations", int(said[-1].split()[0]) > 10_000, True)
     expect("the host's units", roots, sorted(types.split(" ")[1:]))
     expect("the annotations that the host finds", offered, sorted(annotations.split(" ")[1:]))
     print(f"  java.base: {said[-1]}; {run.stderr.splitlines()[-1]}")
