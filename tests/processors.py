@@ -1,13 +1,13 @@
 #!/usr/bin/env python3
 """Runs processors that exist under the built host, and compares their files and messages with those of javac.
 
-    tests/processors.py [PROGRAM] [--needed]
+    tests/processors.py [PROGRAM] [--install] [--needed]
 
 The processors are those of Debian's packages libgoogle-auto-service-java, libgoogle-auto-value-java, liblog4j2-java and
-libmetainf-services-java; their jars are looked for below /usr/share/java, or below JARS where that is set. A case whose
-jars are not there is not run, and says so; with --needed it has failed. Each case prints a line. The first that fails
-ends the run with status 1. The last line is 'processors: N passed, M failed'. PROGRAM is crates/apt_cli/out/apt_cli
-where it is left out.
+libmetainf-services-java; their jars are looked for below /usr/share/java, or below JARS where that is set. With
+--install those packages are installed by apt-get of which jars are missing. A case whose jars are not there is not run,
+and names the package; with --needed it has failed. Each case prints a line. The first that fails ends the run with
+status 1. The last line is 'processors: N passed, M failed'. PROGRAM is crates/apt_cli/out/apt_cli where it is left out.
 
 A project is set up as a user's is: the command stubs writes its stubs, and the rows of its apt.json.
 
@@ -16,14 +16,17 @@ its first error, as AutoValue does, makes other files where the order is another
 """
 import os
 import shutil
+import subprocess
 import sys
 
-from beside_javac import CLASSES, compare, fast_javac, sources_below, under_host, under_javac, use
-from host import HERE, Cases, Failure, NotRun, expect
+from beside_javac import CLASSES, Outcome, bytes_below, compare, under_host, under_javac, use
+from examples import blocks_of
+from host import HERE, Cases, Failure, NotRun, expect, program
 from stubs import FAST, JAR, KIT, output_of
 
-JARS = os.environ.get("JARS", "/usr/share/java")
-ARE_NEEDED = "--needed" in sys.argv
+DEBIAN = "/usr/share/java"
+JARS = os.environ.get("JARS", DEBIAN)
+ARE_INSTALLED, ARE_NEEDED = "--install" in sys.argv, "--needed" in sys.argv
 ROOT = os.path.dirname(HERE)
 PROJECTS = os.path.join(HERE, "processors")
 AUTO_VALUE = "com.google.auto.value"
@@ -32,22 +35,26 @@ OPTIONS = [f"{AUTO_VALUE}.AutoBuilderIsUnstable="]
 case = Cases("processors")
 
 
-def jars(*names):
-    paths = [os.path.join(JARS, name + ".jar") for name in names]
-    missing = [path for path in paths if not os.path.exists(path)]
-    if missing:
-        raise (Failure if ARE_NEEDED else NotRun)(f"there is no {missing[0]}")
-    return paths
-
-
 class Processors:
-    """Processors with their jars, and the project in which they are run."""
+    """The processors of a package with their jars, and the project in which they are run."""
 
-    def __init__(self, folder, names, class_path, processor_path):
+    def __init__(self, package, folder, names, class_path, processor_path):
+        self.package = package
         self.folder = folder
         self.names = names
-        self.class_path = class_path
-        self.processor_path = processor_path
+        self.class_path = self.paths(class_path)
+        self.processor_path = self.paths(processor_path)
+
+    @staticmethod
+    def paths(names):
+        return [os.path.join(JARS, name + ".jar") for name in names]
+
+    def missing(self):
+        return [path for path in self.class_path + self.processor_path if not os.path.exists(path)]
+
+    def need(self):
+        for path in self.missing()[:1]:
+            raise (Failure if ARE_NEEDED else NotRun)(f"the package {self.package} is not installed: no {path}")
 
     def part(self, name):
         return os.path.join(PROJECTS, self.folder, name)
@@ -59,8 +66,8 @@ class Processors:
             os.mkdir(folder)
             sources = [word for part in os.listdir(self.part("")) for word in ("--for", self.part(part))]
             configuration = output_of(
-                ["java", *FAST, "-jar", JAR, "stubs", "stubs", *jars(*self.class_path), "--jdk", "--release", "11",
-                 *sources, "--asked-by", os.pathsep.join(jars(*self.processor_path)), "--services"], folder)
+                ["java", *FAST, "-jar", JAR, "stubs", "stubs", *self.class_path, "--jdk", "--release", "11",
+                 *sources, "--asked-by", os.pathsep.join(self.processor_path), "--services"], folder)
             with open(os.path.join(folder, "apt.json"), "w", encoding="utf-8") as file:
                 file.write(configuration[configuration.index("{"):configuration.rindex("}") + 1])
         use(project, stubs=os.path.join(folder, "stubs"))
@@ -69,36 +76,52 @@ class Processors:
 
     def run(self, project, *parts, options=()):
         """What the processors give of the sources of some parts under the host, and what under javac."""
-        jars(*self.class_path, *self.processor_path)
+        self.need()
         self.set_up(project)
         for part in parts:
             shutil.copytree(self.part(part), project.path("src"), dirs_exist_ok=True)
         own = under_host(project, options=options)
-        class_path, path = (os.pathsep.join(jars(*names)) for names in (self.class_path, self.processor_path))
-        javac = under_javac(project, self.names, path, class_path, options)
+        javac = under_javac(project, self.names, os.pathsep.join(self.processor_path),
+                            os.pathsep.join(self.class_path), options)
         print(f"  {self.folder}: {len(own.files)} files, {own.kinds().count('error')} errors")
         return own, javac
 
-    def same(self, project, *parts, options=(), different=()):
+    def same(self, project, *parts, options=(), different=(), elsewhere=()):
         own, javac = self.run(project, *parts, options=options)
-        compare(own, javac, different, elsewhere=None)
+        compare(own, javac, different, elsewhere)
         return own
 
 
-AUTO_SERVICE = Processors("autoservice", ["com.google.auto.service.processor.AutoServiceProcessor"],
+AUTO_SERVICE = Processors("libgoogle-auto-service-java", "autoservice",
+                          ["com.google.auto.service.processor.AutoServiceProcessor"],
                           ["auto-service-annotations"],
                           ["auto-service", "auto-service-annotations", "auto-common", "guava"])
-META_INF = Processors("metainf", ["org.kohsuke.metainf_services.AnnotationProcessorImpl"], ["metainf-services"],
-                      ["metainf-services"])
-LOG4J = Processors("log4j", ["org.apache.logging.log4j.core.config.plugins.processor.PluginProcessor"],
+META_INF = Processors("libmetainf-services-java", "metainf",
+                      ["org.kohsuke.metainf_services.AnnotationProcessorImpl"],
+                      ["metainf-services"], ["metainf-services"])
+LOG4J = Processors("liblog4j2-java", "log4j",
+                   ["org.apache.logging.log4j.core.config.plugins.processor.PluginProcessor"],
                    ["log4j-core", "log4j-api"], ["log4j-core", "log4j-api"])
 VALUE_JARS = ["auto-value", "auto-value-annotations", "auto-common", "auto-service-annotations", "guava",
               "escapevelocity", "javapoet"]
-VALUE = Processors("autovalue", [AUTO_VALUE + name for name in (
+VALUE = Processors("libgoogle-auto-value-java", "autovalue", [AUTO_VALUE + name for name in (
     ".extension.memoized.processor.MemoizedValidator", ".extension.toprettystring.processor.ToPrettyStringValidator",
     ".processor.AutoAnnotationProcessor", ".processor.AutoBuilderProcessor", ".processor.AutoOneOfProcessor",
     ".processor.AutoValueBuilderProcessor", ".processor.AutoValueProcessor")],
                    ["auto-value-annotations", "guava"], VALUE_JARS)
+
+
+def install():
+    """Installs the packages of which jars are missing, where apt-get can. A case says what is missing after that."""
+    packages = [one.package for one in (AUTO_SERVICE, META_INF, LOG4J, VALUE) if one.missing()]
+    if not packages or JARS != DEBIAN or shutil.which("apt-get") is None:
+        return
+    for words in (["update"], ["install", "-y", "--no-install-recommends", *packages]):
+        command = ["apt-get", "-q", *words]
+        run = subprocess.run(command, env={**os.environ, "DEBIAN_FRONTEND": "noninteractive"}, check=False,
+                             stdin=subprocess.DEVNULL, stdout=subprocess.PIPE, stderr=subprocess.STDOUT)
+        if run.returncode != 0:
+            print(f"{' '.join(command)}: status {run.returncode}: {run.stdout.decode()[-500:]}")
 
 
 @case
@@ -109,7 +132,7 @@ def auto_service(project):
 
 @case
 def auto_service_with_errors(project):
-    own = AUTO_SERVICE.same(project, "src", "errors")
+    own = AUTO_SERVICE.same(project, "src", "errors", elsewhere=[("Nothing.java:5", "Nothing.java:6")])
     expect("the messages", own.kinds(), ["error"])
 
 
@@ -150,13 +173,13 @@ def auto_value(project):
         *((text.format("@Nullable String"), text.format("String")) for text in (
             "  private final List<{}> names;", "      List<{}> names,", "  public List<{}> names() {{",
             "    private List<{}> names;", "    public Typed.Builder names(List<{}> names) {{"))]
-    own = VALUE.same(project, "src", "rules", options=OPTIONS, different=different)
+    own = VALUE.same(project, "src", "rules", options=OPTIONS, different=different, elsewhere=None)
     expect("the number of files", len(own.files), 18)
 
 
 @case
 def auto_value_with_errors(project):
-    own = VALUE.same(project, "src", "errors", options=OPTIONS)
+    own = VALUE.same(project, "src", "errors", options=OPTIONS, elsewhere=None)
     expect("the messages", own.kinds(), 3 * ["error"] + ["warning"])
 
 
@@ -174,23 +197,35 @@ def auto_value_with_errors_by_other_rules(project):
 
 @case
 def the_example(project):
-    """The project of README: stubs and apt.json by its script, a build, and what javac makes of all sources."""
-    names = jars(*VALUE_JARS)
+    """What README says of it, in a clone: stubs and apt.json, a build, files in their places, and javac over all."""
+    VALUE.need()
+    readme, commands = (blocks_of(*path) for path in (("README.md",), ("docs", "COMMANDS.md")))
+    session = next(block for block in readme if block.startswith("kits/java/build"))
+    with open(os.path.join(ROOT, "examples", "autovalue", "place.py"), encoding="utf-8") as file:
+        expect("the program that places files", file.read(), next(
+            block for block in commands if block.startswith("import pathlib")))
     shutil.rmtree(project.folder)
-    shutil.copytree(os.path.join(ROOT, "examples", "autovalue"), project.folder)
-    output_of(["./set-up", JARS, JAR], project.folder)
-    own = under_host(project)
-    compare(own, under_javac(project, VALUE.names, os.pathsep.join(names), names[1]), elsewhere=None)
-    expect("the files", sorted(own.files), ["zoo/AutoValue_Animal.java", "zoo/AutoValue_Cage.java"])
-    for name, content in own.files.items():
-        project.write(os.path.join("src", name), content)
-    output_of(fast_javac("-proc:none", "-cp", names[1], "-d", "classes", *sources_below(project.path("src"))),
-              project.path("src"))
+    for folder in ("examples", "kits"):
+        shutil.copytree(os.path.join(ROOT, folder), project.path(folder), ignore=shutil.ignore_patterns("out"))
+    os.makedirs(project.path("out/bin"))
+    os.symlink(program(), project.path("out/bin/apt"))
+    output_of(["sh", "-e", "-c", session.replace(DEBIAN, JARS)], project.folder)
+    example = project.path("out/autovalue")
+    made = bytes_below(os.path.join(example, "files", "SOURCE_OUTPUT"))
+    expect("the files", sorted(made), ["zoo/AutoValue_Animal.java", "zoo/AutoValue_Cage.java"])
+    compiled = os.path.join(example, "classes", "zoo", "AutoValue_Cage.class")
+    expect("whether they are compiled", os.path.exists(compiled), True)
+    shutil.copytree(os.path.join(example, "src"), project.path("src"))
+    javac = under_javac(project, VALUE.names, os.pathsep.join(VALUE.processor_path), VALUE.class_path[0])
+    compare(Outcome(made, []), javac)
 
 
 def main():
-    if ARE_NEEDED:
-        sys.argv.remove("--needed")
+    for word in ("--install", "--needed"):
+        if word in sys.argv:
+            sys.argv.remove(word)
+    if ARE_INSTALLED:
+        install()
     output_of([os.path.join(KIT, "build")], HERE)
     try:
         case.main()
