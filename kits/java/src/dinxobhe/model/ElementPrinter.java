@@ -7,7 +7,7 @@ import java.util.Locale;
 import java.util.Set;
 import java.util.StringTokenizer;
 import java.util.stream.Collectors;
-import javax.lang.model.element.AnnotationMirror;
+import java.util.stream.Stream;
 import javax.lang.model.element.Element;
 import javax.lang.model.element.ElementKind;
 import javax.lang.model.element.Modifier;
@@ -167,7 +167,7 @@ final class ElementPrinter {
         if (element.getKind() == ElementKind.PARAMETER) {
             to.print(inlineAnnotations(element));
         } else {
-            for (AnnotationMirror annotation : element.getAnnotationMirrors()) {
+            for (String annotation : annotations(element)) {
                 indent();
                 to.println(annotation);
             }
@@ -192,7 +192,14 @@ final class ElementPrinter {
     }
 
     private static String inlineAnnotations(HostElement element) {
-        return element.getAnnotationMirrors().stream().map(one -> one + " ").collect(Collectors.joining());
+        return annotations(element).stream().map(one -> one + " ").collect(Collectors.joining());
+    }
+
+    /** The annotations of an element, those that are repeated one by one. */
+    private static List<String> annotations(HostElement element) {
+        return element.getAnnotationMirrors().stream().map(HostAnnotationMirror.class::cast)
+            .flatMap(one -> one.isWritten() ? Stream.of(one) : one.held().stream())
+            .map(Object::toString).collect(Collectors.toList());
     }
 
     private static String modifiers(HostElement element) {

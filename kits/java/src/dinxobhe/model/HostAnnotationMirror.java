@@ -80,6 +80,13 @@ final class HostAnnotationMirror implements AnnotationMirror {
         return isWritten;
     }
 
+    /** The annotations in its arrays. */
+    List<Object> held() {
+        return getElementValues().values().stream().map(AnnotationValue::getValue)
+            .filter(value -> value instanceof List).flatMap(list -> ((List<?>) list).stream())
+            .collect(Collectors.toList());
+    }
+
     /** Whether the annotation interface has this binary name. */
     boolean isOf(String binaryName) {
         return type instanceof HostDeclaredType
