@@ -143,7 +143,10 @@ fn conclude<T: Tree, W: Sink>(
         messages,
         unread,
         table,
+        next,
     } = finished;
+    // the store has records of an older form yet
+    drop(next);
     let summary = Summary {
         started,
         rounds,

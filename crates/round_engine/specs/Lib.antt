@@ -1,3 +1,4 @@
+pub mod Remembering
 pub mod Run
 pub mod Faults
 pub mod Fronts
@@ -5,4 +6,5 @@ pub mod Shown
 pub mod Numbering
 pub mod Numbered
 pub mod Clean
+pub mod Next
 pub mod Moments
