@@ -7,4 +7,5 @@ pub mod Numbering
 pub mod Numbered
 pub mod Clean
 pub mod Next
+pub mod Stands
 pub mod Moments

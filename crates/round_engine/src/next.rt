@@ -2,6 +2,7 @@
 ghost use Rattle.std.specs.Prelude.{◌≡◌, ◌≤◌, length, IfOk};
 ghost use Rattle.apt_base.specs.Limits.{max_processors};
 ghost use Rattle.round_engine.specs.Next.{stores_in, record_with, NextStands};
+ghost use Rattle.round_engine.specs.Stands.{NextRecordStands};
 
 use crate::numbering::Made;
 use crate::remembering::sources_shaped;
@@ -54,4 +55,10 @@ pub(crate) fn record_of(
 /// gives them.
 pub fn next_stands()
     ensures { NextStands }
+{}
+
+/// The record that a run without an error leaves stands in each such store, where the run was over the units of the stubs of its
+/// key and of its sources.
+pub fn next_record_stands()
+    ensures { NextRecordStands }
 {}
