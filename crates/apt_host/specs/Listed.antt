@@ -10,7 +10,6 @@ use Rattle.apt_host.specs.declared.report.Summary as code
 use Rattle.apt_host.specs.CleanBuild.{Summary, reported_in}
 use Rattle.project_reading.specs.Verdicts.{Verdict, Done}
 use Rattle.apt_host.specs.Report.{report_of}
-use Rattle.record_forms.specs.declared.record.Record.{Record}
 use Rattle.round_engine.specs.declared.numbering.Made.{Made}
 use Rattle.round_engine.specs.declared.running.Finished.{Finished}
 
@@ -50,18 +49,7 @@ summary_of processors summary = record {
   warnings = summary.warnings;
 }
 
--- a record of nothing
-abbrev pub nothing_recorded : Record
-nothing_recorded = record {
-  key = record { level = 0; options = []; processors = []; stubs = [] };
-  hellos = [];
-  initial = [];
-  rounds = [];
-  entries = [];
-  notes = [];
-}
-
--- the run whose summary this is, and whose files these are; its record plays no part
+-- the run whose summary this is, and whose files these are
 abbrev pub finished_of : code.Summary → List Made → Finished
 finished_of summary files = record {
   errors = summary.errors;
@@ -72,7 +60,6 @@ finished_of summary files = record {
   messages = summary.messages;
   unread = summary.unread;
   table = summary.table;
-  next = nothing_recorded;
 }
 
 -- the report of a build that publishes these files

@@ -143,10 +143,7 @@ fn conclude<T: Tree, W: Sink>(
         messages,
         unread,
         table,
-        next,
     } = finished;
-    // the store has records of an older form yet
-    drop(next);
     let summary = Summary {
         started,
         rounds,

@@ -1,4 +1,4 @@
-pub mod AskedLaws
+mod AskedLaws
 mod FirstPlaces
 mod KindLaws
 mod LineLaws

@@ -1,6 +1,5 @@
 pub mod NumberingLemmas
 pub mod PlacedMessages
-pub mod PresentNames
 pub mod AskedInTurn
 pub mod ChildrenOfARun
 pub mod FrontsOfFrames
@@ -15,11 +14,6 @@ pub mod StoppedProcessors
 pub mod RoundsOfARun
 pub mod DueRefusals
 pub mod AskedProcessors
-pub mod EndedRounds
 pub mod TurnsOfARound
 pub mod RoundsInTurn
 pub mod CleanLemmas
-pub mod NumberedFiles
-pub mod StoredEntries
-pub mod RememberedRuns
-pub mod NextLaws

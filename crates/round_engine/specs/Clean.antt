@@ -9,7 +9,6 @@ use Rattle.wire_frames.specs.declared.frame.Creation.{Creation}
 use Rattle.wire_frames.specs.declared.frame.Message.{Message}
 use Rattle.apt_filer.specs.declared.messages.Placed.{Placed}
 use Rattle.record_forms.specs.declared.record.Key.{Key}
-use Rattle.run_entries.specs.declared.processed.Processed.{Processed}
 use Rattle.project_units.specs.declared.project.Project.{Project}
 use Rattle.round_engine.specs.declared.rounds.Rounds.{Rounds}
 use Rattle.round_engine.specs.declared.numbering.Made.{Made}
@@ -62,25 +61,15 @@ Closes rounds started finished =
     (finished.rounds ≡ rounds.count) × (finished.messages ≡ rounds.messages) × (finished.unread ≡ rounds.unread) × (finished.started ≡ started)
     × (finished.table ≡ rounds.table)
 
--- a finished run, with the frames that were sent, the files that were made, and what the processors did
-abbrev pub shown_finished : List (List (List ℕ)) → List Creation → List Processed → declared.Finished → Finished
-shown_finished sent made processed finished = record {
-  sent = sent;
-  rounds = finished.rounds;
-  made = made;
-  messages = finished.messages;
-  unread = finished.unread;
-  table = finished.table;
-  hellos = finished.next.hellos;
-  processed = processed;
-  past = finished.next.rounds;
-}
+-- a finished run, with the frames that were sent and the files that were made
+abbrev pub shown_finished : List (List (List ℕ)) → List Creation → declared.Finished → Finished
+shown_finished sent made finished =
+    record { sent = sent; rounds = finished.rounds; made = made; messages = finished.messages; unread = finished.unread; table = finished.table }
 
 -- it is this run, and has its files
 pub record FinishesAs (whole : Run) (count : ℕ) (finished : declared.Finished) : Type 0 where
   pub made : List Creation
-  pub processed : List Processed
-  pub is : whole ≡ Ok (shown_finished (frames_of whole) made processed finished)
+  pub is : whole ≡ Ok (shown_finished (frames_of whole) made finished)
   pub has : Has made finished
   pub started : finished.started ≡ count
 

@@ -1,4 +1,3 @@
-pub mod Remembering
 pub mod Run
 pub mod Faults
 pub mod Fronts
@@ -6,6 +5,4 @@ pub mod Shown
 pub mod Numbering
 pub mod Numbered
 pub mod Clean
-pub mod Next
-pub mod Stands
 pub mod Moments

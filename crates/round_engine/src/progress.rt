@@ -1,8 +1,6 @@
 // How far a run is.
 use apt_base::List;
 use apt_filer::{Filer, Placed};
-use record_forms::OldRound;
-use run_entries::Processed;
 
 /// How far a run is, beside what its children were sent.
 #[derive(Drop)]
@@ -13,8 +11,4 @@ pub(crate) struct Progress {
     pub filer: Filer,
     /// What was printed, in order of round, processor and number.
     pub messages: List<Placed>,
-    /// What each processor did in each round in which it was asked, in order.
-    pub processed: List<Processed>,
-    /// The rounds that came to their end.
-    pub past: List<OldRound>,
 }

@@ -7,25 +7,19 @@ ghost use Rattle.project_units.specs.Faults.{HasReason, stop_of};
 ghost use Rattle.round_engine.specs.Run.{new_filings, none_asked};
 ghost use Rattle.round_engine.specs.Clean.{AreNumbered, Closes, Has, NamesProcessor, Starts, Tries, CleansOver};
 ghost use Rattle.round_engine.specs.Shown.{AreListed, CountsTries, IsDueStop, rounds_of_none};
-ghost use Rattle.round_engine.specs.Next.{HasNext, IsOfProject, NextOver, remembered_by};
 ghost use Rattle.round_engine.specs.Moments.{Over};
 
 use crate::beginning::{Discovered, begin_all, end_all};
-use crate::copies::copy_record;
 use crate::messages::{copy_messages, count_errors, count_warnings};
-use crate::next::record_of;
 use crate::numbering::{Made, copy_files, number_files};
 use crate::progress::Progress;
-use crate::remembering::ended_round;
-use crate::rounds::{Round, Rounds, first_round, show_rounds};
+use crate::rounds::{Rounds, show_rounds};
 use apt_base::{List, Name, NoMemory, copy_names};
 use apt_filer::{Filer, Placed};
 use apt_outside::Children;
 use project_units::{Project, Refusal, files_among, unit_names};
-use record_forms::Record;
 use std::alloc::Global;
 use unit_locations::LocatedTable;
-use wire_frames::Hello;
 
 /// What a run came to that was not refused.
 #[derive(Drop)]
@@ -47,8 +41,6 @@ pub struct Finished {
     /// The units of the last round with their locations: those of the project, and those of the sources that were created in
     /// earlier rounds and entered.
     pub table: LocatedTable,
-    /// The record of the build: what the next one may know of it. Its entries have the numbers of `files`.
-    pub next: Record,
 }
 
 impl Finished {
@@ -65,7 +57,6 @@ impl Finished {
             messages: copy_messages(alloc, self.messages.as_slice())?,
             unread: copy_names(alloc, self.unread.as_slice())?,
             table: self.table.copy(alloc)?,
-            next: copy_record(alloc, &self.next)?,
         })
     }
 }
@@ -75,16 +66,12 @@ fn first_progress(alloc: Global, project: &Project) -> Result<Progress, NoMemory
     ensures contributed { IfOk result (λ p. p.contributed.items ≡ none_asked project.now.key.processors) }
     ensures filer { IfOk result (λ p. p.filer ≡ new_filings project.now.initial) }
     ensures messages { IfOk result (λ p. p.messages ≡ []) }
-    ensures processed { IfOk result (λ p. p.processed ≡ []) }
-    ensures past { IfOk result (λ p. p.past ≡ []) }
 {
     let names = unit_names(alloc, &project.initial)?;
     Ok(Progress {
         contributed: vec![in alloc; false; project.key.processors.len()]?,
         filer: Filer::new(alloc, names.as_slice())?,
         messages: List::new(alloc),
-        processed: List::new(alloc),
-        past: List::new(alloc),
     })
 }
 
@@ -92,25 +79,12 @@ fn first_progress(alloc: Global, project: &Project) -> Result<Progress, NoMemory
 fn no_rounds(alloc: Global, project: &LocatedTable) -> Result<Rounds, NoMemory>
     ensures { IfOk result (λ rounds. rounds ≡ rounds_of_none project.now) }
 {
-    let first = first_round(alloc, project)?;
-    let mut past = List::new(alloc);
-    past.push(ended_round(alloc, &first)?)?;
-    let last = Round {
-        number: 2,
-        over: true,
-        error: false,
-        table: first.table,
-        roots: List::new(alloc),
-    };
-    past.push(ended_round(alloc, &last)?)?;
     Ok(Rounds {
-        count: last.number,
+        count: 2,
         made: List::new(alloc),
         messages: List::new(alloc),
         unread: List::new(alloc),
-        table: last.table,
-        processed: List::new(alloc),
-        past,
+        table: project.copy(alloc)?,
     })
 }
 
@@ -122,22 +96,17 @@ fn count_of(run: &Discovered) -> u32
     run.group.len() as u32
 }
 
-/// What a run over a project has of what was made, where its processors said these Hellos.
+/// What a run has of what was made.
 fn finish_run(
     alloc: Global,
-    project: &Project,
     taken: &[u32],
     started: u32,
-    hellos: List<Hello>,
     rounds: Rounds,
 ) -> Result<Finished, NoMemory>
-    requires few { length project.now.key.processors ≤ max_processors }
-    requires ascending { IsStrictlyIncreasing taken.now }
+    requires { IsStrictlyIncreasing taken.now }
     ensures is { IfOk result (Closes rounds started) }
     ensures numbered { IfOk result (λ finished. AreNumbered taken.now finished.files) }
     ensures has { IfOk result (Has rounds.made) }
-    ensures next { IfOk result
-        (HasNext project.now.key project.now.initial.table (remembered_by hellos rounds)) }
 {
     let errors = count_errors(rounds.messages.as_slice());
     let warnings = count_warnings(rounds.messages.as_slice());
@@ -145,15 +114,6 @@ fn finish_run(
         .checked_add(rounds.unread.len() as u64)
         .ok_or(NoMemory)?;
     let files = number_files(alloc, taken, files_among(alloc, rounds.made)?)?;
-    let next = record_of(
-        alloc,
-        &project.key,
-        project.initial.table(),
-        files.as_slice(),
-        hellos,
-        rounds.past,
-        rounds.processed,
-    )?;
     Ok(Finished {
         errors,
         warnings,
@@ -163,22 +123,18 @@ fn finish_run(
         messages: rounds.messages,
         unread: rounds.unread,
         table: rounds.table,
-        next,
     })
 }
 
-// What a run over a project comes to in which nobody is asked.
-fn finish_none(alloc: Global, project: &Project, taken: &[u32]) -> Result<Finished, NoMemory>
-    requires few { length project.now.key.processors ≤ max_processors }
-    requires ascending { IsStrictlyIncreasing taken.now }
-    ensures is { IfOk result (Closes (rounds_of_none project.now.initial) 0) }
+// What a run over a table comes to in which nobody is asked.
+fn finish_none(alloc: Global, taken: &[u32], project: &LocatedTable) -> Result<Finished, NoMemory>
+    requires { IsStrictlyIncreasing taken.now }
+    ensures is { IfOk result (Closes (rounds_of_none project.now) 0) }
     ensures numbered { IfOk result (λ finished. AreNumbered taken.now finished.files) }
     ensures has { IfOk result (Has []) }
-    ensures next { IfOk result (HasNext project.now.key project.now.initial.table
-        (remembered_by [] (rounds_of_none project.now.initial))) }
 {
-    let rounds = no_rounds(alloc, &project.initial)?;
-    finish_run(alloc, project, taken, 0, List::new(alloc), rounds)
+    let rounds = no_rounds(alloc, project)?;
+    finish_run(alloc, taken, 0, rounds)
 }
 
 /// Runs the rounds over a project, from nothing, with at most 64 processors. All processors are started before round 1, in
@@ -190,9 +146,6 @@ fn finish_none(alloc: Global, project: &Project, taken: &[u32]) -> Result<Finish
 /// those of the processors, in order. Each was sent the frames that the run sends it, up to some point, and nothing else. After a
 /// fault of the children this may fail for one child, that of the processor that the fault names: the children do not say what
 /// became of a frame whose sending failed.
-///
-/// `next` of what comes of it is the record of the run: its entries and notes are those of `run_entries`, and its initial units
-/// those of the sources of the project's table.
 pub fn clean<C: Children>(
     alloc: Global,
     project: &Project,
@@ -212,14 +165,12 @@ pub fn clean<C: Children>(
     ensures named { NamesProcessor project.now.key result }
     ensures due { IfErr result (λ refusal. IsDueStop (stop_of refusal)) }
     ensures cleans { CleansOver C.Children project.now children.old children.new result }
-    ensures of { IfOk result (IsOfProject project.now) }
-    ensures next { NextOver C.Children project.now children.old result }
 {
     let progress = first_progress(alloc, project)?;
     let processors = project.key.processors.len();
     if processors == 0 {
         // nobody is asked in the two rounds, whatever the children tell
-        return Ok(finish_none(alloc, project, taken)?);
+        return Ok(finish_none(alloc, taken, &project.initial)?);
     }
     let run = begin_all(alloc, children, &project.key)?;
     let outcome = show_rounds(alloc, children, &run, &project.initial, progress);
@@ -227,6 +178,6 @@ pub fn clean<C: Children>(
     end_all(children, run.group);
     match outcome {
         Err(refusal) => Err(refusal),
-        Ok(rounds) => Ok(finish_run(alloc, project, taken, started, run.hellos, rounds)?),
+        Ok(rounds) => Ok(finish_run(alloc, taken, started, rounds)?),
     }
 }

@@ -1,7 +1,0 @@
-use Rattle.std.proofs.Common.{◌≡◌, drop}
-use Rattle.round_engine.specs.Next.{with_stores, stores_in}
-use Rattle.round_engine.proofs.next.stores_in.Given as goal
-
--- the numbers so far, with those to come
-abbrev pub invariant-loop-file : goal.invariant-loop-file
-invariant-loop-file l = with_stores l.stores (drop l.file-index l.files) ≡ stores_in l.files

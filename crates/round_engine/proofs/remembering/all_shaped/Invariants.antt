@@ -1,7 +1,0 @@
-use Rattle.std.proofs.Common.{◌≡◌, ◌++◌, drop, map}
-use Rattle.round_engine.specs.Remembering.{shaped}
-use Rattle.round_engine.proofs.remembering.all_shaped.Given as goal
-
--- the units so far, and those to come
-abbrev pub invariant-loop-name : goal.invariant-loop-name
-invariant-loop-name l = l.units ++ map (shaped l.table) (drop l.name-index l.names) ≡ map (shaped l.table) l.names
