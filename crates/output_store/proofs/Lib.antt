@@ -1,0 +1,13 @@
+pub mod StorePaths
+pub mod FileChanges
+pub mod Folders
+pub mod RecordReading
+pub mod NumberOrder
+pub mod OutputLemmas
+pub mod PublishedOrder
+pub mod FreeNumbers
+pub mod StoreReading
+pub mod OutputReading
+pub mod RemovalLemmas
+pub mod StoringLemmas
+pub mod ExportLemmas
