@@ -49,7 +49,7 @@ summary_of processors summary = record {
   warnings = summary.warnings;
 }
 
--- the run whose summary this is, and whose files these are
+-- the run whose summary this is, and whose files these are; what is remembered of it plays no part
 abbrev pub finished_of : code.Summary → List Made → Finished
 finished_of summary files = record {
   errors = summary.errors;
@@ -60,6 +60,9 @@ finished_of summary files = record {
   messages = summary.messages;
   unread = summary.unread;
   table = summary.table;
+  hellos = [];
+  past = [];
+  processed = [];
 }
 
 -- the report of a build that publishes these files

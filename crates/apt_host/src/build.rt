@@ -143,7 +143,14 @@ fn conclude<T: Tree, W: Sink>(
         messages,
         unread,
         table,
+        hellos,
+        past,
+        processed,
     } = finished;
+    // the store has records of an older form yet
+    drop(hellos);
+    drop(past);
+    drop(processed);
     let summary = Summary {
         started,
         rounds,

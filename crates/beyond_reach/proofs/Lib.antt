@@ -1,2 +1,3 @@
 pub mod NamesOutside
 pub mod ReachedLemmas
+mod NotedQuestions

@@ -41,11 +41,11 @@ pub both_to : (a b : Bool) → T a → T b → T (a && b)
 both_to true b s t = t
 both_to false b s t = s
 
-true_of : (b : Bool) → T b → b ≡ true
+pub true_of : (b : Bool) → T b → b ≡ true
 true_of true t = refl
 true_of false t = absurd t
 
-of_true : (b : Bool) → b ≡ true → T b
+pub of_true : (b : Bool) → b ≡ true → T b
 of_true b e = subst T (sym e) tt
 
 -- ---- lists of names

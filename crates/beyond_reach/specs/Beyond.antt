@@ -1,7 +1,9 @@
 -- Which questions of a processor are beyond reach: their replies may hang on units that nothing leads to of what the processor was shown.
--- For an isolating processor that is each root that it was shown in the round; for an aggregating one each unit that was annotated for it up to this round. A stub is never beyond reach.
-use Rattle.std.specs.Prelude.{◌≡◌, ◌⊎◌, ℕ, Bool, true, false, T, List}
+-- For an isolating processor that is each root that it was shown in the round; for an aggregating one each unit that was annotated for it up to this round. The name of a stub is never so; a package asked for by its name is, and so are the types of one.
+use Rattle.std.specs.Prelude.{◌≡◌, ◌⊎◌, ℕ, Bool, true, false, T, List, [], ◌∷◌}
+use Rattle.std.specs.List.{list_any, flat_map}
 use Rattle.std.specs.FinMap as fin
+use Rattle.apt_base.specs.Names.{with_names, names_in}
 use Rattle.apt_base.specs.declared.kinds.Kind.{Kind}
 use Rattle.apt_base.specs.declared.kinds.Kind.TheVariants.{Isolating, Aggregating, Dynamic, Undeclared}
 use Rattle.element_table.specs.TypeTable.{TypeTable}
@@ -53,3 +55,20 @@ pub record Noted : Type 0 where
 -- one of them is beyond reach
 abbrev pub AskedBeyond : Kind → TypeTable → List (List ℕ) → Noted → Type 0
 AskedBeyond kind table units noted = IsBeyondBy kind (SomeOutside table units noted.asked) (noted.wide ≡ true) (noted.gathered ≡ true)
+
+-- what is noted of these questions, where these names were offered
+abbrev pub noted_by : TypeTable → List (List ℕ) → List Question → Noted
+noted_by table offered questions = record {
+  asked = names_in (with_names fin.empty (flat_map (names_of table) questions));
+  wide = list_any is_wide questions;
+  gathered = list_any (gathers offered) questions;
+}
+
+-- it is so of one of these questions
+abbrev pub OneIs : (Question → Type 0) → List Question → Type 0
+OneIs P [] = ⊥
+OneIs P (question ∷ questions) = P question ⊎ OneIs P questions
+
+-- one of these questions is beyond reach
+abbrev pub SomeBeyond : Kind → TypeTable → List (List ℕ) → List (List ℕ) → List Question → Type 0
+SomeBeyond kind table units offered questions = OneIs (IsBeyond kind table units offered) questions

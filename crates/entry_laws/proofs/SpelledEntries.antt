@@ -35,7 +35,7 @@ some_bytes e =
     (longer (u32_form e.round) (u16_form e.processor) (has_bytes e.round))))))
 
 -- a part in the middle is no longer than the whole
-within : (before count items behind : List ℕ) → length items ≤ length ((before ++ (count ++ items)) ++ behind)
+pub within : (before count items behind : List ℕ) → length items ≤ length ((before ++ (count ++ items)) ++ behind)
 within before count items behind =
     let one = length-append count items in
     let two = length-append before (count ++ items) in

@@ -1,4 +1,4 @@
-mod AskedLaws
+pub mod AskedLaws
 mod FirstPlaces
 mod KindLaws
 mod LineLaws

@@ -2,6 +2,7 @@
 use Rattle.std.proofs.Common.{◌≡◌, ℕ, ◌≤◌, true, false, cond, List, [], ◌∷◌, map, length, None, Some, Result, Ok, Err, inl, inr, refl, sym, ap, ◌∙◌, subst, arith}
 use Rattle.std.specs.Prelude.{IfOk}
 use Rattle.std.proofs.lemmas.List.{length-map}
+use Rattle.apt_base.specs.declared.kinds.Kind.{Kind}
 use Rattle.apt_base.specs.declared.kinds.What.{What}
 use Rattle.apt_base.specs.declared.kinds.What.TheVariants as what
 use Rattle.apt_outside.specs.Files.{Files}
@@ -21,10 +22,10 @@ use Rattle.project_config.specs.Settled.{IsSettled}
 use Rattle.record_forms.specs.declared.record.Key.{Key}
 use Rattle.record_forms.specs.declared.record.KeyProcessor.{KeyProcessor}
 use Rattle.project_units.specs.Refusals.{past}
-use Rattle.project_units.specs.Plans.{Plan, plan_of, try_of, inits_fit}
+use Rattle.project_units.specs.Plans.{Plan, plan_of, try_of, kind_of, inits_fit}
 use Rattle.project_units.specs.Units.{and_then}
 use Rattle.project_reading.specs.declared.status.Status.{Status}
-use Rattle.project_reading.specs.Configuration.{Options, Configuration, within, lists_in, with_lists, lists_behind, files_of, said, on_form, settings_in, try_in, plan_in, fitting, key_processor, key_in, IsKeyOf}
+use Rattle.project_reading.specs.Configuration.{Options, Configuration, within, lists_in, with_lists, lists_behind, files_of, said, on_form, settings_in, try_in, kind_in, plan_in, fitting, key_processor, key_in, IsKeyOf}
 use Rattle.project_reading.specs.Verdicts.{Verdict, Refused, OrMemory, is_tree, named_in, HasCause}
 use Rattle.project_reading.specs.Endings.{EndsEarly}
 use Rattle.project_reading.specs.Entering.{of_read, of_config, RefusesAs, IsDueRead}
@@ -110,16 +111,22 @@ due_past limited v is = subst IsDueRead (sym is) refl
 
 -- ---- the key
 
-abbrev plan_with : ℕ → Options → List Try → Plan
-plan_with level options tries = record { level = level; options = options; processors = tries }
+abbrev plan_with : ℕ → Options → List Try → List Kind → Plan
+plan_with level options tries kinds = record { level = level; options = options; processors = tries; kinds = kinds }
 
 -- the run tries the processors of a key
 tries_same : (processors : List Processor) → map try_of (map key_processor processors) ≡ map try_in processors
 tries_same [] = refl
 tries_same (processor ∷ processors) = ap (λ tries. try_in processor ∷ tries) (tries_same processors)
 
+kinds_same : (processors : List Processor) → map kind_of (map key_processor processors) ≡ map kind_in processors
+kinds_same [] = refl
+kinds_same (processor ∷ processors) = ap (λ kinds. kind_in processor ∷ kinds) (kinds_same processors)
+
 pub plan_same : (key : Key) (settings : Settings) (stubs : List (List ℕ × List ℕ)) → key ≡ key_in settings stubs → plan_of key ≡ plan_in settings
-plan_same key settings stubs is = ap plan_of is ∙ ap (plan_with settings.level settings.options) (tries_same settings.processors)
+plan_same key settings stubs is =
+    ap plan_of is ∙ ap (λ tries. plan_with settings.level settings.options tries (map kind_of (map key_processor settings.processors))) (tries_same settings.processors)
+    ∙ ap (plan_with settings.level settings.options (map try_in settings.processors)) (kinds_same settings.processors)
 
 abbrev key_with : Settings → List KeyProcessor → List (List ℕ × List ℕ) → Key
 key_with settings processors stubs = record { level = settings.level; options = settings.options; processors = processors; stubs = stubs }

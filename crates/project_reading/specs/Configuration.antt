@@ -1,6 +1,7 @@
 -- What the three files of a project's configuration and the options of the words come to, or the first refusal. All files are read before any is looked into:
 -- one that is too large is told before one that is off its form. The file of services is read only where `apt.json` has no order.
 use Rattle.std.specs.Prelude.{◌≡◌, ◌⊎◌, ℕ, Bool, true, false, not, List, [], None, Some, map, Result, Ok, Err, if◌then◌else◌}
+use Rattle.apt_base.specs.declared.kinds.Kind.{Kind}
 use Rattle.apt_base.specs.declared.kinds.What.TheVariants as what
 use Rattle.apt_outside.specs.Files.{Files}
 use Rattle.apt_outside.specs.Child.{Try}
@@ -95,8 +96,16 @@ settings_in options c = on_form (settings_of c.config (said c.lists.services) (s
 abbrev pub try_in : Processor → Try
 try_in processor = (processor.name, processor.command)
 
+abbrev pub kind_in : Processor → Kind
+kind_in processor = processor.kind
+
 abbrev pub plan_in : Settings → Plan
-plan_in settings = record { level = settings.level; options = settings.options; processors = map try_in settings.processors }
+plan_in settings = record {
+  level = settings.level;
+  options = settings.options;
+  processors = map try_in settings.processors;
+  kinds = map kind_in settings.processors;
+}
 
 -- the first frame to each processor is within the limit of a frame
 abbrev pub fitting : Plan → Result Plan Refusal

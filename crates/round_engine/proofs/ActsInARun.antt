@@ -1,9 +1,9 @@
 -- What comes of a round that one processor of a run is shown: from what its child is told to have done to how far the run is.
-use Rattle.std.proofs.Common.{◌≡◌, ℕ, ◌<◌, Bool, true, List, [], ◌++◌, length, set, get_or, Option, None, Some, Result, Ok, Err, IfSome, IsSomeAnd, IsErrOf, refl, sym, ap, subst, ◌∙◌, arith}
+use Rattle.std.proofs.Common.{◌≡◌, ℕ, ◌<◌, Bool, true, List, [], ◌∷◌, ◌++◌, length, drop, set, get_or, Option, None, Some, Result, Ok, Err, IfSome, IsSomeAnd, IsErrOf, refl, sym, ap, subst, ◌∙◌, arith}
 use Rattle.std.proofs.lemmas.List.{get_or-map}
+use Rattle.std.proofs.Math.Seq.{drop-append_seam}
 use Rattle.apt_base.specs.declared.kinds.Claim.{Claim}
 use Rattle.apt_outside.specs.Child.{Try, Child, State, OthersKept}
-use Rattle.wire_frames.specs.declared.frame.Message.{Message}
 use Rattle.frame_breaches.specs.declared.breach.Breach.{Breach}
 use Rattle.element_table.specs.TypeTable.{TypeTable}
 use Rattle.round_env.specs.declared.environment.RoundEnv.{RoundEnv}
@@ -21,11 +21,16 @@ use Rattle.child_session.specs.Acts as acts
 use Rattle.child_session.specs.Acts.{Act, messages, answer_by, claimed_by, end_of, outcome}
 use Rattle.child_session.specs.Round as session
 use Rattle.child_session.specs.Round.{IsFront}
+use Rattle.child_session.proofs.FiledFiles.{files-made}
+use Rattle.apt_filer.specs.declared.messages.Placed.{Placed}
+use Rattle.round_engine.specs.declared.rounds.PastRound.{PastRound}
+use Rattle.run_entries.specs.declared.processed.Processed.{Processed}
 use Rattle.round_engine.specs.declared.progress.Progress as code_progress
 use Rattle.round_engine.specs.declared.beginning.Discovered as code_discovered
 use Rattle.project_units.specs.Refusals.{Stop, Refusal, LeavesProtocol, TooManyQuestions, ClaimBroken}
 use Rattle.round_engine.specs.Faults.{of_session}
-use Rattle.round_engine.specs.Run.{Frames, Course, Discovered, Progress, claim_at, sent_at, showing, act, place, sent_with, with_act, after_act, show}
+use Rattle.round_engine.specs.Remembering.{processed_by}
+use Rattle.round_engine.specs.Run.{Frames, Course, Discovered, Progress, claim_at, kind_at, sent_at, showing, act, place, sent_with, processed_in, with_act, after_act, show}
 use Rattle.round_engine.specs.Shown.{all_sent, EachOf, IsOf, Serves, Stands, shown_discovered, standing, StopsAs, sent_by, sent_in_step}
 use Rattle.round_engine.proofs.ChildrenOfARun.{frames_in, all_sent-at, all_sent-get, each-get, each-at, each-weaker}
 
@@ -39,9 +44,9 @@ turn_in (Err (fault.TooManyQuestions most)) other = other
 turn_in (Err fault.Failed) other = other
 turn_in (Err fault.Memory) other = other
 
-abbrev printed_in : Result Answer SessionFault → List Message
-printed_in (Ok answer) = answer.messages
-printed_in (Err f) = []
+abbrev answer_in : Result Answer SessionFault → Answer → Answer
+answer_in (Ok answer) other = answer
+answer_in (Err f) other = other
 
 abbrev limit_in : Result Answer SessionFault → ℕ → ℕ
 limit_in (Ok answer) other = other
@@ -60,9 +65,10 @@ claim_in (Err fault.Failed) other = other
 claim_in (Err fault.Memory) other = other
 
 -- it was done
-pub record WasDone (exchanges : List Exchange) (turn : Turn) (answer : Answer) : Type 0 where
+pub record WasDone (shown : Shown) (exchanges : List Exchange) (turn : Turn) (answer : Answer) : Type 0 where
   pub last : turn ≡ Ends answer.claimed
-  pub printed : answer.messages ≡ messages exchanges
+  pub claimed : Bool
+  pub given : answer ≡ answer_by shown exchanges claimed
 
 -- it asked once more than it may
 pub record WasOver (limit most : ℕ) (turn : Turn) : Type 0 where
@@ -79,8 +85,8 @@ module _ (shown : Shown) (declared : Claim) (limit : ℕ) (exchanges : List Exch
   abbrev end_in : Turn → Result Answer SessionFault
   end_in turn = end_of declared limit turn (answer_by shown exchanges (claimed_by turn))
 
-  end_done : (turn : Turn) (answer : Answer) → Ok answer ≡ end_in turn → WasDone exchanges turn answer
-  end_done (Ends claimed) answer is = record { last = sym (ap (λ o. turn_in o (Ends claimed)) is); printed = ap printed_in is }
+  end_done : (turn : Turn) (answer : Answer) → Ok answer ≡ end_in turn → WasDone shown exchanges turn answer
+  end_done (Ends claimed) answer is = record { last = sym (ap (λ o. turn_in o (Ends claimed)) is); claimed = claimed; given = ap (λ o. answer_in o answer) is }
   end_done (Differs said) answer is = absurd cc
   end_done (Asks request) answer is = absurd cc
   end_done (Leaves breach) answer is = absurd cc
@@ -191,22 +197,47 @@ module _ (d : code_discovered.Discovered) (processors : List Try) (k0 k1 : State
       due_ok : session.is_due result ≡ true
       due_ok = ap session.is_due is
 
-      done : WasDone whole.exchanges whole.last answer
+      done : WasDone (shown_of table env) whole.exchanges whole.last answer
       done = end_done (shown_of table env) shown.claim shown.limit whole.exchanges whole.last answer (sym is ∙ ends_so due_ok)
 
       -- the act
-      pub show_ok : show run table env now number ≡ Ok (with_act table env now number whole.exchanges, answer.claimed)
+      pub show_ok : show run table env now number ≡ Ok (with_act run table env now number whole.exchanges, answer.claimed)
       show_ok = show_is ∙ ap (after_act run table env now number whole.exchanges) done.last
+
+      -- the files that the filer gained are those of the act
+      gained : drop (length p.filer.made) filings'.made ≡ acts.files whole.exchanges
+      gained = ap (λ (f : Filings). drop (length p.filer.made) f.made) (all due_ok).filed ∙ ap (drop (length p.filer.made)) (files-made p.filer whole.exchanges).made
+          ∙ drop-append_seam p.filer.made (acts.files whole.exchanges)
+
+      -- what is remembered of it, by these files and the answer
+      abbrev given : Processed
+      given = processed_by (kind_at run number) table env number p.processed (drop (length p.filer.made) filings'.made) answer
+
+      given_is : given ≡ processed_in run table env now number whole.exchanges
+      given_is = ap (λ files. processed_by (kind_at run number) table env number p.processed files answer) gained
+          ∙ ap (processed_by (kind_at run number) table env number p.processed (acts.files whole.exchanges)) done.given
+
+      abbrev progress_of : List Frames → List Bool → Filings → List Placed → List Processed → List PastRound → Progress
+      progress_of sent contributed filings printed processed past =
+          record { sent = sent; contributed = contributed; filings = filings; messages = printed; processed = processed; past = past }
 
       -- how far the run is then
       pub stands_so : (p' : code_progress.Progress) → p'.contributed.items ≡ set p.contributed.items number true → p'.filer ≡ filings'
-          → p'.messages ≡ p.messages ++ place env.number number 0 answer.messages → with_act table env now number whole.exchanges ≡ standing d.group p' k1
-      stands_so p' contributed filed printed =
-          ap (λ sent. record { sent = sent; contributed = set p.contributed.items number true; filings = filed_all p.filer whole.exchanges; messages = p.messages ++ place env.number number 0 (messages whole.exchanges) }) (all_is due_ok)
-          ∙ ap (λ c. record { sent = all_sent k1.known d.group; contributed = c; filings = filed_all p.filer whole.exchanges; messages = p.messages ++ place env.number number 0 (messages whole.exchanges) }) (sym contributed)
-          ∙ ap (λ f. record { sent = all_sent k1.known d.group; contributed = p'.contributed.items; filings = f; messages = p.messages ++ place env.number number 0 (messages whole.exchanges) }) (sym (filed ∙ (all due_ok).filed))
-          ∙ ap (λ m. record { sent = all_sent k1.known d.group; contributed = p'.contributed.items; filings = p'.filer; messages = m })
-          (sym (printed ∙ ap (λ m. p.messages ++ place env.number number 0 m) done.printed))
+          → p'.messages ≡ p.messages ++ place env.number number 0 answer.messages
+          → p'.processed ≡ p.processed ++ processed_by (kind_at run number) table env number p.processed (drop (length p.filer.made) filings'.made) answer ∷ []
+          → p'.past ≡ p.past → with_act run table env now number whole.exchanges ≡ standing d.group p' k1
+      stands_so p' contributed filed printed processed past =
+          ap (λ sent. progress_of sent (set p.contributed.items number true) (filed_all p.filer whole.exchanges) (p.messages ++ place env.number number 0 (messages whole.exchanges))
+          (p.processed ++ processed_in run table env now number whole.exchanges ∷ []) p.past) (all_is due_ok)
+          ∙ ap (λ c. progress_of (all_sent k1.known d.group) c (filed_all p.filer whole.exchanges) (p.messages ++ place env.number number 0 (messages whole.exchanges))
+          (p.processed ++ processed_in run table env now number whole.exchanges ∷ []) p.past) (sym contributed)
+          ∙ ap (λ f. progress_of (all_sent k1.known d.group) p'.contributed.items f (p.messages ++ place env.number number 0 (messages whole.exchanges))
+          (p.processed ++ processed_in run table env now number whole.exchanges ∷ []) p.past) (sym (filed ∙ (all due_ok).filed))
+          ∙ ap (λ m. progress_of (all_sent k1.known d.group) p'.contributed.items p'.filer m (p.processed ++ processed_in run table env now number whole.exchanges ∷ []) p.past)
+          (sym (printed ∙ ap (λ (a : Answer). p.messages ++ place env.number number 0 a.messages) done.given))
+          ∙ ap (λ l. progress_of (all_sent k1.known d.group) p'.contributed.items p'.filer p'.messages l p.past)
+          (sym (processed ∙ ap (λ one. p.processed ++ one ∷ []) given_is))
+          ∙ ap (progress_of (all_sent k1.known d.group) p'.contributed.items p'.filer p'.messages p'.processed) (sym past)
 
       -- all that was sent is what the run sends
       pub all_shown : sent_by sent_in_step (show run table env now number) ≡ all_sent k1.known d.group

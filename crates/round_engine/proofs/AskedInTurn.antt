@@ -6,7 +6,7 @@ use Rattle.processor_claims.specs.declared.turn.Turn.{Turn}
 use Rattle.processor_claims.specs.Asked.{AreWithin}
 use Rattle.processor_claims.specs.Turns.{offered, coming, IsComing, IsWithin, Asks, AsksNobody}
 use Rattle.round_engine.specs.declared.rounds.Round.{Round}
-use Rattle.round_engine.specs.Run.{Stopped, Discovered, Progress, Asking, next_asked, ask_next, asks_from, round_of, ◌>>=◌}
+use Rattle.round_engine.specs.Run.{Stopped, Discovered, Progress, Asking, next_asked, ask_next, asks_from, turns_of, ◌>>=◌}
 
 -- ---- lists
 
@@ -84,7 +84,7 @@ asks_zero asking d r contributed answers p = refl
 
 -- a round is under way: so far it came to this, where those that were asked answered so; what is left of it decides what comes of the whole
 pub record Underway (asking : Asking) (d : Discovered) (r : Round) (before : Progress) (left : ℕ) (answers : List Bool) (now : Progress) : Type 0 where
-  pub rest : asks_from asking d r before.contributed left answers now ≡ round_of asking d r before
+  pub rest : asks_from asking d r before.contributed left answers now ≡ turns_of asking d r before
 
 pub way_begins : (asking : Asking) (d : Discovered) (r : Round) (before : Progress) → Underway asking d r before (length d.processors) [] before
 way_begins asking d r before = record { rest = refl }
@@ -92,7 +92,7 @@ way_begins asking d r before = record { rest = refl }
 module _ (asking : Asking) (d : Discovered) (r : Round) (before : Progress) (answers : List Bool) (now : Progress) where
   module _ (left : ℕ) (way : Underway asking d r before (suc left) answers now) (next : ℕ × List ℕ) (is : next_asked d r before.contributed answers ≡ Some next) where
     -- the one that is asked decides
-    pub step_opened : (asking d r now next >>= (λ acted. asks_from asking d r before.contributed left (answers ++ acted.1 ∷ []) acted.0)) ≡ round_of asking d r before
+    pub step_opened : (asking d r now next >>= (λ acted. asks_from asking d r before.contributed left (answers ++ acted.1 ∷ []) acted.0)) ≡ turns_of asking d r before
     step_opened = sym (asks_suc asking d r before.contributed left answers now
         ∙ ap (λ o. ask_next asking d r now o (λ acted. asks_from asking d r before.contributed left (answers ++ acted.1 ∷ []) acted.0)) is)
         ∙ way.rest
@@ -102,11 +102,11 @@ module _ (asking : Asking) (d : Discovered) (r : Round) (before : Progress) (ans
       rest = sym (ap (λ o. o >>= (λ acted. asks_from asking d r before.contributed left (answers ++ acted.1 ∷ []) acted.0)) asked) ∙ step_opened;
     }
 
-    pub way_stops : (stopped : Stopped) → asking d r now next ≡ Err stopped → round_of asking d r before ≡ Err stopped
+    pub way_stops : (stopped : Stopped) → asking d r now next ≡ Err stopped → turns_of asking d r before ≡ Err stopped
     way_stops stopped refused = sym step_opened ∙ ap (λ o. o >>= (λ acted. asks_from asking d r before.contributed left (answers ++ acted.1 ∷ []) acted.0)) refused
 
   -- nobody is left
-  pub way_ends : (left : ℕ) → Underway asking d r before left answers now → next_asked d r before.contributed answers ≡ None → round_of asking d r before ≡ Ok now
+  pub way_ends : (left : ℕ) → Underway asking d r before left answers now → next_asked d r before.contributed answers ≡ None → turns_of asking d r before ≡ Ok now
   way_ends zero way is = sym way.rest ∙ asks_zero asking d r before.contributed answers now
   way_ends (suc left) way is = sym way.rest ∙ asks_suc asking d r before.contributed left answers now
       ∙ ap (λ o. ask_next asking d r now o (λ acted. asks_from asking d r before.contributed left (answers ++ acted.1 ∷ []) acted.0)) is

@@ -1,5 +1,5 @@
 -- A part of a run in which processors are asked: what it leaves as it was, and whom its refusals name.
-use Rattle.std.proofs.Common.{◌≡◌, ℕ, zero, suc, ◌<◌, Bool, true, List, [], ◌∷◌, ◌++◌, length, get_or, set, Some, Result, Ok, Err, refl, sym, ap, ◌∙◌, subst, arith}
+use Rattle.std.proofs.Common.{◌≡◌, ℕ, zero, suc, ◌<◌, Bool, true, List, [], ◌∷◌, ◌++◌, length, drop, get_or, set, Some, Result, Ok, Err, refl, sym, ap, ◌∙◌, subst, arith}
 use Rattle.std.specs.List.{AllByRecursion}
 use Rattle.apt_outside.specs.Child.{Try, State, Attends}
 use Rattle.apt_filer.specs.Filing.{Filings}
@@ -18,11 +18,12 @@ use Rattle.project_units.specs.Refusals as stop
 use Rattle.project_units.specs.Refusals.{exempt_by}
 use Rattle.project_units.specs.Faults.{stop_of}
 use Rattle.round_engine.specs.Faults.{of_session}
-use Rattle.round_engine.specs.Run.{Frames, Course, Discovered, Progress, Finished, claim_at, showing, place, show, ask, round_of, rounds_from}
+use Rattle.round_engine.specs.Run.{Frames, Course, Discovered, Progress, Finished, claim_at, kind_at, showing, place, show, ask, turns_of, round_of, rounds_from}
 use Rattle.round_engine.specs.Fronts.{AreFronts, FrontsBut}
+use Rattle.round_engine.specs.Remembering.{processed_by}
 use Rattle.round_engine.specs.Shown.{EachOf, IsOf, Serves, Stands, AttendsAll, Goes, StopsAs, sent_by, sent_in_step, sent_in_progress, sent_in_finished, all_sent, standing, shown_discovered}
 use Rattle.round_engine.proofs.ChildrenOfARun.{outside-get, each-weaker}
-use Rattle.round_engine.proofs.FrontsOfFrames.{fronts_exact, named_at, show_fronts, show_some, show_but_one, ask_fronts, round_fronts, rounds_fronts}
+use Rattle.round_engine.proofs.FrontsOfFrames.{fronts_exact, named_at, show_fronts, show_some, show_but_one, ask_fronts, turns_fronts, round_fronts, rounds_fronts}
 use Rattle.round_engine.proofs.ActsInARun.{name_is, after, sent_after, show_ok, show_err, some_sent, all_shown, stands_so, ready_after, same_after}
 
 -- ---- what is left as it was
@@ -72,6 +73,10 @@ module _ (d : code_discovered.Discovered) (processors : List Try) (k : State) (s
   pub step_unbegun : {T : Type 0} (table : TypeTable) (env : RoundEnv) (number : ℕ) (means : T → Progress × Bool) → Goes sent_in_step d processors (show at_first table env (standing d.group p k) number) means (Err refusal) k
   step_unbegun table env number means = goes_memory sent_in_step d processors (show at_first table env (standing d.group p k) number) means refusal k (still_theirs d processors k stands) memory
       (show_fronts at_first table env (standing d.group p k) number)
+
+  pub turns_unbegun : {T : Type 0} (r : Round) (means : T → Progress) → Goes sent_in_progress d processors (turns_of ask at_first r (standing d.group p k)) means (Err refusal) k
+  turns_unbegun r means = goes_memory sent_in_progress d processors (turns_of ask at_first r (standing d.group p k)) means refusal k (still_theirs d processors k stands) memory
+      (turns_fronts ask at_first (ask_fronts at_first) r (standing d.group p k))
 
   pub round_unbegun : {T : Type 0} (r : Round) (means : T → Progress) → Goes sent_in_progress d processors (round_of ask at_first r (standing d.group p k)) means (Err refusal) k
   round_unbegun r means = goes_memory sent_in_progress d processors (round_of ask at_first r (standing d.group p k)) means refusal k (still_theirs d processors k stands) memory
@@ -149,10 +154,11 @@ module _ (d : code_discovered.Discovered) (k0 k1 : State) (number : ℕ) (lt : n
 
   -- it was done
   pub asks_ok : (p' : code_progress.Progress) (answer : Answer) → Showed (Ok answer) → p'.contributed.items ≡ set p.contributed.items number true → p'.filer ≡ filings' → p'.messages ≡ p.messages ++ place env.number number 0 answer.messages
+      → p'.processed ≡ p.processed ++ processed_by (kind_at run number) table env number p.processed (drop (length p.filer.made) filings'.made) answer ∷ [] → p'.past ≡ p.past
       → Asked_so (λ claimed. (standing d.group p' k1, claimed)) (Ok answer.claimed)
-  asks_ok p' answer shows contributed filed messages = record {
+  asks_ok p' answer shows contributed filed messages processed past = record {
     comes = show_ok d processors k0 k1 number stands lt table env p filings' (Ok answer) shows attends.change.others answer refl
-        ∙ ap (λ q. Ok (q, answer.claimed)) (stands_so d processors k0 k1 number stands lt table env p filings' (Ok answer) shows attends.change.others answer refl p' contributed filed messages);
+        ∙ ap (λ q. Ok (q, answer.claimed)) (stands_so d processors k0 k1 number stands lt table env p filings' (Ok answer) shows attends.change.others answer refl p' contributed filed messages processed past);
     same = same_after d processors k0 k1 number stands lt table env p filings' (Ok answer) shows attends.change.others;
     ready = ready_after d processors k0 k1 number stands lt table env p filings' (Ok answer) shows attends.change.others answer refl attends.same_says;
     fronts = all_so (Ok answer) shows answer refl;

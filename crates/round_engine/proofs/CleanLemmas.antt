@@ -10,6 +10,11 @@ use Rattle.apt_filer.specs.Filing.{Filings}
 use Rattle.apt_filer.specs.Orders.{in_order}
 use Rattle.wire_frames.specs.declared.frame.Creation.{Creation}
 use Rattle.unit_locations.specs.LocatedTable.{LocatedTable}
+use Rattle.apt_base.specs.declared.kinds.Kind.{Kind}
+use Rattle.wire_frames.specs.declared.frame.Hello.{Hello}
+use Rattle.processor_claims.specs.declared.supported.Supported.{Supported}
+use Rattle.round_engine.specs.declared.rounds.PastRound.{PastRound}
+use Rattle.run_entries.specs.declared.processed.Processed.{Processed}
 use Rattle.round_engine.specs.declared.beginning.Discovered as code_discovered
 use Rattle.apt_filer.specs.declared.messages.Placed.{Placed}
 use Rattle.round_engine.specs.declared.progress.Progress as code_progress
@@ -23,31 +28,38 @@ use Rattle.project_units.specs.Refusals.{Refusal, Stop, is_refusal, exempt_by}
 use Rattle.project_units.specs.Faults.{stop_of, exempt_in}
 use Rattle.project_units.proofs.CreationLemmas.{unread_none}
 use Rattle.project_units.specs.Units.{all_of}
-use Rattle.project_units.specs.Plans.{Plan, try_of, tries_in, name_of, names_in, plan_of}
-use Rattle.round_engine.specs.Run.{Frames, Progress, Run, first_sent, hellos_from, discovered, start, new_filings, ask, next_of, rounds_before_last, rounds_from, asks_from, run_of, frames_of, ◌>>=◌}
+use Rattle.project_units.specs.Plans.{Plan, try_of, tries_in, name_of, names_in, kinds_in, plan_of}
+use Rattle.round_engine.specs.Run.{Frames, Discovered, Progress, Finished, Run, first_sent, supported_in, hellos_from, discovered, start, new_filings, ask, next_of, rounds_before_last, rounds_from, asks_from, run_of, frames_of, ◌>>=◌}
 use Rattle.project_units.specs.Creations.{unread_among}
 use Rattle.round_engine.specs.Clean.{Has, Closes, ShowsWhole, Cleans, Talked}
 use Rattle.round_engine.specs.Fronts.{FrontsBut}
-use Rattle.round_engine.specs.Shown.{frames_to, all_sent, AreSent, Stands, standing, shown_discovered, shown_rounds, rounds_of_none, AttendsAll, StopsAs, hellos_sent, ShowsNoMore, sent_in_finished, Goes, EndsAll, TellsOf, TellsMore, StopsAll, AllSayHello, Begins}
+use Rattle.round_engine.specs.Shown.{frames_to, all_sent, AreSent, Stands, standing, shown_discovered, shown_rounds, past_of_none, rounds_of_none, AttendsAll, StopsAs, hellos_sent, ShowsNoMore, sent_in_finished, Goes, EndsAll, TellsOf, TellsMore, StopsAll, AllSayHello, Begins}
 use Rattle.round_engine.proofs.FrontsOfFrames.{fronts_more}
 use Rattle.round_engine.proofs.FrontsOfHellos.{sent_to_each, sent_are, each_same, tells_no_more, shows_nothing, frames_by, run_fronts}
 use Rattle.round_engine.proofs.StoppedProcessors.{sent_same, sent_count, all_same}
 
 -- a run that came to its end, and one that was refused
-abbrev ended_by : List Frames → ℕ → List Creation → List Placed → List (List ℕ) → LocatedTable → Run
-ended_by sent rounds made messages unread table = Ok (record { sent = sent; rounds = rounds; made = made; messages = messages; unread = unread; table = table })
+abbrev ended_by : List Frames → ℕ → List Creation → List Placed → List (List ℕ) → LocatedTable → List Hello → List Processed → List PastRound → Run
+ended_by sent rounds made messages unread table hellos processed past = Ok (record {
+  sent = sent;
+  rounds = rounds;
+  made = made;
+  messages = messages;
+  unread = unread;
+  table = table;
+  hellos = hellos;
+  processed = processed;
+  past = past;
+})
 
 abbrev refused_by : List Frames → Refusal → Run
 refused_by sent refusal = Err (record { sent = sent; refusal = refusal })
 
 -- what a finished run has of the rounds is what they came to
-ended_so : (sent : List Frames) (rounds : Rounds) (started : ℕ) (finished : declared.Finished) → Closes rounds started finished
-    → ended_by sent rounds.count rounds.made rounds.messages rounds.unread rounds.table ≡ ended_by sent finished.rounds rounds.made finished.messages finished.unread finished.table
-ended_so sent rounds started finished closes =
-    ap (λ n. ended_by sent n rounds.made rounds.messages rounds.unread rounds.table) (sym closes.0)
-    ∙ ap (λ printed. ended_by sent finished.rounds rounds.made printed rounds.unread rounds.table) (sym closes.1)
-    ∙ ap (λ unread. ended_by sent finished.rounds rounds.made finished.messages unread rounds.table) (sym closes.2)
-    ∙ ap (ended_by sent finished.rounds rounds.made finished.messages finished.unread) (sym closes.4)
+module _ (sent : List Frames) (hellos : List Hello) (rounds : Rounds) (started : ℕ) (finished : declared.Finished) (closes : Closes rounds started hellos finished) where
+  ended_so : ended_by sent rounds.count rounds.made rounds.messages rounds.unread rounds.table hellos rounds.processed rounds.past
+      ≡ ended_by sent finished.rounds rounds.made finished.messages finished.unread finished.table finished.hellos finished.processed finished.past
+  ended_so = λ i. ended_by sent (sym closes.rounds i) rounds.made (sym closes.messages i) (sym closes.unread i) (sym closes.table i) (sym closes.hellos i) (sym closes.processed i) (sym closes.past i)
 
 -- ---- where it is told
 
@@ -61,28 +73,29 @@ talked_told talks (processor ∷ others) P some p = p
 
 -- ---- no processor
 
-run_empty : (says : Says) (level : ℕ) (options : List (List ℕ × List ℕ)) (table : LocatedTable)
-    → run_of says (record { level = level; options = options; processors = [] }) table ≡ ended_by [] 2 [] [] (unread_among []) table
+run_empty : (says : Says) (level : ℕ) (options : List (List ℕ × List ℕ)) (kinds : List Kind) (table : LocatedTable)
+    → run_of says (record { level = level; options = options; processors = []; kinds = kinds }) table ≡ ended_by [] 2 [] [] (unread_among []) table [] [] (past_of_none table)
 unfolding rounds_from asks_from in_order
-run_empty says level options table = refl
+run_empty says level options kinds table = refl
 
 -- nobody is asked in two rounds
-pub run_none : (says : Says) (plan : Plan) (table : LocatedTable) → plan.processors ≡ [] → run_of says plan table ≡ ended_by [] 2 [] [] [] table
+pub run_none : (says : Says) (plan : Plan) (table : LocatedTable) → plan.processors ≡ [] → run_of says plan table ≡ ended_by [] 2 [] [] [] table [] [] (past_of_none table)
 run_none says plan table none =
-    ap (λ (processors : List Try). run_of says (record { level = plan.level; options = plan.options; processors = processors }) table) none ∙ run_empty says plan.level plan.options table
-    ∙ ap (λ unread. ended_by [] 2 [] [] unread table) unread_none
+    ap (λ (processors : List Try). run_of says (record { level = plan.level; options = plan.options; processors = processors; kinds = plan.kinds }) table) none
+    ∙ run_empty says plan.level plan.options plan.kinds table ∙ ap (λ unread. ended_by [] 2 [] [] unread table [] [] (past_of_none table)) unread_none
 
 pub cleans_none : (plan : Plan) (table : LocatedTable) (k : State) (finished : declared.Finished) → plan.processors ≡ []
-    → Closes (rounds_of_none table) 0 finished → Has [] finished → Cleans plan table k k (Ok finished)
+    → Closes (rounds_of_none table) 0 [] finished → Has [] finished → Cleans plan table k k (Ok finished)
 cleans_none plan table k finished none closes has =
     let whole = run_none k.says plan table none in
     let sent : frames_of (run_of k.says plan table) ≡ [] = ap frames_of whole in
     record {
       comes = record {
         made = [];
-        is = whole ∙ ended_so [] (rounds_of_none table) 0 finished closes ∙ ap (λ frames. ended_by frames finished.rounds [] finished.messages finished.unread finished.table) (sym sent);
+        is = whole ∙ ended_so [] [] (rounds_of_none table) 0 finished closes
+            ∙ ap (λ frames. ended_by frames finished.rounds [] finished.messages finished.unread finished.table finished.hellos finished.processed finished.past) (sym sent);
         has = has;
-        started = closes.3 ∙ ap length (sym none);
+        started = closes.started ∙ ap length (sym none);
       };
       more = tells_no_more None plan.processors (frames_of (run_of k.says plan table)) k k (shows_nothing plan.processors (frames_of (run_of k.says plan table)) k);
       fronts = shows_nothing plan.processors (frames_of (run_of k.says plan table)) k;
@@ -118,7 +131,7 @@ stopped_whole whole sent stop.Memory is = tt
 
 -- at a Hello
 hello_stops : (says : Says) (plan : Plan) (table : LocatedTable) (sent : List Frames) (s : Stop) → StopsAs (hellos_from says plan [] plan.processors) sent s → StopsAs (run_of says plan table) sent s
-hello_stops says plan table sent (stop.Refused refusal) is = ap (λ o. o >>= (λ supported. rounds_from ask (discovered says plan supported) rounds_before_last (next_of 1 (all_of table)) (start plan table))) is
+hello_stops says plan table sent (stop.Refused refusal) is = ap (λ o. o >>= (λ hellos. rounds_from ask (discovered says plan hellos) rounds_before_last (next_of 1 (all_of table)) (start plan table))) is
 hello_stops says plan table sent (stop.Failed object) is = tt
 hello_stops says plan table sent stop.Memory is = tt
 
@@ -158,8 +171,29 @@ names_are : (processors : List KeyProcessor) → map (λ (t : Try). t.0) (map tr
 names_are [] = refl
 names_are (p ∷ processors) = ap (λ names. p.name ∷ names) (names_are processors)
 
-module _ (key : Key) (table : LocatedTable) (d : code_discovered.Discovered) (p : code_progress.Progress) (k0 k1 k2 k3 : State) (names : d.names ≡ names_in key)
-    (begins : AllSayHello (plan_of key) d.group d.supported k0 k1) (said : k1.says ≡ k0.says) (contributed : p.contributed.items ≡ replicate (length key.processors) false) (filed : p.filer ≡ new_filings table) (printed : p.messages ≡ [])
+-- what is known of the processors of a key that said Hello
+pub record AreOf (key : Key) (d : code_discovered.Discovered) : Type 0 where
+  pub names : d.names ≡ names_in key
+  pub kinds : d.kinds ≡ kinds_in key
+  pub supported : d.supported ≡ map supported_in d.hellos
+
+-- nothing was done yet
+pub record IsFirst (key : Key) (table : LocatedTable) (p : code_progress.Progress) : Type 0 where
+  pub contributed : p.contributed.items ≡ replicate (length key.processors) false
+  pub filed : p.filer ≡ new_filings table
+  pub printed : p.messages ≡ []
+  pub processed : p.processed ≡ []
+  pub past : p.past ≡ []
+
+pub run_is : {key : Key} {d : code_discovered.Discovered} → d.names ≡ names_in key → d.kinds ≡ kinds_in key → d.supported ≡ map supported_in d.hellos → AreOf key d
+run_is names kinds supported = record { names = names; kinds = kinds; supported = supported }
+
+pub first_is : {key : Key} {table : LocatedTable} {p : code_progress.Progress} → p.contributed.items ≡ replicate (length key.processors) false → p.filer ≡ new_filings table → p.messages ≡ [] → p.processed ≡ [] → p.past ≡ []
+    → IsFirst key table p
+first_is contributed filed printed processed past = record { contributed = contributed; filed = filed; printed = printed; processed = processed; past = past }
+
+module _ (key : Key) (table : LocatedTable) (d : code_discovered.Discovered) (p : code_progress.Progress) (k0 k1 k2 k3 : State) (are : AreOf key d)
+    (begins : AllSayHello (plan_of key) d.group d.hellos k0 k1) (said : k1.says ≡ k0.says) (first : IsFirst key table p)
     (attends : AttendsAll d.group k1 k2) (stops : StopsAll d.group k2 k3) (result : Result Rounds code.Refusal) (ends : EndsAll d table p k1 k2 result) where
   abbrev plan : Plan
   plan = plan_of key
@@ -174,27 +208,37 @@ module _ (key : Key) (table : LocatedTable) (d : code_discovered.Discovered) (p 
   count = sym (sent_count processors (map (first_sent plan) processors) d.group k1.known begins.shown.shown) ∙ length-map processors (first_sent plan)
 
   stands : Stands d processors k1
-  stands = record { names = names_are key.processors ∙ sym names; count = count; different = begins.shown.tells.different; each = begins.each }
+  stands = record { names = names_are key.processors ∙ sym are.names; count = count; different = begins.shown.tells.different; each = begins.each }
 
-  abbrev progress_of : List Frames → List Bool → Filings → List Placed → Progress
-  progress_of sent contributed filings messages = record { sent = sent; contributed = contributed; filings = filings; messages = messages }
+  abbrev progress_of : List Frames → List Bool → Filings → List Placed → List Processed → List PastRound → Progress
+  progress_of sent contributed filings messages processed past =
+      record { sent = sent; contributed = contributed; filings = filings; messages = messages; processed = processed; past = past }
 
   standing_is : start plan table ≡ standing d.group p k1
   standing_is =
-      ap (λ sent. progress_of sent (replicate (length processors) false) (new_filings table) []) (sym (sent_are processors (map (first_sent plan) processors) d.group k1.known begins.shown.shown))
-      ∙ ap (λ c. progress_of (all_sent k1.known d.group) c (new_filings table) []) (ap (λ n. replicate n false) (length-map key.processors try_of) ∙ sym contributed)
-      ∙ ap (λ f. progress_of (all_sent k1.known d.group) p.contributed.items f []) (sym filed)
-      ∙ ap (λ ms. progress_of (all_sent k1.known d.group) p.contributed.items p.filer ms) (sym printed)
+      ap (λ sent. progress_of sent (replicate (length processors) false) (new_filings table) [] [] []) (sym (sent_are processors (map (first_sent plan) processors) d.group k1.known begins.shown.shown))
+      ∙ ap (λ c. progress_of (all_sent k1.known d.group) c (new_filings table) [] [] []) (ap (λ n. replicate n false) (length-map key.processors try_of) ∙ sym first.contributed)
+      ∙ ap (λ f. progress_of (all_sent k1.known d.group) p.contributed.items f [] [] []) (sym first.filed)
+      ∙ ap (λ ms. progress_of (all_sent k1.known d.group) p.contributed.items p.filer ms [] []) (sym first.printed)
+      ∙ ap (λ done. progress_of (all_sent k1.known d.group) p.contributed.items p.filer p.messages done []) (sym first.processed)
+      ∙ ap (progress_of (all_sent k1.known d.group) p.contributed.items p.filer p.messages p.processed) (sym first.past)
 
-  abbrev rounds_of : Says → Progress → Run
-  rounds_of says before = rounds_from ask (shown_discovered says processors d) rounds_before_last (next_of 1 (all_of table)) before
+  abbrev discovered_by : Says → List Kind → List Supported → Discovered
+  discovered_by says kinds supported = record { says = says; processors = processors; kinds = kinds; hellos = d.hellos; supported = supported }
 
-  whole_is : whole ≡ rounds_of k1.says (standing d.group p k1)
-  whole_is = ap (λ o. o >>= (λ supported. rounds_from ask (discovered k0.says plan supported) rounds_before_last (next_of 1 (all_of table)) (start plan table))) begins.hellos
-      ∙ ap (rounds_of k0.says) standing_is ∙ ap (λ says. rounds_of says (standing d.group p k1)) (sym said)
+  discovered_is : discovered k0.says plan d.hellos ≡ shown_discovered k0.says processors d
+  discovered_is = ap (λ kinds. discovered_by k0.says kinds (map supported_in d.hellos)) (sym are.kinds) ∙ ap (discovered_by k0.says d.kinds) (sym are.supported)
 
-  goes : Goes sent_in_finished d processors whole (λ rounds. shown_rounds d.group rounds k2) result k2
-  goes = subst (λ course. Goes sent_in_finished d processors course (λ rounds. shown_rounds d.group rounds k2) result k2) (sym whole_is) (ends processors stands)
+  abbrev rounds_of : Discovered → Progress → Run
+  rounds_of discovered before = rounds_from ask discovered rounds_before_last (next_of 1 (all_of table)) before
+
+  whole_is : whole ≡ rounds_of (shown_discovered k1.says processors d) (standing d.group p k1)
+  whole_is = ap (λ o. o >>= (λ hellos. rounds_from ask (discovered k0.says plan hellos) rounds_before_last (next_of 1 (all_of table)) (start plan table))) begins.hellos
+      ∙ ap (λ all. rounds_of all (start plan table)) discovered_is ∙ ap (rounds_of (shown_discovered k0.says processors d)) standing_is
+      ∙ ap (λ says. rounds_of (shown_discovered says processors d) (standing d.group p k1)) (sym said)
+
+  goes : Goes sent_in_finished d processors whole (λ rounds. shown_rounds d rounds k2) result k2
+  goes = subst (λ course. Goes sent_in_finished d processors course (λ rounds. shown_rounds d rounds k2) result k2) (sym whole_is) (ends processors stands)
 
   tells : TellsOf d.group k0 k3
   tells = record {
@@ -251,7 +295,7 @@ module _ (key : Key) (table : LocatedTable) (d : code_discovered.Discovered) (p 
   -- the rounds were refused
   pub cleans_stopped : (refusal : code.Refusal) → result ≡ Err refusal → k3.starts ≡ k0.starts + length processors → Cleans plan table k0 k3 (Err refusal)
   cleans_stopped refusal is starts =
-      let refused : Goes sent_in_finished d processors whole (λ rounds. shown_rounds d.group rounds k2) (Err refusal) k2 = subst (λ o. Goes sent_in_finished d processors whole (λ rounds. shown_rounds d.group rounds k2) o k2) is goes in
+      let refused : Goes sent_in_finished d processors whole (λ rounds. shown_rounds d rounds k2) (Err refusal) k2 = subst (λ o. Goes sent_in_finished d processors whole (λ rounds. shown_rounds d rounds k2) o k2) is goes in
       record {
         comes = stopped_whole whole (all_sent k2.known d.group) (stop_of refusal) refused.comes;
         more = all_more;
@@ -260,20 +304,22 @@ module _ (key : Key) (table : LocatedTable) (d : code_discovered.Discovered) (p 
       }
 
   -- they came to their end
-  pub cleans_so : (rounds : Rounds) (finished : declared.Finished) → result ≡ Ok rounds → k3.starts ≡ k0.starts + length processors → Closes rounds (length processors) finished → Has rounds.made finished
-      → Cleans plan table k0 k3 (Ok finished)
-  cleans_so rounds finished is starts closes has =
-      let ended : Goes sent_in_finished d processors whole (λ all. shown_rounds d.group all k2) (Ok rounds) k2 = subst (λ o. Goes sent_in_finished d processors whole (λ all. shown_rounds d.group all k2) o k2) is goes in
-      let sent : frames_of whole ≡ all_sent k2.known d.group = ap frames_of ended.comes in
-      record {
-        comes = record {
-          made = rounds.made;
-          is = ended.comes ∙ ended_so (all_sent k2.known d.group) rounds (length processors) finished closes
-              ∙ ap (λ frames. ended_by frames finished.rounds rounds.made finished.messages finished.unread finished.table) (sym sent);
-          has = has;
-          started = closes.3;
-        };
-        more = all_more;
-        fronts = subst (λ o. ShowsNoMore (exempt_in o) processors (frames_of whole) k0 k3) is all_shown;
-        shown = λ due. shows starts sent;
-      }
+  module _ (rounds : Rounds) (finished : declared.Finished) (is : result ≡ Ok rounds) (closes : Closes rounds (length processors) d.hellos finished) (has : Has rounds.made finished) where
+    ended : Goes sent_in_finished d processors whole (λ all. shown_rounds d all k2) (Ok rounds) k2
+    ended = subst (λ o. Goes sent_in_finished d processors whole (λ all. shown_rounds d all k2) o k2) is goes
+
+    pub cleans_so : k3.starts ≡ k0.starts + length processors → Cleans plan table k0 k3 (Ok finished)
+    cleans_so starts =
+        let sent : frames_of whole ≡ all_sent k2.known d.group = ap frames_of ended.comes in
+        record {
+          comes = record {
+            made = rounds.made;
+            is = ended.comes ∙ ended_so (all_sent k2.known d.group) d.hellos rounds (length processors) finished closes
+                ∙ ap (λ frames. ended_by frames finished.rounds rounds.made finished.messages finished.unread finished.table finished.hellos finished.processed finished.past) (sym sent);
+            has = has;
+            started = closes.started;
+          };
+          more = all_more;
+          fronts = subst (λ o. ShowsNoMore (exempt_in o) processors (frames_of whole) k0 k3) is all_shown;
+          shown = λ due. shows starts sent;
+        }

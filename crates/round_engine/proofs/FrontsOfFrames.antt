@@ -16,7 +16,7 @@ use Rattle.child_session.specs.Round.{IsFront}
 use Rattle.round_engine.specs.declared.rounds.Round.{Round}
 use Rattle.project_units.specs.Refusals.{Refusal}
 use Rattle.project_units.specs.Units.{Entered, enter_all}
-use Rattle.round_engine.specs.Run.{Frames, Course, Discovered, Progress, Run, Asking, sent_at, sent_with, env_of, act, after_act, show, ask, offered_names, next_asked, ask_next, asks_from, round_of, has_error, printed_since, new_since, last_of, next_of, finished, last_round, entering, after_round, rounds_from, ◌>>=◌}
+use Rattle.round_engine.specs.Run.{Frames, Course, Discovered, Progress, Run, Asking, sent_at, sent_with, env_of, act, after_act, show, ask, offered_names, next_asked, ask_next, asks_from, turns_of, ended, round_of, has_error, printed_since, new_since, last_of, next_of, finished, last_round, entering, after_round, rounds_from, ◌>>=◌}
 use Rattle.project_units.specs.Creations.{creates_source, sources_among}
 use Rattle.round_engine.specs.Fronts.{AreFronts, FrontsButOne, FrontsBut}
 use Rattle.round_engine.specs.Shown.{sent_by, sent_in_step, sent_in_progress, sent_in_finished}
@@ -153,6 +153,11 @@ ask_fronts d r p next = show_fronts d r.table.table (env_of r (offered_names r n
 
 -- ---- one round
 
+-- that a round came to its end sends nothing
+pub end_sends : (r : Round) (course : Course Progress) → sent_by sent_in_progress (course >>= (λ after. Ok (ended r after))) ≡ sent_by sent_in_progress course
+end_sends r (Ok after) = refl
+end_sends r (Err stopped) = refl
+
 module _ (asking : Asking) (d : Discovered) (steps : StepsOn asking d) (r : Round) where
   next_fronts : (p : Progress) (o : Option (ℕ × List ℕ)) (go : Progress × Bool → Course Progress) → ((acted : Progress × Bool) → AreFronts acted.0.sent (sent_by sent_in_progress (go acted)))
       → AreFronts p.sent (sent_by sent_in_progress (ask_next asking d r p o go))
@@ -167,8 +172,11 @@ module _ (asking : Asking) (d : Discovered) (steps : StepsOn asking d) (r : Roun
   asks_fronts contributed (suc left) answers p = next_fronts p (next_asked d r contributed answers) (λ acted. asks_from asking d r contributed left (answers ++ acted.1 ∷ []) acted.0)
       (λ acted. asks_fronts contributed left (answers ++ acted.1 ∷ []) acted.0)
 
+  pub turns_fronts : (p : Progress) → AreFronts p.sent (sent_by sent_in_progress (turns_of asking d r p))
+  turns_fronts p = asks_fronts p.contributed (length d.processors) [] p
+
   pub round_fronts : (p : Progress) → AreFronts p.sent (sent_by sent_in_progress (round_of asking d r p))
-  round_fronts p = asks_fronts p.contributed (length d.processors) [] p
+  round_fronts p = subst (AreFronts p.sent) (sym (end_sends r (turns_of asking d r p))) (turns_fronts p)
 
   -- one was shown the round, and then come the others
   pub step_fronts : (contributed : List Bool) (left : ℕ) (answers : List Bool) (course : Course (Progress × Bool))
@@ -182,7 +190,7 @@ module _ (asking : Asking) (d : Discovered) (steps : StepsOn asking d) where
   -- behind the last round
   pub last_fronts : (number : ℕ) (error : Bool) (table : LocatedTable) (before : Progress)
       → AreFronts (sent_by sent_in_progress (round_of asking d (last_of number error table) before)) (sent_by sent_in_finished (last_round asking d number error table before))
-  last_fronts number error table before = then_fronts sent_in_progress sent_in_finished (round_of asking d (last_of number error table) before) (λ after. Ok (finished number table before after)) (λ after. fronts_same after.sent)
+  last_fronts number error table before = then_fronts sent_in_progress sent_in_finished (round_of asking d (last_of number error table) before) (λ after. Ok (finished d number table before after)) (λ after. fronts_same after.sent)
 
   by_test : (b : Bool) (sent : List Frames) (x y : Run) → AreFronts sent (sent_by sent_in_finished x) → AreFronts sent (sent_by sent_in_finished y) → AreFronts sent (sent_by sent_in_finished (cond b x y))
   by_test true sent x y one other = one

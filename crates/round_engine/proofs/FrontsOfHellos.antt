@@ -4,7 +4,7 @@ use Rattle.std.specs.Prelude.{slice_get}
 use Rattle.std.proofs.lemmas.List.{map-append}
 use Rattle.apt_outside.specs.Child.{Says, Try, Child, Known, State, AllKept}
 use Rattle.frame_breaches.specs.declared.breach.Breach.{Breach}
-use Rattle.processor_claims.specs.declared.supported.Supported.{Supported}
+use Rattle.wire_frames.specs.declared.frame.Hello.{Hello}
 use Rattle.unit_locations.specs.LocatedTable.{LocatedTable}
 use Rattle.child_session.specs.Round.{IsFront}
 use Rattle.project_units.specs.Units.{all_of}
@@ -155,7 +155,7 @@ shows_nothing processors all k = record {
 
 -- ---- Hello
 
-others_sent : (plan : Plan) (one : Supported) (later : Course (List Supported)) → sent_at_hello plan (later >>= (λ others. Ok (one ∷ others))) ≡ sent_at_hello plan later
+others_sent : (plan : Plan) (one : Hello) (later : Course (List Hello)) → sent_at_hello plan (later >>= (λ others. Ok (one ∷ others))) ≡ sent_at_hello plan later
 others_sent plan one (Ok list) = refl
 others_sent plan one (Err stopped) = refl
 
@@ -163,7 +163,7 @@ module _ (says : Says) (plan : Plan) where
   front_more : (before : List Try) (p : Try) → AreFronts (map (first_sent plan) before) (map (first_sent plan) (before ++ p ∷ []))
   front_more before p = subst (AreFronts (map (first_sent plan) before)) (sym (map-append (first_sent plan) before (p ∷ []))) (fronts_append (map (first_sent plan) before) (map (first_sent plan) (p ∷ [])))
 
-  greeted : (before : List Try) (p : Try) (later : List Try) (o : Result Supported Breach) → AreFronts (map (first_sent plan) (before ++ p ∷ [])) (sent_at_hello plan (hellos_from says plan (before ++ p ∷ []) later))
+  greeted : (before : List Try) (p : Try) (later : List Try) (o : Result Hello Breach) → AreFronts (map (first_sent plan) (before ++ p ∷ [])) (sent_at_hello plan (hellos_from says plan (before ++ p ∷ []) later))
       → AreFronts (map (first_sent plan) (before ++ p ∷ [])) (sent_at_hello plan (greeting plan before p o >>= (λ one. hellos_from says plan (before ++ p ∷ []) later >>= (λ others. Ok (one ∷ others)))))
   greeted before p later (Err breach) more = fronts_same (map (first_sent plan) (before ++ p ∷ []))
   greeted before p later (Ok one) more = subst (AreFronts (map (first_sent plan) (before ++ p ∷ []))) (sym (others_sent plan one (hellos_from says plan (before ++ p ∷ []) later))) more
@@ -189,6 +189,6 @@ module _ (says : Says) (plan : Plan) where
   -- and then come the rounds
   pub run_fronts : (table : LocatedTable) → AreFronts (hellos_sent says plan) (frames_of (run_of says plan table))
   run_fronts table = subst (AreFronts (hellos_sent says plan)) (frames_are (run_of says plan table))
-      (then_fronts (λ (supported : List Supported). map (first_sent plan) plan.processors) sent_in_finished (hellos_from says plan [] plan.processors)
-      (λ supported. rounds_from ask (discovered says plan supported) rounds_before_last (next_of 1 (all_of table)) (start plan table))
-      (λ supported. rounds_fronts ask (discovered says plan supported) (ask_fronts (discovered says plan supported)) rounds_before_last (next_of 1 (all_of table)) (start plan table)))
+      (then_fronts (λ (hellos : List Hello). map (first_sent plan) plan.processors) sent_in_finished (hellos_from says plan [] plan.processors)
+      (λ hellos. rounds_from ask (discovered says plan hellos) rounds_before_last (next_of 1 (all_of table)) (start plan table))
+      (λ hellos. rounds_fronts ask (discovered says plan hellos) (ask_fronts (discovered says plan hellos)) rounds_before_last (next_of 1 (all_of table)) (start plan table)))

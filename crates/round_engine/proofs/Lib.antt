@@ -1,5 +1,6 @@
 pub mod NumberingLemmas
 pub mod PlacedMessages
+pub mod PresentNames
 pub mod AskedInTurn
 pub mod ChildrenOfARun
 pub mod FrontsOfFrames
@@ -14,6 +15,7 @@ pub mod StoppedProcessors
 pub mod RoundsOfARun
 pub mod DueRefusals
 pub mod AskedProcessors
+pub mod EndedRounds
 pub mod TurnsOfARound
 pub mod RoundsInTurn
 pub mod CleanLemmas

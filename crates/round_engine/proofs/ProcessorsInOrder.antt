@@ -5,7 +5,7 @@ use Rattle.std.proofs.lemmas.Bool.{false≢true}
 use Rattle.std.proofs.lemmas.List.{get_or-map, length-map}
 use Rattle.std.proofs.lemmas.List.Elements.{Contains-get_or}
 use Rattle.apt_outside.specs.Child.{Says, Try, Child, State, Attends, StaysSent}
-use Rattle.processor_claims.specs.declared.supported.Supported.{Supported}
+use Rattle.wire_frames.specs.declared.frame.Hello.{Hello}
 use Rattle.child_session.specs.Beginning as session
 use Rattle.record_forms.specs.declared.record.Key.{Key}
 use Rattle.record_forms.specs.declared.record.KeyProcessor.{KeyProcessor}
@@ -62,15 +62,15 @@ module _ (plan : Plan) (i : ℕ) (p : Try) (lt : i < length plan.processors) (is
   before_is : take (suc i) plan.processors ≡ take i plan.processors ++ p ∷ []
   before_is = take-suc plan.processors i ([], []) lt ∙ ap (λ q. take i plan.processors ++ q ∷ []) is
 
-  module _ (group : List ℕ) (supported : List Supported) (k0 k : State) (so_far : Begun plan (take i plan.processors) group supported (drop i plan.processors) k0 k) where
-    at_it : Begun plan (take i plan.processors) group supported (p ∷ drop (suc i) plan.processors) k0 k
-    at_it = subst (λ later. Begun plan (take i plan.processors) group supported later k0 k) later_is so_far
+  module _ (group : List ℕ) (greeted : List Hello) (k0 k : State) (so_far : Begun plan (take i plan.processors) group greeted (drop i plan.processors) k0 k) where
+    at_it : Begun plan (take i plan.processors) group greeted (p ∷ drop (suc i) plan.processors) k0 k
+    at_it = subst (λ later. Begun plan (take i plan.processors) group greeted later k0 k) later_is so_far
 
     -- it said Hello
-    pub begun_next : (child : ℕ) (one : Supported) (new : State) → SaysHello plan p child one k new → new.says ≡ k.says
-        → Begun plan (take (suc i) plan.processors) (group ++ child ∷ []) (supported ++ one ∷ []) (drop (suc i) plan.processors) k0 new
-    begun_next child one new hello same = subst (λ before. Begun plan before (group ++ child ∷ []) (supported ++ one ∷ []) (drop (suc i) plan.processors) k0 new) (sym before_is)
-        (begun_one plan (take i plan.processors) group supported p (drop (suc i) plan.processors) k0 k at_it child one new hello same)
+    pub begun_next : (child : ℕ) (one : Hello) (new : State) → SaysHello plan p child one k new → new.says ≡ k.says
+        → Begun plan (take (suc i) plan.processors) (group ++ child ∷ []) (greeted ++ one ∷ []) (drop (suc i) plan.processors) k0 new
+    begun_next child one new hello same = subst (λ before. Begun plan before (group ++ child ∷ []) (greeted ++ one ∷ []) (drop (suc i) plan.processors) k0 new) (sym before_is)
+        (begun_one plan (take i plan.processors) group greeted p (drop (suc i) plan.processors) k0 k at_it child one new hello same)
 
     -- its start was the last that was tried
     pub tried_next : (new : State) → new.tried ≡ k.tried ++ p ∷ [] → TriesInOrder plan.processors k0 new
@@ -95,17 +95,17 @@ module _ (plan : Plan) (i : ℕ) (p : Try) (lt : i < length plan.processors) (is
     begun_refused refusal new begins starts = (
       λ due.
           let none = refused_none plan p (stop_of refusal) k new due begins in
-          begun_stops plan (take i plan.processors) group supported p (drop (suc i) plan.processors) k0 k at_it (stop_of refusal) new none none.starts starts,
-      begun_refuses plan (take i plan.processors) group supported p (drop (suc i) plan.processors) k0 k at_it (stop_of refusal) new begins,
+          begun_stops plan (take i plan.processors) group greeted p (drop (suc i) plan.processors) k0 k at_it (stop_of refusal) new none none.starts starts,
+      begun_refuses plan (take i plan.processors) group greeted p (drop (suc i) plan.processors) k0 k at_it (stop_of refusal) new begins,
     )
 
     -- it said Hello, and was stopped because memory ran out
-    pub begun_full : (child : ℕ) (one : Supported) (k1 k2 : State) → SaysHello plan p child one k k1 → Attends child k1 k2 → StaysSent child k1 k2 → (refusal : declared.Refusal) → stop_of refusal ≡ stop.Memory
+    pub begun_full : (child : ℕ) (one : Hello) (k1 k2 : State) → SaysHello plan p child one k k1 → Attends child k1 k2 → StaysSent child k1 k2 → (refusal : declared.Refusal) → stop_of refusal ≡ stop.Memory
         → BeginsEach plan group k0 k2 (Err refusal)
     begun_full child one k1 k2 hello attends stays refusal memory = (
       λ due. absurd (false≢true (ap is_refusal (sym memory) ∙ due)),
       subst (λ s. ShowsBehind (exempt_by s) plan.processors group (hellos_sent k0.says plan) k0 k2) (sym memory)
-          (begun_unheard plan (take i plan.processors) group supported p (drop (suc i) plan.processors) k0 k at_it child k2 (record {
+          (begun_unheard plan (take i plan.processors) group greeted p (drop (suc i) plan.processors) k0 k at_it child k2 (record {
             unknown = hello.tells.unknown;
             others = λ c ne. attends.change.others c ne ∙ hello.tells.others c ne;
             fact = stays_his k1.says p (init_frame plan p.0) child k1 k2 (k1.known child) refl attends stays hello.tells.fact;
@@ -113,9 +113,9 @@ module _ (plan : Plan) (i : ℕ) (p : Try) (lt : i < length plan.processors) (is
     )
 
 -- memory was wanted for what it supports, and it lives
-pub begun_unlisted : (plan : Plan) (before : List Try) (group : List ℕ) (supported : List Supported) (later : List Try) (old now : State) → Begun plan before group supported later old now
+pub begun_unlisted : (plan : Plan) (before : List Try) (group : List ℕ) (greeted : List Hello) (later : List Try) (old now : State) → Begun plan before group greeted later old now
     → (refusal : declared.Refusal) → stop_of refusal ≡ stop.Memory → BeginsEach plan group old now (Err refusal)
-begun_unlisted plan before group supported later old now so_far refusal memory = (
+begun_unlisted plan before group greeted later old now so_far refusal memory = (
   λ due. absurd (false≢true (ap is_refusal (sym memory) ∙ due)),
-  subst (λ s. ShowsBehind (exempt_by s) plan.processors group (hellos_sent old.says plan) old now) (sym memory) (begun_nothing plan before group supported later old now so_far now (λ c. refl) refl),
+  subst (λ s. ShowsBehind (exempt_by s) plan.processors group (hellos_sent old.says plan) old now) (sym memory) (begun_nothing plan before group greeted later old now so_far now (λ c. refl) refl),
 )

@@ -66,10 +66,10 @@ module _ (d : code_discovered.Discovered) (processors : List Try) (r : Round) (p
   -- it was shown, and this is what the run comes to
   pub last_ends : {T : Type 0} (done : T) (p' : code_progress.Progress) (k' : State) (rounds : Rounds) → Goes sent_in_progress d processors (round_of ask run r before) (λ (x : T). standing d.group p' k') (Ok done) k'
       → rounds ≡ rounds_until r (length p.filer.made) p'
-      → Goes sent_in_finished d processors last (λ all. shown_rounds d.group all k') (Ok rounds) k'
+      → Goes sent_in_finished d processors last (λ all. shown_rounds d all k') (Ok rounds) k'
   last_ends done p' k' rounds goes is = record {
     comes = last_ok ask run r.number r.error r.table before (standing d.group p' k') (ap (λ q. round_of ask run q before) (sym is_last) ∙ goes.comes)
-        ∙ ap (λ all. Ok (shown_rounds d.group all k')) (sym is);
+        ∙ ap (λ all. Ok (shown_rounds d all k')) (sym is);
     same = goes.same;
     ready = goes.ready;
     fronts = fronts_exact (all_sent k'.known d.group) (sent_by sent_in_finished last)

@@ -12,11 +12,11 @@ use Rattle.project_units.specs.Creations.{creates_source, sources_among}
 -- ---- the last round
 
 module _ (asking : Asking) (d : Discovered) (number : ℕ) (error : Bool) (table : LocatedTable) (before : Progress) where
-  pub last_ok : (after : Progress) → round_of asking d (last_of number error table) before ≡ Ok after → last_round asking d number error table before ≡ Ok (finished number table before after)
-  last_ok after is = ap (λ o. o >>= (λ q. Ok (finished number table before q))) is
+  pub last_ok : (after : Progress) → round_of asking d (last_of number error table) before ≡ Ok after → last_round asking d number error table before ≡ Ok (finished d number table before after)
+  last_ok after is = ap (λ o. o >>= (λ q. Ok (finished d number table before q))) is
 
   pub last_err : (stopped : Stopped) → round_of asking d (last_of number error table) before ≡ Err stopped → last_round asking d number error table before ≡ Err stopped
-  last_err stopped is = ap (λ o. o >>= (λ q. Ok (finished number table before q))) is
+  last_err stopped is = ap (λ o. o >>= (λ q. Ok (finished d number table before q))) is
 
 -- ---- a round that is not the last
 

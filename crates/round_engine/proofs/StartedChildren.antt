@@ -5,7 +5,7 @@ use Rattle.std.proofs.Math.Seq.{take-append_seam}
 use Rattle.std.specs.List.{AllByRecursion}
 use Rattle.apt_outside.specs.Child.{Says, Try, Child, Known, State, OthersKept, AllKept}
 use Rattle.frame_breaches.specs.declared.breach.Breach.{Breach}
-use Rattle.processor_claims.specs.declared.supported.Supported.{Supported}
+use Rattle.wire_frames.specs.declared.frame.Hello.{Hello}
 use Rattle.child_session.specs.Beginning as session
 use Rattle.child_session.specs.Round.{IsFront}
 use Rattle.project_units.specs.Refusals as stop
@@ -87,24 +87,24 @@ take_front xs ys n is = ap (λ k. take k (xs ++ ys)) is ∙ take-append_seam xs 
 -- ---- Hello
 
 -- what those before said, and then what is to come
-abbrev pub onto : List Supported → Course (List Supported) → Course (List Supported)
+abbrev pub onto : List Hello → Course (List Hello) → Course (List Hello)
 onto front (Ok list) = Ok (front ++ list)
 onto front (Err stopped) = Err stopped
 
-onto_more : (front : List Supported) (one : Supported) (later : Course (List Supported)) → onto front (later >>= (λ others. Ok (one ∷ others))) ≡ onto (front ++ one ∷ []) later
+onto_more : (front : List Hello) (one : Hello) (later : Course (List Hello)) → onto front (later >>= (λ others. Ok (one ∷ others))) ≡ onto (front ++ one ∷ []) later
 onto_more front one (Ok list) = ap Ok (sym (append_assoc front (one ∷ []) list))
 onto_more front one (Err stopped) = refl
 
-onto_none : (later : Course (List Supported)) → onto [] later ≡ later
+onto_none : (later : Course (List Hello)) → onto [] later ≡ later
 onto_none (Ok list) = refl
 onto_none (Err stopped) = refl
 
 -- The processors before said Hello, and these are left.
-pub record Begun (plan : Plan) (before : List Try) (group : List ℕ) (supported : List Supported) (later : List Try) (old now : State) : Type 0 where
+pub record Begun (plan : Plan) (before : List Try) (group : List ℕ) (greeted : List Hello) (later : List Try) (old now : State) : Type 0 where
   pub all : before ++ later ≡ plan.processors
   pub count : length group ≡ length before
   pub same_says : now.says ≡ old.says
-  pub hellos : onto supported (hellos_from old.says plan before later) ≡ hellos_from old.says plan [] plan.processors
+  pub hellos : onto greeted (hellos_from old.says plan before later) ≡ hellos_from old.says plan [] plan.processors
   pub each : EachOf (Serves now.says) before group now.known
   pub tells : TellsOf group old now
   pub sent : AreSent before (map (first_sent plan) before) group now.known
@@ -122,17 +122,17 @@ begun_none plan k = record {
   tried = sym (append-nil k.tried);
 }
 
-onto_sent : (plan : Plan) (front : List Supported) (later : Course (List Supported)) → sent_at_hello plan (onto front later) ≡ sent_at_hello plan later
+onto_sent : (plan : Plan) (front : List Hello) (later : Course (List Hello)) → sent_at_hello plan (onto front later) ≡ sent_at_hello plan later
 onto_sent plan front (Ok list) = refl
 onto_sent plan front (Err stopped) = refl
 
-module _ (plan : Plan) (before : List Try) (group : List ℕ) (supported : List Supported) (later : List Try) (old now : State) (so_far : Begun plan before group supported later old now) where
+module _ (plan : Plan) (before : List Try) (group : List ℕ) (greeted : List Hello) (later : List Try) (old now : State) (so_far : Begun plan before group greeted later old now) where
   sent_first : all_sent now.known group ≡ map (first_sent plan) before
   sent_first = sent_are before (map (first_sent plan) before) group now.known so_far.sent
 
   -- what they were sent is the first of what all are sent
   first_fronts : AreFronts (map (first_sent plan) before) (hellos_sent old.says plan)
-  first_fronts = subst (AreFronts (map (first_sent plan) before)) (sym (onto_sent plan supported (hellos_from old.says plan before later)) ∙ ap (sent_at_hello plan) so_far.hellos)
+  first_fronts = subst (AreFronts (map (first_sent plan) before)) (sym (onto_sent plan greeted (hellos_from old.says plan before later)) ∙ ap (sent_at_hello plan) so_far.hellos)
       (hello_fronts old.says plan before later so_far.all)
 
   his : EachOf IsOf before group now.known
@@ -164,10 +164,10 @@ module _ (plan : Plan) (before : List Try) (group : List ℕ) (supported : List 
   begun_nothing new kept tried = begun_untold None new kept first_fronts (tries_before new tried)
 
 -- what the next one says
-abbrev then_hellos : Says → Plan → List Try → Try → List Try → Result Supported Breach → Course (List Supported)
-then_hellos says plan before p later o = greeting plan before p o >>= (λ supported. hellos_from says plan (before ++ p ∷ []) later >>= (λ others. Ok (supported ∷ others)))
+abbrev then_hellos : Says → Plan → List Try → Try → List Try → Result Hello Breach → Course (List Hello)
+then_hellos says plan before p later o = greeting plan before p o >>= (λ greeted. hellos_from says plan (before ++ p ∷ []) later >>= (λ others. Ok (greeted ∷ others)))
 
-module _ (plan : Plan) (before : List Try) (group : List ℕ) (supported : List Supported) (p : Try) (later : List Try) (old now : State) (so_far : Begun plan before group supported (p ∷ later) old now) where
+module _ (plan : Plan) (before : List Try) (group : List ℕ) (greeted : List Hello) (p : Try) (later : List Try) (old now : State) (so_far : Begun plan before group greeted (p ∷ later) old now) where
   said : hello_of now.says plan p ≡ hello_of old.says plan p
   said = ap (λ says. hello_of says plan p) so_far.same_says
 
@@ -175,7 +175,7 @@ module _ (plan : Plan) (before : List Try) (group : List ℕ) (supported : List 
   outside child none = outside_known (Serves now.says) before group now.known child so_far.each none
 
   -- it said Hello
-  pub begun_one : (child : ℕ) (one : Supported) (new : State) → SaysHello plan p child one now new → new.says ≡ now.says → Begun plan (before ++ p ∷ []) (group ++ child ∷ []) (supported ++ one ∷ []) later old new
+  pub begun_one : (child : ℕ) (one : Hello) (new : State) → SaysHello plan p child one now new → new.says ≡ now.says → Begun plan (before ++ p ∷ []) (group ++ child ∷ []) (greeted ++ one ∷ []) later old new
   begun_one child one new hello same =
       let out = outside child hello.tells.unknown in
       let fact = hello.tells.fact in
@@ -183,8 +183,8 @@ module _ (plan : Plan) (before : List Try) (group : List ℕ) (supported : List 
         all = append_assoc before (p ∷ []) later ∙ so_far.all;
         count = omega (arith, so_far.count, length-append group (child ∷ []), length-append before (p ∷ []));
         same_says = same ∙ so_far.same_says;
-        hellos = sym (onto_more supported one (hellos_from old.says plan (before ++ p ∷ []) later))
-            ∙ ap (λ o. onto supported (then_hellos old.says plan before p later o)) (sym hello.hello ∙ said) ∙ so_far.hellos;
+        hellos = sym (onto_more greeted one (hellos_from old.says plan (before ++ p ∷ []) later))
+            ∙ ap (λ o. onto greeted (then_hellos old.says plan before p later o)) (sym hello.hello ∙ said) ∙ so_far.hellos;
         each = each_more (Serves new.says) before group p child now.known new.known so_far.count hello.tells.others out (subst (λ says. EachOf (Serves says) before group now.known) (sym same) so_far.each) (serves (new.known child) fact);
         tells = tells_more _ group child old now new so_far.tells out hello.tells;
         sent = sent_more (first_sent plan) before group p child now.known new.known hello.tells.others out so_far.sent (is_sent (new.known child) fact);
@@ -210,7 +210,7 @@ module _ (plan : Plan) (before : List Try) (group : List ℕ) (supported : List 
       record {
         child = child;
         comes = subst (StopsAs (hellos_from old.says plan [] plan.processors) (map (first_sent plan) (take (length group + 1) plan.processors))) (sym none.is)
-            (sym so_far.hellos ∙ ap (λ o. onto supported (then_hellos old.says plan before p later o)) (sym said ∙ none.hello)
+            (sym so_far.hellos ∙ ap (λ o. onto greeted (then_hellos old.says plan before p later o)) (sym said ∙ none.hello)
             ∙ ap (λ sent. Err (record { sent = sent; refusal = LeavesProtocol p.0 none.breach })) (sym sent_is));
         shown = record {
           tells = tells_more _ group child old now new so_far.tells out none.tells;
@@ -229,7 +229,7 @@ module _ (plan : Plan) (before : List Try) (group : List ℕ) (supported : List 
 
   -- what all are sent begins with what these and it are sent
   next_fronts : AreFronts (map (first_sent plan) before ++ first_sent plan p ∷ []) (hellos_sent old.says plan)
-  next_fronts = subst (AreFronts (map (first_sent plan) before ++ first_sent plan p ∷ [])) (sym (onto_sent plan supported (hellos_from old.says plan before (p ∷ later))) ∙ ap (sent_at_hello plan) so_far.hellos)
+  next_fronts = subst (AreFronts (map (first_sent plan) before ++ first_sent plan p ∷ [])) (sym (onto_sent plan greeted (hellos_from old.says plan before (p ∷ later))) ∙ ap (sent_at_hello plan) so_far.hellos)
       (hello_next old.says plan before p later so_far.all)
 
   named : IsSomeAnd (slice_get plan.processors (length (map (first_sent plan) before))) (λ (q : Try). q.0 ≡ p.0)
@@ -251,14 +251,14 @@ module _ (plan : Plan) (before : List Try) (group : List ℕ) (supported : List 
       let out = outside child tells.unknown in
       let kept = tells.others in
       let sent_is : all_sent new.known (group ++ child ∷ []) ≡ map (first_sent plan) before ++ frames_to new.known child ∷ [] =
-      map-append (frames_to new.known) group (child ∷ []) ∙ ap (λ sent. sent ++ frames_to new.known child ∷ []) (all_sent-outside child group now.known new.known kept out ∙ sent_first plan before group supported (p ∷ later) old now so_far) in
+      map-append (frames_to new.known) group (child ∷ []) ∙ ap (λ sent. sent ++ frames_to new.known child ∷ []) (all_sent-outside child group now.known new.known kept out ∙ sent_first plan before group greeted (p ∷ later) old now so_far) in
       record {
         others = child ∷ [];
         shows = record {
           tells = tells_more P group child old now new so_far.tells out tells;
           theirs = subst (λ xs. EachOf IsOf xs (group ++ child ∷ []) new.known) (append_assoc before (p ∷ []) later ∙ so_far.all)
               (each_front IsOf (before ++ p ∷ []) later (group ++ child ∷ []) new.known
-              (each_more IsOf before group p child now.known new.known so_far.count kept out (his plan before group supported (p ∷ later) old now so_far) (fact_is (new.known child) tells.fact)));
+              (each_more IsOf before group p child now.known new.known so_far.count kept out (his plan before group greeted (p ∷ later) old now so_far) (fact_is (new.known child) tells.fact)));
           fronts = subst (λ sent. FrontsBut exempt plan.processors sent (hellos_sent old.says plan)) (sym sent_is) fronts;
           tries = tries_next new tried;
         };
@@ -287,23 +287,23 @@ module _ (plan : Plan) (before : List Try) (group : List ℕ) (supported : List 
 
   -- a fault of the children came
   begun_failed : (new : State) → session.Unstarted p now new ⊎ session.Stopped p (session.IsOf p) now new → ShowsBehind (Some p.0) plan.processors group (hellos_sent old.says plan) old new
-  begun_failed new (inl unstarted) = begun_untold plan before group supported (p ∷ later) old now so_far (Some p.0) new unstarted.known
-      (fronts_no_more plan.processors p.0 (map (first_sent plan) before) (hellos_sent old.says plan) named (first_fronts plan before group supported (p ∷ later) old now so_far)) (tries_next new unstarted.tried)
+  begun_failed new (inl unstarted) = begun_untold plan before group greeted (p ∷ later) old now so_far (Some p.0) new unstarted.known
+      (fronts_no_more plan.processors p.0 (map (first_sent plan) before) (hellos_sent old.says plan) named (first_fronts plan before group greeted (p ∷ later) old now so_far)) (tries_next new unstarted.tried)
   begun_failed new (inr stopped) = begun_told (Some p.0) (session.IsOf p) from_session stopped.child new stopped.tells stopped.tried
       (fronts_one_more plan.processors p.0 (map (first_sent plan) before) (frames_to new.known stopped.child) (first_sent plan p) (hellos_sent old.says plan) named next_fronts)
 
   pub begun_refuses : (s : Stop) (new : State) → StopsOne plan p s now new → ShowsBehind (exempt_by s) plan.processors group (hellos_sent old.says plan) old new
   begun_refuses (stop.Refused refusal) new none = begun_unheard none.child new (begun_is p (init_frame plan p.0) none.child now new none.tells) none.tried
   begun_refuses (stop.Failed object) new (is, stops) = subst (λ o. ShowsBehind (exempt_by (stop.Failed o)) plan.processors group (hellos_sent old.says plan) old new) (sym is) (begun_failed new stops)
-  begun_refuses stop.Memory new (inl untried) = begun_nothing plan before group supported (p ∷ later) old now so_far new untried.known untried.tried
+  begun_refuses stop.Memory new (inl untried) = begun_nothing plan before group greeted (p ∷ later) old now so_far new untried.known untried.tried
   begun_refuses stop.Memory new (inr stopped) = begun_unheard stopped.child new stopped.tells stopped.tried
 
 -- all said Hello
-pub begun_all : (plan : Plan) (before : List Try) (group : List ℕ) (supported : List Supported) (old now : State) → Begun plan before group supported [] old now → AllSayHello plan group supported old now
-begun_all plan before group supported old now so_far =
+pub begun_all : (plan : Plan) (before : List Try) (group : List ℕ) (greeted : List Hello) (old now : State) → Begun plan before group greeted [] old now → AllSayHello plan group greeted old now
+begun_all plan before group greeted old now so_far =
     let all : before ≡ plan.processors = sym (append-nil before) ∙ so_far.all in
     record {
-      hellos = sym so_far.hellos ∙ ap Ok (append-nil supported);
+      hellos = sym so_far.hellos ∙ ap Ok (append-nil greeted);
       each = subst (λ xs. EachOf (Serves now.says) xs group now.known) all so_far.each;
       shown = record { tells = so_far.tells; shown = subst (λ xs. AreSent xs (map (first_sent plan) xs) group now.known) all so_far.sent };
       tried = so_far.tried ∙ ap (λ xs. old.tried ++ xs) all;

@@ -1,11 +1,16 @@
 -- Processors of which one said no Hello, so that the children before it are stopped: what is told then.
 use Rattle.std.proofs.Common.{◌≡◌, ◌+◌, ℕ, suc, List, [], ◌∷◌, ◌++◌, length, map, take, Option, None, Some, IfSome, IsSomeAnd, refl, sym, ap, subst, ◌∙◌, append-nil, length-append, arith}
+use Rattle.std.proofs.Math.Seq.{take-length}
+use Rattle.std.proofs.lemmas.List.{length-map}
 use Rattle.apt_outside.specs.Child.{Try, Child, Known, State}
+use Rattle.wire_frames.specs.declared.frame.Hello.{Hello}
 use Rattle.project_units.specs.Refusals.{Stop}
 use Rattle.project_units.specs.Plans.{Plan}
 use Rattle.round_engine.specs.Run.{Frames, first_sent}
 use Rattle.round_engine.specs.Fronts.{FrontsBut}
-use Rattle.round_engine.specs.Shown.{IsOutside, IsSent, AreSent, IsSame, AllSame, EachOf, IsOf, all_sent, ShowsNoMore, ShowsBehind, TriesInOrder, StopsAll, OneSaysNone, StopsAtHello}
+use Rattle.round_engine.specs.Shown.{IsOutside, IsSent, AreSent, IsSame, AllSame, EachOf, IsOf, Serves, all_sent, sent_at_hello, hellos_sent, ShowsFronts, ShowsNoMore, ShowsBehind, TriesInOrder, StopsAll, AllSayHello, OneSaysNone, StopsAtHello}
+use Rattle.round_engine.proofs.ChildrenOfARun.{each-weaker}
+use Rattle.round_engine.proofs.FrontsOfFrames.{fronts_exact}
 use Rattle.round_engine.proofs.FrontsOfHellos.{sent_to_each, sent_are, each_same}
 
 outside_front : (child : ℕ) (group others : List ℕ) → IsOutside child (group ++ others) → IsOutside child group
@@ -42,6 +47,25 @@ tries_nothing processors k = record { count = 0; few = omega arith; tried = sym 
 -- what those of a group were sent stays, which are their processors'
 pub all_same : (processors : List Try) (group : List ℕ) (old new : Known) → AllSame old new → EachOf IsOf processors group old → all_sent new group ≡ all_sent old group
 all_same processors group old new same each = sent_are processors (all_sent old group) group new (sent_same processors (all_sent old group) group old new same (sent_to_each processors group old each))
+
+-- what is told of processors that all said Hello
+pub said_behind : (plan : Plan) (group : List ℕ) (said : List Hello) (old new : State) → AllSayHello plan group said old new → ShowsBehind None plan.processors group (hellos_sent old.says plan) old new
+said_behind plan group said old new all =
+    let sent : all_sent new.known group ≡ map (first_sent plan) plan.processors = sent_are plan.processors (map (first_sent plan) plan.processors) group new.known all.shown.shown in
+    let whole : hellos_sent old.says plan ≡ map (first_sent plan) plan.processors = ap (sent_at_hello plan) all.hellos in
+    record {
+      others = [];
+      shows = subst (λ xs. ShowsFronts None plan.processors xs (hellos_sent old.says plan) old new) (sym (append-nil group)) (record {
+        tells = all.shown.tells;
+        theirs = each-weaker (Serves new.says) IsOf (λ q c serves. serves.is) plan.processors group new.known all.each;
+        fronts = fronts_exact (all_sent new.known group) (hellos_sent old.says plan) (whole ∙ sym sent);
+        tries = record {
+          count = length plan.processors;
+          few = omega (arith, ap length whole, length-map plan.processors (first_sent plan));
+          tried = all.tried ∙ ap (λ ps. old.tried ++ ps) (sym (take-length plan.processors));
+        };
+      });
+    }
 
 -- nothing more is told of others
 pub shows_stopped : (exempt : Option (List ℕ)) (processors : List Try) (all : List Frames) (group : List ℕ) (k0 k1 k2 : State) → ShowsBehind exempt processors group all k0 k1 → StopsAll group k1 k2 → ShowsNoMore exempt processors all k0 k2

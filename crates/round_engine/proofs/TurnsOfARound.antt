@@ -15,7 +15,7 @@ use Rattle.round_engine.specs.declared.rounds.Round.{Round}
 use Rattle.project_units.specs.Refusals as stop
 use Rattle.project_units.specs.Refusals.{Stop, exempt_by}
 use Rattle.project_units.specs.Faults.{stop_of, HasReason}
-use Rattle.round_engine.specs.Run.{Frames, Discovered, Progress, present_in, offered_names, env_of, next_asked, show, ask, round_of}
+use Rattle.round_engine.specs.Run.{Frames, Discovered, Progress, present_in, offered_names, env_of, next_asked, show, ask, turns_of}
 use Rattle.round_engine.specs.Fronts.{AreFronts, FrontsBut}
 use Rattle.round_engine.specs.Shown.{Stands, Goes, StopsAs, sent_by, sent_in_step, sent_in_progress, all_sent, standing, shown_discovered}
 use Rattle.round_engine.proofs.AskedInTurn.{Ahead, Underway, ahead_begins, ahead_next, ahead_nobody, ahead_answered, way_begins, step_opened, way_goes, way_stops, way_ends}
@@ -73,11 +73,11 @@ module _ (d : code_discovered.Discovered) (r : Round) (p0 : code_progress.Progre
   abbrev listed : List Bool → List (ℕ × List ℕ)
   listed = asked d.supported p0.contributed.items (present_in r) r.over
 
-  far : AreFronts (all_sent k.known d.group) (sent_by sent_in_progress (round_of ask run r before))
+  far : AreFronts (all_sent k.known d.group) (sent_by sent_in_progress (turns_of ask run r before))
   far = subst (λ course. AreFronts now.sent (sent_by sent_in_progress course)) is.way.rest (asks_fronts ask run (ask_fronts run) r before.contributed is.left is.answers now)
 
   -- nobody is left
-  pub asking_ends : {T : Type 0} (done : T) → AsksNobody turn claimed → Goes sent_in_progress d processors (round_of ask run r before) (λ (x : T). now) (Ok done) k
+  pub asking_ends : {T : Type 0} (done : T) → AsksNobody turn claimed → Goes sent_in_progress d processors (turns_of ask run r before) (λ (x : T). now) (Ok done) k
   asking_ends done nobody = record {
     comes = way_ends ask run r before is.answers now is.left is.way (ahead_nobody listed is.answers turn claimed is.ahead nobody);
     same = still_theirs d processors k is.stands;
@@ -86,8 +86,8 @@ module _ (d : code_discovered.Discovered) (r : Round) (p0 : code_progress.Progre
   }
 
   -- memory was wanted for the names of the next one
-  pub asking_memory : {T : Type 0} (means : T → Progress) (refusal : declared.Refusal) → stop_of refusal ≡ stop.Memory → Goes sent_in_progress d processors (round_of ask run r before) means (Err refusal) k
-  asking_memory means refusal memory = goes_memory sent_in_progress d processors (round_of ask run r before) means refusal k (still_theirs d processors k is.stands) memory far
+  pub asking_memory : {T : Type 0} (means : T → Progress) (refusal : declared.Refusal) → stop_of refusal ≡ stop.Memory → Goes sent_in_progress d processors (turns_of ask run r before) means (Err refusal) k
+  asking_memory means refusal memory = goes_memory sent_in_progress d processors (turns_of ask run r before) means refusal k (still_theirs d processors k is.stands) memory far
 
   module _ (number : ℕ) (new : Turn) (asks : Asks turn claimed number new) (fewer : waiting_count new < waiting_count turn) (table : TypeTable) (env : RoundEnv)
       (table_is : table ≡ r.table.table) (env_is : env ≡ env_of r (offered_names r (offered new))) where
@@ -119,19 +119,19 @@ module _ (d : code_discovered.Discovered) (r : Round) (p0 : code_progress.Progre
       way = way_goes ask run r before is.answers now fuel.0 way (number, offered new) next_is (standing d.group p' k') claim (sym asks_it ∙ goes.comes);
     }
 
-    stops : (sent : List Frames) (s : Stop) → StopsAs (show (shown_discovered k.says processors d) table env now number) sent s → StopsAs (round_of ask run r before) sent s
+    stops : (sent : List Frames) (s : Stop) → StopsAs (show (shown_discovered k.says processors d) table env now number) sent s → StopsAs (turns_of ask run r before) sent s
     stops sent (stop.Refused refusal) so = way_stops ask run r before is.answers now fuel.0 way (number, offered new) next_is (record { sent = sent; refusal = refusal }) (sym asks_it ∙ so)
     stops sent (stop.Failed object) so = tt
     stops sent stop.Memory so = tt
 
     -- the run was refused
     pub asking_stops : {T : Type 0} (means : T → Progress) (one : Bool → Progress × Bool) (refusal : declared.Refusal) (k' : State)
-        → Goes sent_in_step d processors (show (shown_discovered k.says processors d) table env now number) one (Err refusal) k' → Goes sent_in_progress d processors (round_of ask run r before) means (Err refusal) k'
+        → Goes sent_in_step d processors (show (shown_discovered k.says processors d) table env now number) one (Err refusal) k' → Goes sent_in_progress d processors (turns_of ask run r before) means (Err refusal) k'
     asking_stops means one refusal k' goes = record {
       comes = stops (all_sent k'.known d.group) (stop_of refusal) goes.comes;
       same = goes.same;
       ready = tt;
-      fronts = fronts_more (exempt_by (stop_of refusal)) processors (all_sent k'.known d.group) (sent_by sent_in_step (ask run r now (number, offered new))) (sent_by sent_in_progress (round_of ask run r before))
+      fronts = fronts_more (exempt_by (stop_of refusal)) processors (all_sent k'.known d.group) (sent_by sent_in_step (ask run r now (number, offered new))) (sent_by sent_in_progress (turns_of ask run r before))
           (subst (λ course. FrontsBut (exempt_by (stop_of refusal)) processors (all_sent k'.known d.group) (sent_by sent_in_step course)) asks_it goes.fronts)
           (subst (λ course. AreFronts (sent_by sent_in_step (ask run r now (number, offered new))) (sent_by sent_in_progress course))
           (step_opened ask run r before is.answers now fuel.0 way (number, offered new) next_is) (step_fronts ask run (ask_fronts run) r before.contributed fuel.0 is.answers (ask run r now (number, offered new))));

@@ -9,6 +9,7 @@ use Rattle.wire_frames.specs.declared.frame.Creation.{Creation}
 use Rattle.wire_frames.specs.declared.frame.Message.{Message}
 use Rattle.apt_filer.specs.declared.messages.Placed.{Placed}
 use Rattle.record_forms.specs.declared.record.Key.{Key}
+use Rattle.wire_frames.specs.declared.frame.Hello.{Hello}
 use Rattle.project_units.specs.declared.project.Project.{Project}
 use Rattle.round_engine.specs.declared.rounds.Rounds.{Rounds}
 use Rattle.round_engine.specs.declared.numbering.Made.{Made}
@@ -55,16 +56,34 @@ pub record Has (made : List Creation) (finished : declared.Finished) : Type 0 wh
   pub errors : finished.errors ≡ count_of is_error finished.messages
   pub warnings : finished.warnings ≡ count_of is_warning finished.messages + length finished.unread
 
--- it has of the rounds what they came to
-abbrev pub Closes : Rounds → ℕ → declared.Finished → Type 0
-Closes rounds started finished =
-    (finished.rounds ≡ rounds.count) × (finished.messages ≡ rounds.messages) × (finished.unread ≡ rounds.unread) × (finished.started ≡ started)
-    × (finished.table ≡ rounds.table)
+-- it has of the rounds what they came to, and of the processors what they said
+pub record Closes (all : Rounds) (count : ℕ) (said : List Hello) (finished : declared.Finished) : Type 0 where
+  pub rounds : finished.rounds ≡ all.count
+  pub messages : finished.messages ≡ all.messages
+  pub unread : finished.unread ≡ all.unread
+  pub started : finished.started ≡ count
+  pub table : finished.table ≡ all.table
+  pub hellos : finished.hellos ≡ said
+  pub processed : finished.processed ≡ all.processed
+  pub past : finished.past ≡ all.past
 
 -- a finished run, with the frames that were sent and the files that were made
 abbrev pub shown_finished : List (List (List ℕ)) → List Creation → declared.Finished → Finished
-shown_finished sent made finished =
-    record { sent = sent; rounds = finished.rounds; made = made; messages = finished.messages; unread = finished.unread; table = finished.table }
+shown_finished sent made finished = record {
+  sent = sent;
+  rounds = finished.rounds;
+  made = made;
+  messages = finished.messages;
+  unread = finished.unread;
+  table = finished.table;
+  hellos = finished.hellos;
+  processed = finished.processed;
+  past = finished.past;
+}
+
+-- it has a Hello of each processor of the key, whatever the children tell
+abbrev pub HasEachHello : Key → declared.Finished → Type 0
+HasEachHello key finished = length finished.hellos ≡ length key.processors
 
 -- it is this run, and has its files
 pub record FinishesAs (whole : Run) (count : ℕ) (finished : declared.Finished) : Type 0 where

@@ -1,3 +1,4 @@
+pub mod Remembering
 pub mod Run
 pub mod Faults
 pub mod Fronts

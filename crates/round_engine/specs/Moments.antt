@@ -3,7 +3,7 @@ use Rattle.std.specs.Prelude.{ℕ, Bool, List, Result}
 use Rattle.apt_outside.specs.declared.children.Children as children
 use Rattle.apt_outside.specs.Count.{Told}
 use Rattle.apt_outside.specs.Child.{State}
-use Rattle.processor_claims.specs.declared.supported.Supported.{Supported}
+use Rattle.wire_frames.specs.declared.frame.Hello.{Hello}
 use Rattle.element_table.specs.TypeTable.{TypeTable}
 use Rattle.unit_locations.specs.LocatedTable.{LocatedTable}
 use Rattle.round_env.specs.declared.environment.RoundEnv.{RoundEnv}
@@ -22,11 +22,11 @@ abbrev pub Over : {C : Type 0} → children.Ghosts C → C → C → (State → 
 Over c old new P = Told c.tells (P (c.state old) (c.state new))
 
 -- one processor was to say Hello
-abbrev pub BeginsOne : {C : Type 0} → children.Ghosts C → Key → KeyProcessor → C → C → Result (ℕ × Supported) Refusal → Type 0
+abbrev pub BeginsOne : {C : Type 0} → children.Ghosts C → Key → KeyProcessor → C → C → Result (ℕ × Hello) Refusal → Type 0
 BeginsOne c key processor old new result = Told c.tells (shown.BeginsOne (plan_of key) (try_of processor) (c.state old) (c.state new) result)
 
 -- the processors of a key were to, one after another, as far as the group goes
-abbrev pub BeginsEach : {C : Type 0} → children.Ghosts C → Key → List ℕ → C → C → Result (List Supported) Refusal → Type 0
+abbrev pub BeginsEach : {C : Type 0} → children.Ghosts C → Key → List ℕ → C → C → Result (List Hello) Refusal → Type 0
 BeginsEach c key group old new result = Told c.tells (shown.BeginsEach (plan_of key) group (c.state old) (c.state new) result)
 
 -- all processors of a key were to
@@ -38,6 +38,10 @@ abbrev pub AsksOne : {C : Type 0} → children.Ghosts C → Discovered → TypeT
 AsksOne c d table env number p p' old new result = Told c.tells (shown.AsksOne d table env number p p' (c.state old) (c.state new) result)
 
 -- all were asked that a round asks
+abbrev pub TakesTurns : {C : Type 0} → children.Ghosts C → Discovered → Round → Progress → Progress → C → C → Result Unit Refusal → Type 0
+TakesTurns c d r p p' old new result = Told c.tells (shown.TakesTurns d r p p' (c.state old) (c.state new) result)
+
+-- and so the round came to its end
 abbrev pub Asks : {C : Type 0} → children.Ghosts C → Discovered → Round → Progress → Progress → C → C → Result Unit Refusal → Type 0
 Asks c d r p p' old new result = Told c.tells (shown.Asks d r p p' (c.state old) (c.state new) result)
 

@@ -7,6 +7,8 @@ use Rattle.apt_outside.specs.Child.{Says, Try}
 use Rattle.apt_base.specs.Identifiers.{is_pattern}
 use Rattle.apt_base.specs.declared.kinds.Claim.{Claim}
 use Rattle.apt_base.specs.declared.kinds.Claim.TheVariants.{Varies}
+use Rattle.apt_base.specs.declared.kinds.Kind.{Kind}
+use Rattle.apt_base.specs.declared.kinds.Kind.TheVariants.{Undeclared}
 use Rattle.wire_frames.specs.declared.frame.Hello.{Hello}
 use Rattle.wire_frames.specs.declared.frame.Creation.{Creation}
 use Rattle.wire_frames.specs.declared.frame.Message.{Message}
@@ -21,7 +23,7 @@ use Rattle.child_session.specs.declared.request.Turn.{Turn}
 use Rattle.child_session.specs.declared.request.Turn.TheVariants.{Ends, Differs, Asks, Leaves}
 use Rattle.child_session.specs.Replies.{Exchange, shown_of, filed_all}
 use Rattle.child_session.specs.Acts as acts
-use Rattle.child_session.specs.Acts.{Act, messages}
+use Rattle.child_session.specs.Acts.{Act, messages, answer_by}
 use Rattle.child_session.specs.Round as session
 use Rattle.round_env.specs.declared.environment.RoundEnv.{RoundEnv}
 use Rattle.apt_filer.specs.declared.messages.Placed.{Placed}
@@ -33,6 +35,10 @@ use Rattle.project_units.specs.Units.{Entered, enter_all, all_of, unit_names}
 use Rattle.round_env.specs.Presence.{present_names}
 use Rattle.project_units.specs.Creations.{sources_among, creates_source, unread_among}
 use Rattle.project_units.specs.Plans.{Plan, init_frame}
+use Rattle.round_engine.specs.declared.rounds.PastRound.{PastRound}
+use Rattle.run_entries.specs.declared.processed.Processed.{Processed}
+use Rattle.run_entries.specs.Kinds.{settled_kind}
+use Rattle.round_engine.specs.Remembering.{past_round, processed_by}
 
 -- ---- how far a run comes
 
@@ -64,41 +70,42 @@ first_sent plan processor = init_frame plan processor.0 ∷ []
 abbrev pub supported_in : Hello → Supported
 supported_in hello = record { patterns = filter is_pattern hello.patterns; claim = hello.claim }
 
-abbrev pub supported_by : Result Hello Breach → Result Supported Breach
-supported_by (Ok hello) = Ok (supported_in hello)
-supported_by (Err breach) = Err breach
-
--- what a processor says that it supports, in its answer to the first frame, or how its child leaves the protocol there
-abbrev pub hello_of : Says → Plan → Try → Result Supported Breach
-hello_of says plan processor = supported_by (first_hello says processor (init_frame plan processor.0))
+-- what a processor says of itself, in its answer to the first frame, or how its child leaves the protocol there
+abbrev pub hello_of : Says → Plan → Try → Result Hello Breach
+hello_of says plan processor = first_hello says processor (init_frame plan processor.0)
 
 -- a processor said Hello, or the run is refused; these were started before it, and none behind it is
-abbrev pub greeting : Plan → List Try → Try → Result Supported Breach → Course Supported
-greeting plan before processor (Ok supported) = Ok supported
+abbrev pub greeting : Plan → List Try → Try → Result Hello Breach → Course Hello
+greeting plan before processor (Ok hello) = Ok hello
 greeting plan before processor (Err breach) = Err (record { sent = map (first_sent plan) (before ++ processor ∷ []); refusal = LeavesProtocol processor.0 breach })
 
--- the processors behind these, in order: each is sent the first frame and says what it supports
-abbrev pub hellos_from : Says → Plan → List Try → List Try → Course (List Supported)
+-- the processors behind these, in order: each is sent the first frame and says what it is
+abbrev pub hellos_from : Says → Plan → List Try → List Try → Course (List Hello)
 hellos_from says plan before [] = Ok []
 hellos_from says plan before (processor ∷ later) = do
-  supported ← greeting plan before processor (hello_of says plan processor)
+  hello ← greeting plan before processor (hello_of says plan processor)
   others ← hellos_from says plan (before ++ processor ∷ []) later
-  Ok (supported ∷ others)
+  Ok (hello ∷ others)
 
 -- ---- how far a run is
 
--- the processors that said Hello, what their children say, and what each supports
+-- the processors that said Hello, what their children say, the kind that each declares, its Hello, and what it supports by that
 pub record Discovered : Type 0 where
   pub says : Says
   pub processors : List Try
+  pub kinds : List Kind
+  pub hellos : List Hello
   pub supported : List Supported
 
--- the frames that each child was sent, which processors were asked, what the filer has, and the messages that were printed
+-- The frames that each child was sent, which processors were asked, what the filer has, and the messages that were printed; and what is remembered: what each processor did
+-- in each round in which it was asked, in order, and the rounds that came to their end.
 pub record Progress : Type 0 where
   pub sent : List Frames
   pub contributed : List Bool
   pub filings : Filings
   pub messages : List Placed
+  pub processed : List Processed
+  pub past : List PastRound
 
 -- Processors go by their numbers, from 0 in the order of discovery. A number that none has stands for nobody; nobody is asked.
 abbrev pub processor_at : Discovered → ℕ → Try
@@ -109,6 +116,16 @@ supports_nothing = record { patterns = []; claim = Varies }
 
 abbrev pub claim_at : Discovered → ℕ → Claim
 claim_at d number = (slice_index_or d.supported number supports_nothing).claim
+
+abbrev pub says_nothing : Hello
+says_nothing = record { patterns = []; options = []; claim = Varies }
+
+-- the kind of a processor, of those that declare these and say these Hellos: the one that it declares, or that its Hello settles
+abbrev pub kind_among : List Kind → List Hello → ℕ → Kind
+kind_among kinds hellos number = settled_kind (slice_index_or kinds number Undeclared) (slice_index_or hellos number says_nothing).options
+
+abbrev pub kind_at : Discovered → ℕ → Kind
+kind_at d number = kind_among d.kinds d.hellos number
 
 abbrev pub sent_at : Progress → ℕ → Frames
 sent_at p number = slice_index_or p.sent number []
@@ -149,13 +166,20 @@ place round processor number (message ∷ messages) = record { round = round; pr
 abbrev pub sent_with : TypeTable → RoundEnv → Progress → ℕ → List Exchange → Frames
 sent_with table env p number exchanges = sent_at p number ++ acts.frames_of (shown_of table env) exchanges
 
+-- what is remembered of it. Whether it claims plays no part.
+abbrev pub processed_in : Discovered → TypeTable → RoundEnv → Progress → ℕ → List Exchange → Processed
+processed_in d table env p number exchanges =
+    processed_by (kind_at d number) table env number p.processed (acts.files exchanges) (answer_by (shown_of table env) exchanges true)
+
 -- how far the run is once it did so
-abbrev pub with_act : TypeTable → RoundEnv → Progress → ℕ → List Exchange → Progress
-with_act table env p number exchanges = record {
+abbrev pub with_act : Discovered → TypeTable → RoundEnv → Progress → ℕ → List Exchange → Progress
+with_act d table env p number exchanges = record {
   sent = slice_set p.sent number (sent_with table env p number exchanges);
   contributed = slice_set p.contributed number true;
   filings = filed_all p.filings exchanges;
   messages = p.messages ++ place env.number number 0 (messages exchanges);
+  processed = p.processed ++ processed_in d table env p number exchanges ∷ [];
+  past = p.past;
 }
 
 abbrev pub stopped_at : Progress → ℕ → Frames → Refusal → Stopped
@@ -164,7 +188,7 @@ stopped_at p number sent refusal = record { sent = slice_set p.sent number sent;
 -- How far the run is after an act with these exchanges, which ended with this turn, and whether the processor claims what it was offered; or the refusal, which
 -- names it. A request that ends an act was one too many.
 abbrev pub after_act : Discovered → TypeTable → RoundEnv → Progress → ℕ → List Exchange → Turn → Course (Progress × Bool)
-after_act d table env p number exchanges (Ends claimed) = Ok (with_act table env p number exchanges, claimed)
+after_act d table env p number exchanges (Ends claimed) = Ok (with_act d table env p number exchanges, claimed)
 after_act d table env p number exchanges (Differs said) =
     Err (stopped_at p number (sent_with table env p number exchanges) (ClaimBroken (processor_at d number).0 (claim_at d number) said))
 after_act d table env p number exchanges (Asks request) =
@@ -202,9 +226,25 @@ asks_from asking d r contributed zero answers p = Ok p
 asks_from asking d r contributed (suc left) answers p =
     ask_next asking d r p (next_asked d r contributed answers) (λ acted. asks_from asking d r contributed left (answers ++ acted.1 ∷ []) acted.0)
 
--- a round: no processor is asked twice in it
+-- all turns of a round: no processor is asked twice in it
+abbrev pub turns_of : Asking → Discovered → Round → Progress → Course Progress
+turns_of asking d r p = asks_from asking d r p.contributed (length d.processors) [] p
+
+-- a round came to its end
+abbrev pub ended : Round → Progress → Progress
+ended r p = record {
+  sent = p.sent;
+  contributed = p.contributed;
+  filings = p.filings;
+  messages = p.messages;
+  processed = p.processed;
+  past = p.past ++ past_round r ∷ [];
+}
+
 abbrev pub round_of : Asking → Discovered → Round → Progress → Course Progress
-round_of asking d r p = asks_from asking d r p.contributed (length d.processors) [] p
+round_of asking d r p = do
+  after ← turns_of asking d r p
+  Ok (ended r after)
 
 -- ---- what a round left
 
@@ -223,7 +263,7 @@ has_error messages = list_any (λ placed. placed.message.kind == 0) messages
 -- ---- the run
 
 -- a run that was not refused: the frames that each child was sent, how many rounds there were, the files, the messages in the order of a report, the sources of the
--- last round by their names, and the units of that round with their locations
+-- last round by their names, and the units of that round with their locations; and what is remembered: the Hellos, what the processors did, and all rounds
 pub record Finished : Type 0 where
   pub sent : List Frames
   pub rounds : ℕ
@@ -231,6 +271,9 @@ pub record Finished : Type 0 where
   pub messages : List Placed
   pub unread : List (List ℕ)
   pub table : LocatedTable
+  pub hellos : List Hello
+  pub processed : List Processed
+  pub past : List PastRound
 
 abbrev pub Run : Type 0
 Run = Course Finished
@@ -244,20 +287,23 @@ abbrev pub next_of : ℕ → Entered → Round
 next_of number entered = record { number = number; over = false; error = false; table = entered.table; roots = entered.names }
 
 -- The sources of the last round are kept and not read.
-abbrev pub finished : ℕ → LocatedTable → Progress → Progress → Finished
-finished rounds table before after = record {
+abbrev pub finished : Discovered → ℕ → LocatedTable → Progress → Progress → Finished
+finished d rounds table before after = record {
   sent = after.sent;
   rounds = rounds;
   made = after.filings.made;
   messages = in_report_order after.messages;
   unread = unread_among (new_since before.filings after.filings);
   table = table;
+  hellos = d.hellos;
+  processed = after.processed;
+  past = after.past;
 }
 
 abbrev pub last_round : Asking → Discovered → ℕ → Bool → LocatedTable → Progress → Run
 last_round asking d number error table before = do
   after ← round_of asking d (last_of number error table) before
-  Ok (finished number table before after)
+  Ok (finished d number table before after)
 
 -- sources were entered, or the run is refused
 abbrev pub entering : List Frames → Result Entered Refusal → Course Entered
@@ -298,16 +344,19 @@ start plan table = record {
   contributed = none_asked plan.processors;
   filings = new_filings table;
   messages = [];
+  processed = [];
+  past = [];
 }
 
-abbrev pub discovered : Says → Plan → List Supported → Discovered
-discovered says plan supported = record { says = says; processors = plan.processors; supported = supported }
+abbrev pub discovered : Says → Plan → List Hello → Discovered
+discovered says plan hellos =
+    record { says = says; processors = plan.processors; kinds = plan.kinds; hellos = hellos; supported = map supported_in hellos }
 
 -- the first round has all units of the sources as roots
 abbrev pub run_of : Says → Plan → LocatedTable → Run
 run_of says plan table = do
-  supported ← hellos_from says plan [] plan.processors
-  rounds_from ask (discovered says plan supported) rounds_before_last (next_of 1 (all_of table)) (start plan table)
+  hellos ← hellos_from says plan [] plan.processors
+  rounds_from ask (discovered says plan hellos) rounds_before_last (next_of 1 (all_of table)) (start plan table)
 
 -- the frames that a run sent, for each child that was started
 abbrev pub frames_of : Run → List Frames

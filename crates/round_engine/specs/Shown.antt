@@ -4,7 +4,7 @@ use Rattle.std.specs.List.{AllByRecursion}
 use Rattle.std.specs.Option.{option_map_or}
 use Rattle.apt_outside.specs.Child.{Says, Try, Child, Known, State, without}
 use Rattle.frame_breaches.specs.declared.breach.Breach.{Breach}
-use Rattle.processor_claims.specs.declared.supported.Supported.{Supported}
+use Rattle.wire_frames.specs.declared.frame.Hello.{Hello}
 use Rattle.processor_claims.specs.declared.turn.Turn.{Turn}
 use Rattle.processor_claims.specs.Asked as claims
 use Rattle.processor_claims.specs.Turns.{IsComing}
@@ -28,7 +28,9 @@ use Rattle.apt_filer.specs.Reports.{in_report_order}
 use Rattle.project_units.specs.Creations.{unread_among}
 use Rattle.project_units.specs.Units.{all_of}
 use Rattle.project_units.specs.Plans.{Plan, init_frame}
-use Rattle.round_engine.specs.Run.{Frames, Course, first_sent, hello_of, hellos_from, Discovered, Progress, most_questions, show, ask, round_of, Finished, last_round, rounds_from, rounds_before_last, next_of}
+use Rattle.round_engine.specs.declared.rounds.PastRound.{PastRound}
+use Rattle.round_engine.specs.Remembering.{past_round}
+use Rattle.round_engine.specs.Run.{Frames, Course, first_sent, hello_of, hellos_from, Discovered, Progress, most_questions, show, ask, turns_of, round_of, Finished, last_of, last_round, rounds_from, rounds_before_last, next_of}
 
 -- ---- the children of a run at a moment
 
@@ -69,6 +71,8 @@ AreDifferent (child ∷ group) = IsOutside child group × AreDifferent group
 pub record AreListed (d : code_discovered.Discovered) : Type 0 where
   pub names : length d.names ≡ length d.supported
   pub group : length d.group ≡ length d.supported
+  pub kinds : length d.kinds ≡ length d.supported
+  pub hellos : length d.hellos ≡ length d.supported
   pub few : length d.supported ≤ 64
 
 -- for each processor is said whether it was asked
@@ -93,24 +97,52 @@ pub record Stands (d : code_discovered.Discovered) (processors : List Try) (now 
 -- ---- what the code has of a run
 
 abbrev pub shown_discovered : Says → List Try → code_discovered.Discovered → Discovered
-shown_discovered says processors d = record { says = says; processors = processors; supported = d.supported }
+shown_discovered says processors d = record { says = says; processors = processors; kinds = d.kinds; hellos = d.hellos; supported = d.supported }
 
 -- how far a run is, by what its children were sent
 abbrev pub standing : List ℕ → code_progress.Progress → State → Progress
-standing group p now = record { sent = all_sent now.known group; contributed = p.contributed.items; filings = p.filer; messages = p.messages }
+standing group p now = record {
+  sent = all_sent now.known group;
+  contributed = p.contributed.items;
+  filings = p.filer;
+  messages = p.messages;
+  processed = p.processed;
+  past = p.past;
+}
 
--- a run that was not refused
-abbrev pub shown_rounds : List ℕ → Rounds → State → Finished
-shown_rounds group rounds now =
-    record { sent = all_sent now.known group; rounds = rounds.count; made = rounds.made; messages = rounds.messages; unread = rounds.unread; table = rounds.table }
+-- a run of these processors that was not refused
+abbrev pub shown_rounds : code_discovered.Discovered → Rounds → State → Finished
+shown_rounds d rounds now = record {
+  sent = all_sent now.known d.group;
+  rounds = rounds.count;
+  made = rounds.made;
+  messages = rounds.messages;
+  unread = rounds.unread;
+  table = rounds.table;
+  hellos = d.hellos;
+  processed = rounds.processed;
+  past = rounds.past;
+}
 
 -- what the rounds come to of which this was the last, where there were this many files before it
 abbrev pub rounds_until : Round → ℕ → code_progress.Progress → Rounds
-rounds_until last count p = record { count = last.number; made = p.filer.made; messages = in_report_order p.messages; unread = unread_among (drop count p.filer.made); table = last.table }
+rounds_until last count p = record {
+  count = last.number;
+  made = p.filer.made;
+  messages = in_report_order p.messages;
+  unread = unread_among (drop count p.filer.made);
+  table = last.table;
+  processed = p.processed;
+  past = p.past;
+}
 
--- and what two rounds over a table come to in which nobody is asked
+-- the two rounds over a table in which nobody is asked
+abbrev pub past_of_none : LocatedTable → List PastRound
+past_of_none table = past_round (next_of 1 (all_of table)) ∷ past_round (last_of 2 false table) ∷ []
+
+-- and what they come to
 abbrev pub rounds_of_none : LocatedTable → Rounds
-rounds_of_none table = record { count = 2; made = []; messages = []; unread = []; table = table }
+rounds_of_none table = record { count = 2; made = []; messages = []; unread = []; table = table; processed = []; past = past_of_none table }
 
 -- ---- a part of a run
 
@@ -174,18 +206,22 @@ AsksOne d table env number p p' old new result =
     Part sent_in_step d (λ run. show run table env (standing d.group p old) number) (λ claimed. (standing d.group p' new, claimed)) result old new
 
 -- all that a round asks were asked
+abbrev pub TakesTurns : code_discovered.Discovered → Round → code_progress.Progress → code_progress.Progress → State → State → Result Unit declared.Refusal → Type 0
+TakesTurns d r p p' old new result = Part sent_in_progress d (λ run. turns_of ask run r (standing d.group p old)) (λ done. standing d.group p' new) result old new
+
+-- and so the round came to its end
 abbrev pub Asks : code_discovered.Discovered → Round → code_progress.Progress → code_progress.Progress → State → State → Result Unit declared.Refusal → Type 0
 Asks d r p p' old new result = Part sent_in_progress d (λ run. round_of ask run r (standing d.group p old)) (λ done. standing d.group p' new) result old new
 
 -- the last round came to its end
 abbrev pub EndsLast : code_discovered.Discovered → Round → code_progress.Progress → State → State → Result Rounds declared.Refusal → Type 0
 EndsLast d r p old new result =
-    Part sent_in_finished d (λ run. last_round ask run r.number r.error r.table (standing d.group p old)) (λ rounds. shown_rounds d.group rounds new) result old new
+    Part sent_in_finished d (λ run. last_round ask run r.number r.error r.table (standing d.group p old)) (λ rounds. shown_rounds d rounds new) result old new
 
 -- so did all rounds over this table
 abbrev pub EndsAll : code_discovered.Discovered → LocatedTable → code_progress.Progress → State → State → Result Rounds declared.Refusal → Type 0
 EndsAll d table p old new result =
-    Part sent_in_finished d (λ run. rounds_from ask run rounds_before_last (next_of 1 (all_of table)) (standing d.group p old)) (λ rounds. shown_rounds d.group rounds new) result old new
+    Part sent_in_finished d (λ run. rounds_from ask run rounds_before_last (next_of 1 (all_of table)) (standing d.group p old)) (λ rounds. shown_rounds d rounds new) result old new
 
 -- ---- what is told anew
 
@@ -288,7 +324,7 @@ abbrev pub AreFresh : List ℕ → List ℕ → Type 0
 AreFresh live [] = Unit {0}
 AreFresh live (child ∷ group) = (¬ Contains live child) × AreFresh (live ++ child ∷ []) group
 
-abbrev pub JoinsOne : List ℕ → List ℕ → Result (ℕ × Supported) declared.Refusal → Type 0
+abbrev pub JoinsOne : List ℕ → List ℕ → Result (ℕ × Hello) declared.Refusal → Type 0
 JoinsOne old new (Ok begun) = (new ≡ old ++ begun.0 ∷ []) × (¬ Contains old begun.0)
 JoinsOne old new (Err refusal) = new ≡ old
 
@@ -324,8 +360,8 @@ pub record StopsAll (group : List ℕ) (old new : State) : Type 0 where
 -- ---- all say Hello
 
 -- one processor said Hello
-pub record SaysHello (plan : Plan) (processor : Try) (child : ℕ) (supported : Supported) (old new : State) : Type 0 where
-  pub hello : hello_of old.says plan processor ≡ Ok supported
+pub record SaysHello (plan : Plan) (processor : Try) (child : ℕ) (said : Hello) (old new : State) : Type 0 where
+  pub hello : hello_of old.says plan processor ≡ Ok said
   pub tells : session.TellsOf child (HasBegun new.says processor (init_frame plan processor.0)) old new
   pub tried : new.tried ≡ old.tried ++ processor ∷ []
 
@@ -349,13 +385,13 @@ StopsOne plan processor stop.Memory old new =
     Untried old new ⊎ session.Stopped processor (IsUnheard processor (init_frame plan processor.0)) old new
 
 -- what comes of one
-abbrev pub BeginsOne : Plan → Try → State → State → Result (ℕ × Supported) declared.Refusal → Type 0
+abbrev pub BeginsOne : Plan → Try → State → State → Result (ℕ × Hello) declared.Refusal → Type 0
 BeginsOne plan processor old new (Ok begun) = SaysHello plan processor begun.0 begun.1 old new
 BeginsOne plan processor old new (Err refusal) = StopsOne plan processor (stop_of refusal) old new
 
--- all said Hello: what they support, and their children, which were sent the first frame and no other
-pub record AllSayHello (plan : Plan) (group : List ℕ) (supported : List Supported) (old new : State) : Type 0 where
-  pub hellos : hellos_from old.says plan [] plan.processors ≡ Ok supported
+-- all said Hello: what they said, and their children, which were sent the first frame and no other
+pub record AllSayHello (plan : Plan) (group : List ℕ) (said : List Hello) (old new : State) : Type 0 where
+  pub hellos : hellos_from old.says plan [] plan.processors ≡ Ok said
   pub each : EachOf (Serves new.says) plan.processors group new.known
   pub shown : ShowsTo group plan.processors (map (first_sent plan) plan.processors) old new
   pub tried : new.tried ≡ old.tried ++ plan.processors
@@ -369,15 +405,15 @@ pub record OneSaysNone (plan : Plan) (group : List ℕ) (refusal : Stop) (old ne
   pub tried : new.tried ≡ old.tried ++ take (length group + 1) plan.processors
 
 -- what a run sends until all have said Hello, or one has not
-abbrev pub sent_at_hello : Plan → Course (List Supported) → List Frames
-sent_at_hello plan course = sent_by (λ (supported : List Supported). map (first_sent plan) plan.processors) course
+abbrev pub sent_at_hello : Plan → Course (List Hello) → List Frames
+sent_at_hello plan course = sent_by (λ (hellos : List Hello). map (first_sent plan) plan.processors) course
 
 abbrev pub hellos_sent : Says → Plan → List Frames
 hellos_sent says plan = sent_at_hello plan (hellos_from says plan [] plan.processors)
 
 -- the group lives, with what each said of itself; or the processor behind it was refused
-abbrev pub BeginsEach : Plan → List ℕ → State → State → Result (List Supported) declared.Refusal → Type 0
-BeginsEach plan group old new (Ok supported) = AllSayHello plan group supported old new
+abbrev pub BeginsEach : Plan → List ℕ → State → State → Result (List Hello) declared.Refusal → Type 0
+BeginsEach plan group old new (Ok hellos) = AllSayHello plan group hellos old new
 BeginsEach plan group old new (Err refusal) =
     (is_due {T = Unit {0}} (Err refusal) ≡ true → OneSaysNone plan group (stop_of refusal) old new)
     × ShowsBehind (exempt_by (stop_of refusal)) plan.processors group (hellos_sent old.says plan) old new
@@ -392,7 +428,7 @@ pub record StopsAtHello (plan : Plan) (refusal : Stop) (old new : State) : Type 
 
 -- all live, or none does
 abbrev pub Begins : Plan → State → State → Result code_discovered.Discovered declared.Refusal → Type 0
-Begins plan old new (Ok d) = AllSayHello plan d.group d.supported old new
+Begins plan old new (Ok d) = AllSayHello plan d.group d.hellos old new
 Begins plan old new (Err refusal) =
     (is_due {T = Unit {0}} (Err refusal) ≡ true → StopsAtHello plan (stop_of refusal) old new)
     × ShowsNoMore (exempt_by (stop_of refusal)) plan.processors (hellos_sent old.says plan) old new

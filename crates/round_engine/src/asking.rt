@@ -1,24 +1,29 @@
 // The processors that are asked in a round, one after another.
-ghost use Rattle.std.specs.Prelude.{◌≡◌, ◌<◌, ◌^◌, length, map, slice_index_or, slice_set, true, [], IfOk, IfErr};
+ghost use Rattle.std.specs.Prelude.{◌≡◌, ◌<◌, ◌^◌, ◌++◌, length, drop, map, slice_index_or, slice_set, true, [], ◌∷◌, IfOk, IfErr, OnOk};
 ghost use Rattle.std.specs.List.{AllByRecursion};
 ghost use Rattle.project_units.specs.Refusals.{NamesAmong};
 ghost use Rattle.project_units.specs.Faults.{stop_of, HasReason};
-ghost use Rattle.round_engine.specs.Run.{env_of, most_questions, present_in, showing};
+ghost use Rattle.round_engine.specs.Run.{env_of, kind_among, most_questions, present_in, showing};
+ghost use Rattle.round_engine.specs.Remembering.{past_round, processed_by, roots_with};
 ghost use Rattle.processor_claims.specs.Turns.{IsWithin, waiting_count};
 ghost use Rattle.round_engine.specs.Shown.{AreListed, HasEach, AllLive, AttendsAll, IsDueStop, IsTurnOf};
-ghost use Rattle.round_engine.specs.Moments.{Over, AsksOne, Asks};
+ghost use Rattle.round_engine.specs.Moments.{Over, AsksOne, TakesTurns, Asks};
 
 use crate::beginning::Discovered;
 use crate::messages::place;
 use crate::progress::Progress;
-use crate::rounds::Round;
+use crate::remembering::{past_round, present_among, processed_of, roots_with};
+use crate::rounds::{PastRound, Round, made_since};
 use crate::session_fault::refusal_by;
-use apt_base::{Claim, List, Name, NoMemory, copy_names};
+use apt_base::{Claim, Kind, List, Name, NoMemory, copy_names};
+use apt_filer::Filer;
 use apt_outside::Children;
-use child_session::{Answering, Showing, show_round};
+use child_session::{Answer, Answering, Showing, show_round};
+use element_table::Table;
 use processor_claims::Turn;
 use project_units::Refusal;
-use round_env::{RoundEnv, present};
+use round_env::RoundEnv;
+use run_entries::{Processed, settled_kind};
 use std::alloc::Global;
 
 // How often a child may ask in a round that is shown to it so. More than fits is answered as out of memory.
@@ -70,18 +75,66 @@ fn set_contributed(contributed: &mut Vec<bool>, number: usize)
     contributed[number] = true;
 }
 
+// The kind of the processor of this number: the one that it declares, or that its Hello settles.
+fn kind_of(run: &Discovered, number: usize) -> Kind
+    requires kinds { number < length run.now.kinds }
+    requires hellos { number < length run.now.hellos }
+    ensures { result ≡ kind_among run.now.kinds run.now.hellos number }
+{
+    let declared = run.kinds.as_slice()[number];
+    let hello = &run.hellos.as_slice()[number];
+    settled_kind(declared, hello.options.as_slice())
+}
+
+// Adds what a processor of this kind and number did that was shown this and answered so, where there were `count` files before.
+fn remember(
+    alloc: Global,
+    kind: Kind,
+    table: &Table,
+    roots: &[(Name, List<Name>)],
+    env: &RoundEnv,
+    number: u16,
+    filer: &Filer,
+    count: usize,
+    answer: &Answer,
+    processed: &mut List<Processed>,
+) -> Result<(), NoMemory>
+    requires { roots.now ≡ roots_with table.now env.now.roots }
+    ensures { OnOk result (processed.new ≡ processed.old
+        ++ processed_by kind table.now env.now number processed.old (drop count filer.now.made) answer.now ∷ []) }
+{
+    let made = made_since(filer, count);
+    let done = processed_of(
+        alloc,
+        kind,
+        table,
+        roots,
+        env,
+        number,
+        processed.as_slice(),
+        made,
+        answer,
+    )?;
+    processed.push(done)
+}
+
 /// Shows a round to the processor of this number, and says whether it claims what it is offered. What it asks is answered over the
-/// table of `answering`, and what it creates and prints is added to what there was before.
+/// table of `answering`, which is this one, and what it creates and prints is added to what there was before. `roots` are those of
+/// the round, each with the names that are present on it.
 fn ask<C: Children>(
     alloc: Global,
     children: &mut C,
     run: &Discovered,
+    table: &Table,
+    roots: &[(Name, List<Name>)],
     answering: &mut Answering<'_>,
     number: u16,
     env: RoundEnv,
     progress: &mut Progress,
 ) -> Result<bool, Refusal>
     requires number { number < length run.now.supported }
+    requires table { table.now ≡ answering.old }
+    requires roots { roots.now ≡ roots_with table.now env.roots }
     requires listed { AreListed run.now }
     requires each { HasEach run.now progress.old }
     requires lives { AllLive run.now.group (C.state children.old) }
@@ -100,6 +153,7 @@ fn ask<C: Children>(
     let name = run.names.as_slice()[at].copy()?;
     let claim = run.supported.as_slice()[at].claim;
     let round = env.number;
+    let made = progress.filer.made().len();
     let showing = showing_of(env, claim)?;
     let answer = match show_round(
         alloc,
@@ -115,8 +169,21 @@ fn ask<C: Children>(
             return Err(refusal_by(name, fault));
         }
     };
-    drop(showing);
     set_contributed(&mut progress.contributed, at);
+    let kind = kind_of(run, at);
+    remember(
+        alloc,
+        kind,
+        table,
+        roots,
+        &showing.env,
+        number,
+        &progress.filer,
+        made,
+        &answer,
+        &mut progress.processed,
+    )?;
+    drop(showing);
     place(&mut progress.messages, round, number, answer.messages)?;
     Ok(answer.claimed)
 }
@@ -153,6 +220,7 @@ fn ask_in_turn<C: Children>(
     children: &mut C,
     run: &Discovered,
     round: &Round,
+    roots: &[(Name, List<Name>)],
     answering: &mut Answering<'_>,
     present: &List<Name>,
     mut turn: Turn,
@@ -162,6 +230,7 @@ fn ask_in_turn<C: Children>(
     requires each { HasEach run.now so_far.old }
     requires lives { AllLive run.now.group (C.state children.old) }
     requires table { answering.old ≡ round.now.table.table }
+    requires roots { roots.now ≡ roots_with round.now.table.table round.now.roots }
     requires names { present.now ≡ present_in round.now }
     requires coming { IsTurnOf run.now round.now so_far.old present.now turn }
     requires within { IsWithin (length run.now.supported) (length present.now) turn }
@@ -173,15 +242,31 @@ fn ask_in_turn<C: Children>(
     ensures live { (C.state children.new).live ≡ (C.state children.old).live }
     ensures still { HasEach run.now so_far.new }
     ensures attends { Over C.Children children.old children.new (AttendsAll run.now.group) }
-    ensures asks { Asks C.Children run.now round.now so_far.old so_far.new children.old children.new result }
+    ensures asks { TakesTurns C.Children run.now round.now so_far.old so_far.new children.old children.new result }
 {
+    let table = round.table.table();
     let mut claimed = false;
     while let Some(number) = turn.next(claimed) {
         let offered = offered_names(alloc, present.as_slice(), turn.offered().as_slice())?;
         let env = env_of(alloc, round, offered)?;
-        claimed = ask(alloc, children, run, answering, number, env, so_far)?;
+        claimed = ask(
+            alloc, children, run, table, roots, answering, number, env, so_far,
+        )?;
     }
     Ok(())
+}
+
+// Adds a round that came to its end, on whose roots annotations of these names are present.
+fn end_round(
+    alloc: Global,
+    round: &Round,
+    present: List<Name>,
+    past: &mut List<PastRound>,
+) -> Result<(), NoMemory>
+    requires { present ≡ present_in round.now }
+    ensures { OnOk result (past.new ≡ past.old ++ past_round round.now ∷ []) }
+{
+    past.push(past_round(alloc, round, present)?)
 }
 
 /// Asks all processors that the round asks, one after another: whether one claims what it is offered decides what is offered to
@@ -207,7 +292,8 @@ pub(crate) fn ask_all<C: Children>(
     ensures asks { Asks C.Children run.now round.now so_far.old so_far.new children.old children.new result }
 {
     let table = round.table.table();
-    let present = present(alloc, table, &round.roots)?;
+    let roots = roots_with(alloc, table, round.roots.as_slice())?;
+    let present = present_among(alloc, round, roots.as_slice())?;
     let turn = turn_of(alloc, run, round, so_far, &present)?;
     let mut answering = Answering::new(alloc, table)?;
     let asked = ask_in_turn(
@@ -215,11 +301,15 @@ pub(crate) fn ask_all<C: Children>(
         children,
         run,
         round,
+        roots.as_slice(),
         &mut answering,
         &present,
         turn,
         so_far,
     );
     drop(answering);
-    asked
+    match asked {
+        Ok(()) => Ok(end_round(alloc, round, present, &mut so_far.past)?),
+        Err(refusal) => Err(refusal),
+    }
 }

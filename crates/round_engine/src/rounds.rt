@@ -17,6 +17,7 @@ use apt_filer::{Filer, Placed, report_order};
 use apt_outside::Children;
 use element_table::Part;
 use project_units::{Refusal, creates_source, enter_all, unread_among};
+use run_entries::Processed;
 use std::alloc::Global;
 use unit_locations::LocatedTable;
 use wire_frames::Creation;
@@ -39,6 +40,15 @@ pub struct Round {
     pub roots: List<Name>,
 }
 
+/// What is remembered of a round that came to its end.
+#[derive(Drop)]
+pub struct PastRound {
+    /// The names of its root units, ascending. They are the units that entered before it: before the first round the initial ones.
+    pub roots: List<Name>,
+    /// The names of the annotations that are present on its roots, ascending.
+    pub present: List<Name>,
+}
+
 /// What the rounds of a run came to.
 #[derive(Drop)]
 pub struct Rounds {
@@ -52,10 +62,14 @@ pub struct Rounds {
     pub unread: List<Name>,
     /// The table of the last round.
     pub table: LocatedTable,
+    /// What each processor did in each round in which it was asked, in order.
+    pub processed: List<Processed>,
+    /// All rounds, the last included.
+    pub past: List<PastRound>,
 }
 
-// What was made since there were `count` files.
-fn made_since(filer: &Filer, count: usize) -> &[Creation]
+/// What was made since there were `count` files.
+pub(crate) fn made_since(filer: &Filer, count: usize) -> &[Creation]
     ensures { result.now ≡ drop count filer.now.made }
 {
     let made = filer.made();
@@ -93,6 +107,8 @@ fn rounds_until(
         messages: progress.messages,
         unread,
         table: last.table,
+        processed: progress.processed,
+        past: progress.past,
     })
 }
 
@@ -130,8 +146,8 @@ fn is_followed_by_last(error: bool, made: &[Creation]) -> bool
     error || !creates_source(made)
 }
 
-// The first round over a table, of which all source units are roots.
-fn first_round(alloc: Global, project: &LocatedTable) -> Result<Round, NoMemory>
+/// The first round over a table, of which all source units are roots.
+pub(crate) fn first_round(alloc: Global, project: &LocatedTable) -> Result<Round, NoMemory>
     ensures { IfOk result (λ round. round ≡ next_of 1 (all_of project.now)) }
 {
     Ok(Round {

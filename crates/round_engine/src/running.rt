@@ -5,21 +5,25 @@ ghost use Rattle.apt_base.specs.Limits.{max_processors};
 ghost use Rattle.apt_outside.specs.Count.{Told};
 ghost use Rattle.project_units.specs.Faults.{HasReason, stop_of};
 ghost use Rattle.round_engine.specs.Run.{new_filings, none_asked};
-ghost use Rattle.round_engine.specs.Clean.{AreNumbered, Closes, Has, NamesProcessor, Starts, Tries, CleansOver};
+ghost use Rattle.round_engine.specs.Clean.{AreNumbered, Closes, Has, HasEachHello, NamesProcessor, Starts, Tries, CleansOver};
 ghost use Rattle.round_engine.specs.Shown.{AreListed, CountsTries, IsDueStop, rounds_of_none};
 ghost use Rattle.round_engine.specs.Moments.{Over};
 
 use crate::beginning::{Discovered, begin_all, end_all};
+use crate::copies::{copy_hellos, copy_past, copy_processed};
 use crate::messages::{copy_messages, count_errors, count_warnings};
 use crate::numbering::{Made, copy_files, number_files};
 use crate::progress::Progress;
-use crate::rounds::{Rounds, show_rounds};
+use crate::remembering::ended_round;
+use crate::rounds::{PastRound, Round, Rounds, first_round, show_rounds};
 use apt_base::{List, Name, NoMemory, copy_names};
 use apt_filer::{Filer, Placed};
 use apt_outside::Children;
 use project_units::{Project, Refusal, files_among, unit_names};
+use run_entries::Processed;
 use std::alloc::Global;
 use unit_locations::LocatedTable;
+use wire_frames::Hello;
 
 /// What a run came to that was not refused.
 #[derive(Drop)]
@@ -41,6 +45,12 @@ pub struct Finished {
     /// The units of the last round with their locations: those of the project, and those of the sources that were created in
     /// earlier rounds and entered.
     pub table: LocatedTable,
+    /// What each processor said of itself, in the order of discovery.
+    pub hellos: List<Hello>,
+    /// All rounds, the last included.
+    pub past: List<PastRound>,
+    /// What each processor did in each round in which it was asked, by round and then in the order of discovery.
+    pub processed: List<Processed>,
 }
 
 impl Finished {
@@ -57,6 +67,9 @@ impl Finished {
             messages: copy_messages(alloc, self.messages.as_slice())?,
             unread: copy_names(alloc, self.unread.as_slice())?,
             table: self.table.copy(alloc)?,
+            hellos: copy_hellos(alloc, self.hellos.as_slice())?,
+            past: copy_past(alloc, self.past.as_slice())?,
+            processed: copy_processed(alloc, self.processed.as_slice())?,
         })
     }
 }
@@ -66,12 +79,16 @@ fn first_progress(alloc: Global, project: &Project) -> Result<Progress, NoMemory
     ensures contributed { IfOk result (λ p. p.contributed.items ≡ none_asked project.now.key.processors) }
     ensures filer { IfOk result (λ p. p.filer ≡ new_filings project.now.initial) }
     ensures messages { IfOk result (λ p. p.messages ≡ []) }
+    ensures processed { IfOk result (λ p. p.processed ≡ []) }
+    ensures past { IfOk result (λ p. p.past ≡ []) }
 {
     let names = unit_names(alloc, &project.initial)?;
     Ok(Progress {
         contributed: vec![in alloc; false; project.key.processors.len()]?,
         filer: Filer::new(alloc, names.as_slice())?,
         messages: List::new(alloc),
+        processed: List::new(alloc),
+        past: List::new(alloc),
     })
 }
 
@@ -79,12 +96,25 @@ fn first_progress(alloc: Global, project: &Project) -> Result<Progress, NoMemory
 fn no_rounds(alloc: Global, project: &LocatedTable) -> Result<Rounds, NoMemory>
     ensures { IfOk result (λ rounds. rounds ≡ rounds_of_none project.now) }
 {
+    let first = first_round(alloc, project)?;
+    let mut past = List::new(alloc);
+    past.push(ended_round(alloc, &first)?)?;
+    let last = Round {
+        number: 2,
+        over: true,
+        error: false,
+        table: first.table,
+        roots: List::new(alloc),
+    };
+    past.push(ended_round(alloc, &last)?)?;
     Ok(Rounds {
-        count: 2,
+        count: last.number,
         made: List::new(alloc),
         messages: List::new(alloc),
         unread: List::new(alloc),
-        table: project.copy(alloc)?,
+        table: last.table,
+        processed: List::new(alloc),
+        past,
     })
 }
 
@@ -96,15 +126,16 @@ fn count_of(run: &Discovered) -> u32
     run.group.len() as u32
 }
 
-/// What a run has of what was made.
+/// What a run has of what was made, where its processors said these Hellos.
 fn finish_run(
     alloc: Global,
     taken: &[u32],
     started: u32,
+    hellos: List<Hello>,
     rounds: Rounds,
 ) -> Result<Finished, NoMemory>
-    requires { IsStrictlyIncreasing taken.now }
-    ensures is { IfOk result (Closes rounds started) }
+    requires ascending { IsStrictlyIncreasing taken.now }
+    ensures is { IfOk result (Closes rounds started hellos) }
     ensures numbered { IfOk result (λ finished. AreNumbered taken.now finished.files) }
     ensures has { IfOk result (Has rounds.made) }
 {
@@ -123,18 +154,21 @@ fn finish_run(
         messages: rounds.messages,
         unread: rounds.unread,
         table: rounds.table,
+        hellos,
+        past: rounds.past,
+        processed: rounds.processed,
     })
 }
 
-// What a run over a table comes to in which nobody is asked.
-fn finish_none(alloc: Global, taken: &[u32], project: &LocatedTable) -> Result<Finished, NoMemory>
-    requires { IsStrictlyIncreasing taken.now }
-    ensures is { IfOk result (Closes (rounds_of_none project.now) 0) }
+// What a run over a project comes to in which nobody is asked.
+fn finish_none(alloc: Global, project: &LocatedTable, taken: &[u32]) -> Result<Finished, NoMemory>
+    requires ascending { IsStrictlyIncreasing taken.now }
+    ensures is { IfOk result (Closes (rounds_of_none project.now) 0 []) }
     ensures numbered { IfOk result (λ finished. AreNumbered taken.now finished.files) }
     ensures has { IfOk result (Has []) }
 {
     let rounds = no_rounds(alloc, project)?;
-    finish_run(alloc, taken, 0, rounds)
+    finish_run(alloc, taken, 0, List::new(alloc), rounds)
 }
 
 /// Runs the rounds over a project, from nothing, with at most 64 processors. All processors are started before round 1, in
@@ -165,12 +199,13 @@ pub fn clean<C: Children>(
     ensures named { NamesProcessor project.now.key result }
     ensures due { IfErr result (λ refusal. IsDueStop (stop_of refusal)) }
     ensures cleans { CleansOver C.Children project.now children.old children.new result }
+    ensures hellos { IfOk result (HasEachHello project.now.key) }
 {
     let progress = first_progress(alloc, project)?;
     let processors = project.key.processors.len();
     if processors == 0 {
         // nobody is asked in the two rounds, whatever the children tell
-        return Ok(finish_none(alloc, taken, &project.initial)?);
+        return Ok(finish_none(alloc, &project.initial, taken)?);
     }
     let run = begin_all(alloc, children, &project.key)?;
     let outcome = show_rounds(alloc, children, &run, &project.initial, progress);
@@ -178,6 +213,6 @@ pub fn clean<C: Children>(
     end_all(children, run.group);
     match outcome {
         Err(refusal) => Err(refusal),
-        Ok(rounds) => Ok(finish_run(alloc, taken, started, rounds)?),
+        Ok(rounds) => Ok(finish_run(alloc, taken, started, run.hellos, rounds)?),
     }
 }

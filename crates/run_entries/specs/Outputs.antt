@@ -22,9 +22,9 @@ file_of creation = record { path = path_of creation; type_name = type_text creat
 abbrev pub file_origin : GeneratedFile → Origin
 file_origin file = origin_of file.origins
 
--- ---- roots to which something is offered
+-- ---- roots with names of annotations
 
--- its name, and the offered names that it carries
+-- its name, and names that it carries: those that are present on it, or of these those that are offered
 abbrev pub Root : Type 0
 Root = List ℕ × List (List ℕ)
 

@@ -25,7 +25,7 @@ mod stores;
 pub use annotated::annotated_roots;
 pub use kinds::{AGGREGATING_OPTION, ISOLATING_OPTION, settled_kind};
 pub use laws::entries_stand;
-pub use processed::{GeneratedFile, Processed};
+pub use processed::{GeneratedFile, Processed, copy_messages};
 pub use recorded_entries::entries;
 pub use recorded_notes::notes;
 pub use stores::StoreNumbers;

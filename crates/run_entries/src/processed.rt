@@ -4,7 +4,7 @@ ghost use Rattle.apt_filer.specs.Filing.{content_of};
 ghost use Rattle.apt_filer.specs.Origins.{originating};
 ghost use Rattle.run_entries.specs.Outputs.{file_of, type_text};
 
-use apt_base::{ElementRef, Kind, List, Name, NoMemory};
+use apt_base::{ElementRef, Kind, List, Name, NoMemory, copy_names};
 use apt_filer::path_of;
 use std::alloc::Global;
 use wire_frames::{Creation, Message};
@@ -60,6 +60,42 @@ pub(crate) fn copy_elements(
     Ok(copies)
 }
 
+/// Equal messages in the same order.
+pub fn copy_messages(alloc: Global, messages: &[Message]) -> Result<List<Message>, NoMemory>
+    ensures { IfOk result (λ list. list ≡ messages.now) }
+{
+    let mut copies = List::new(alloc);
+    for each in messages {
+        copies.push(each.copy(alloc)?)?;
+    }
+    Ok(copies)
+}
+
+fn copy_files(alloc: Global, files: &[GeneratedFile]) -> Result<List<GeneratedFile>, NoMemory>
+    ensures { IfOk result (λ list. list ≡ files.now) }
+{
+    let mut copies = List::new(alloc);
+    for each in files {
+        copies.push(each.copy(alloc)?)?;
+    }
+    Ok(copies)
+}
+
+// Equal roots, each with its names.
+fn copy_roots(
+    alloc: Global,
+    roots: &[(Name, List<Name>)],
+) -> Result<List<(Name, List<Name>)>, NoMemory>
+    ensures { IfOk result (λ list. list ≡ roots.now) }
+{
+    let mut copies = List::new(alloc);
+    for root in roots {
+        let names = copy_names(alloc, root.1.as_slice())?;
+        copies.push((root.0.copy()?, names))?;
+    }
+    Ok(copies)
+}
+
 fn content_of(creation: &Creation) -> &List<u8>
     ensures { result.now ≡ content_of creation.now }
 {
@@ -101,6 +137,37 @@ impl GeneratedFile {
             type_name: type_text(alloc, creation)?,
             length,
             origins: copy_elements(alloc, origins_of(creation).as_slice())?,
+        })
+    }
+
+    /// An equal file.
+    pub fn copy(&self, alloc: Global) -> Result<GeneratedFile, NoMemory>
+        ensures { IfOk result (λ file. file ≡ self.now) }
+    {
+        Ok(GeneratedFile {
+            path: self.path.copy()?,
+            type_name: self.type_name.copy()?,
+            length: self.length,
+            origins: copy_elements(alloc, self.origins.as_slice())?,
+        })
+    }
+}
+
+impl Processed {
+    /// An equal value.
+    pub fn copy(&self, alloc: Global) -> Result<Processed, NoMemory>
+        ensures { IfOk result (λ processed. processed ≡ self.now) }
+    {
+        Ok(Processed {
+            round: self.round,
+            processor: self.processor,
+            kind: self.kind,
+            offered: copy_names(alloc, self.offered.as_slice())?,
+            annotated: copy_roots(alloc, self.annotated.as_slice())?,
+            files: copy_files(alloc, self.files.as_slice())?,
+            messages: copy_messages(alloc, self.messages.as_slice())?,
+            refused: self.refused,
+            beyond: self.beyond,
         })
     }
 }

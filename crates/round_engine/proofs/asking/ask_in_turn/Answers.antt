@@ -1,6 +1,8 @@
 use Rattle.std.proofs.Common.{◌≡◌, ◌<◌, ℕ, List, [], Contains, length, map, get_or, refl, sym, ap, ◌∙◌, subst, arith}
 use Rattle.std.specs.List.{AllByRecursion}
 use Rattle.std.proofs.lemmas.Result.{err_from_is_err_and}
+use Rattle.round_env.specs.declared.environment.RoundEnv.{RoundEnv}
+use Rattle.round_engine.specs.Remembering.{roots_with}
 use Rattle.round_engine.specs.Run.{present_in, offered_names, env_of}
 use Rattle.processor_claims.specs.Turns.{offered, IsWithin}
 use Rattle.round_engine.proofs.AskedInTurn.{within_number, within_names, within_later}
@@ -122,3 +124,11 @@ loop-number-preserved g c =
             c.ask.new.progress k1 c.in_ok-claimed.claimed (c.in_ok-claimed.ensures.asks told processors is.stands) (c.ask.ensures.attends told).same_says;
       };
     }
+
+pub ask-requires-clause-table : goal.ask-requires-clause-table
+ask-requires-clause-table g c = c.table-table.ensures ∙ sym c.loop-number.invariant.table
+
+pub ask-requires-clause-roots : goal.ask-requires-clause-roots
+ask-requires-clause-roots g c =
+    let r = c.args.round.now in
+    c.requires.roots ∙ ap (λ table. roots_with table r.roots) (sym c.table-table.ensures) ∙ ap (λ (env : RoundEnv). roots_with c.table-table.result.now env.roots) (sym c.in_ok-env.ensures)

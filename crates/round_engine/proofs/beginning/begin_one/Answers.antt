@@ -1,16 +1,13 @@
-use Rattle.std.proofs.Common.{◌≡◌, ◌∷◌, [], map, string_bytes, Contains, None, Err, inl, refl, sym, ap, ◌∙◌, subst, arith}
+use Rattle.std.proofs.Common.{◌≡◌, map, string_bytes, Err, inl, refl, ap, ◌∙◌, subst, arith}
 use Rattle.std.proofs.lemmas.Result.{err_from_is_err_and}
-use Rattle.std.proofs.lemmas.List.Elements.{Contains-append_right}
-use Rattle.apt_outside.specs.Child.{without}
-use Rattle.apt_outside.proofs.Live.{without_last}
 use Rattle.child_session.specs.Beginning as session
 use Rattle.project_units.specs.Refusals as stop
 use Rattle.project_units.specs.Refusals.{Names}
 use Rattle.project_units.specs.Faults.{stop_of}
 use Rattle.round_engine.specs.Faults.{of_session}
 use Rattle.project_units.specs.Plans.{init_frame, plan_of, try_of}
-use Rattle.round_engine.proofs.BegunProcessors.{untried, begins_err, stopped_memory}
-use Rattle.round_engine.proofs.CountedStarts.{counted_by, stops_counted, hello_err, starts_memory, starts_one, starts_err}
+use Rattle.round_engine.proofs.BegunProcessors.{untried, begins_err}
+use Rattle.round_engine.proofs.CountedStarts.{counted_by, stops_counted, hello_err, starts_memory, starts_err}
 use Rattle.round_engine.proofs.beginning.begin_one.Goals as goal
 
 pub returns-in-Err-clause-begins : goal.returns-in-Err-clause-begins
@@ -25,35 +22,6 @@ returns-in-Err-clause-begins g c = λ told.
     let begins = subst (λ words. session.Begins (processor.name, words) (init_frame plan processor.name) k0 k1 (Err c.in-Err.fault)) words_is
     (subst (λ init. session.Begins (processor.name, map string_bytes c.deref.result.now) init k0 k1 (Err c.in-Err.fault)) init_is (c.in-Err.ensures.begins told)) in
     begins_err plan (try_of processor) k0 k1 c.in-Err.fault (stop_of c.refusal_by.result) begins c.in-Err.ensures.starts (c.refusal_by.ensures.is ∙ ap (λ n. of_session n c.in-Err.fault) c.in_ok-name.ensures)
-
-pub stop-requires : goal.stop-requires
-stop-requires g c =
-    let k0 = g.C.Children.state c.args.children.now in
-    let child = c.in-Ok.begun.0 in
-    subst (λ live. Contains live child) (sym c.in-Ok.ensures.live.0) (Contains-append_right k0.live (child ∷ []) child (0, omega arith, refl))
-
-pub returns-clause-live : goal.returns-clause-live
-returns-clause-live g c =
-    let k0 = g.C.Children.state c.args.children.now in
-    let child = c.in-Ok.begun.0 in
-    c.stop.ensures.live ∙ ap (without child) c.in-Ok.ensures.live.0 ∙ without_last child k0.live c.in-Ok.ensures.live.1
-
-pub returns-clause-begins : goal.returns-clause-begins
-returns-clause-begins g c = λ told.
-    let C = g.C.Children in
-    let plan = plan_of c.args.key.now in
-    let processor = c.args.processor.now in
-    let k0 = C.state c.args.children.now in
-    let k1 = C.state c.begin.new.children in
-    let k2 = C.state c.stop.new.self in
-    let child = c.in-Ok.begun.0 in
-    let hello = c.in-Ok.begun.1 in
-    let words_is : map string_bytes c.deref.result.now ≡ processor.command = ap (map string_bytes) c.deref.ensures.value ∙ c.in_ok-words.ensures ∙ c.as_slice.ensures in
-    let init_is : c.as_slice-2.result.now ≡ init_frame plan processor.name = c.as_slice-2.ensures ∙ c.in_ok-init.ensures in
-    let says = subst (λ words. session.SaysHello (processor.name, words) (init_frame plan processor.name) k0 k1 child hello) words_is
-    (subst (λ init. session.SaysHello (processor.name, map string_bytes c.deref.result.now) init k0 k1 child hello) init_is (c.in-Ok.ensures.begins told)) in
-    stopped_memory plan (try_of processor) k0 k1 child hello says c.in-Ok.ensures.starts k2 (c.stop.ensures.attends told) (c.stop.ensures.sent told)
-    c.stop.ensures.starts
 
 pub returns-in_err-name-clause-starts : goal.returns-in_err-name-clause-starts
 returns-in_err-name-clause-starts g c =
@@ -102,11 +70,6 @@ returns-in-Err-clause-starts g c =
 pub returns-in-Err-clause-hello : goal.returns-in-Err-clause-hello
 returns-in-Err-clause-hello g c = hello_err c.in_ok-name.name c.in-Err.fault (stop_of c.refusal_by.result) c.in-Err.ensures.refused (inl c.refusal_by.ensures.is)
 
-pub returns-clause-starts : goal.returns-clause-starts
-returns-clause-starts g c =
-    let C = g.C.Children in
-    starts_one stop.Memory (C.state c.args.children.now) (C.state c.stop.new.self) refl (c.stop.ensures.starts ∙ c.in-Ok.ensures.starts)
-
 pub returns-in_err-name-clause-counted : goal.returns-in_err-name-clause-counted
 returns-in_err-name-clause-counted g c = λ told.
     let e = err_from_is_err_and c.from_residual.result c.from_residual.ensures.1 in
@@ -127,13 +90,7 @@ returns-in-Err-clause-counted g c = λ told.
     let C = g.C.Children in
     stops_counted (plan_of c.args.key.now) (try_of c.args.processor.now) (stop_of c.refusal_by.result) (C.state c.args.children.now) (C.state c.begin.new.children) (returns-in-Err-clause-begins g c told)
 
-pub returns-clause-counted : goal.returns-clause-counted
-returns-clause-counted g c = λ told.
-    let C = g.C.Children in
-    stops_counted (plan_of c.args.key.now) (try_of c.args.processor.now) stop.Memory (C.state c.args.children.now) (C.state c.stop.new.self)
-    (returns-clause-begins g c told)
-
-pub returns-in-Ok-supported_in-clause-counted : goal.returns-in-Ok-supported_in-clause-counted
-returns-in-Ok-supported_in-clause-counted g c = λ told.
+pub returns-in-Ok-clause-counted : goal.returns-in-Ok-clause-counted
+returns-in-Ok-clause-counted g c = λ told.
     let C = g.C.Children in
     counted_by _ (C.state c.args.children.now) (C.state c.begin.new.children) (c.in-Ok.ensures.begins told).tried c.in-Ok.ensures.starts

@@ -7,11 +7,11 @@ use Rattle.project_units.specs.Faults.{stop_of}
 use Rattle.round_engine.specs.Run.{run_of, frames_of}
 use Rattle.project_units.specs.Plans.{plan_of, try_of, tries_in}
 use Rattle.round_engine.specs.Clean.{Closes}
-use Rattle.round_engine.specs.Shown.{IsCounted, LiveInTurn, without_each}
+use Rattle.round_engine.specs.Shown.{IsCounted, LiveInTurn, without_each, rounds_of_none}
 use Rattle.round_engine.proofs.StoppedChildren.{all_live, fresh_ends, fresh_live}
 use Rattle.round_engine.proofs.FrontsOfHellos.{shows_nothing}
 use Rattle.round_engine.proofs.StoppedProcessors.{tries_nothing}
-use Rattle.round_engine.proofs.CleanLemmas.{talked, talked_told, cleans_none, cleans_memory, cleans_at_hello, all_shown, cleans_stopped, cleans_so}
+use Rattle.round_engine.proofs.CleanLemmas.{run_is, first_is, talked, talked_told, cleans_none, cleans_memory, cleans_at_hello, all_shown, cleans_stopped, cleans_so}
 use Rattle.round_engine.proofs.CountedStarts.{counted_same, due_of_hello, starts_memory, starts_all}
 use Rattle.round_engine.proofs.running.clean.Goals as goal
 
@@ -54,8 +54,8 @@ returns-in_err-finish_run-in-Ok-clause-live g c =
     let group = c.in_ok-run.run'.group in
     c.end_all.ensures.live ∙ ap (without_each group) (c.show_rounds-outcome.ensures.live ∙ c.in_ok-run.ensures.live.0) ∙ fresh_ends k0.live group c.in_ok-run.ensures.live.1
 
-pub returns-clause-live : goal.returns-clause-live
-returns-clause-live g c =
+pub returns-in_ok-finish_run-in-Ok-clause-live : goal.returns-in_ok-finish_run-in-Ok-clause-live
+returns-in_ok-finish_run-in-Ok-clause-live g c =
     let k0 = g.C.Children.state c.args.children.now in
     let group = c.in_ok-run.run'.group in
     c.end_all.ensures.live ∙ ap (without_each group) (c.show_rounds-outcome.ensures.live ∙ c.in_ok-run.ensures.live.0) ∙ fresh_ends k0.live group c.in_ok-run.ensures.live.1
@@ -74,7 +74,8 @@ returns-in-Err-clause-cleans g c =
     let some : 0 < length (tries_in key) = omega (arith, c.if-processors-eq0.false, c.len-processors.ensures, length-map key.processors try_of) in
     let starts : k3.starts ≡ k0.starts + length (tries_in key) = c.end_all.ensures.starts ∙ c.show_rounds-outcome.ensures.starts ∙ c.in_ok-run.ensures.starts in
     talked_told _ (tries_in key) _ some (λ told.
-    cleans_stopped key table d p k0 k1 k2 k3 c.in_ok-run.ensures.names (c.in_ok-run.ensures.begins told) (c.in_ok-run.ensures.says told) c.in_ok-progress.ensures.contributed c.in_ok-progress.ensures.filer c.in_ok-progress.ensures.messages
+    cleans_stopped key table d p k0 k1 k2 k3 (run_is c.in_ok-run.ensures.names c.in_ok-run.ensures.kinds c.in_ok-run.ensures.supported) (c.in_ok-run.ensures.begins told) (c.in_ok-run.ensures.says told)
+    (first_is c.in_ok-progress.ensures.contributed c.in_ok-progress.ensures.filer c.in_ok-progress.ensures.messages c.in_ok-progress.ensures.processed c.in_ok-progress.ensures.past)
     (c.show_rounds-outcome.ensures.attends told) (c.end_all.ensures.stops told) (Err c.in-Err.refusal) (c.in-Err.ensures.ends told) c.in-Err.refusal refl starts)
 
 pub returns-in_err-finish_run-in-Ok-clause-cleans : goal.returns-in_err-finish_run-in-Ok-clause-cleans
@@ -91,11 +92,12 @@ returns-in_err-finish_run-in-Ok-clause-cleans g c =
     let some : 0 < length (tries_in key) = omega (arith, c.if-processors-eq0.false, c.len-processors.ensures, length-map key.processors try_of) in
     let e = err_from_is_err_and c.from_residual-in_err-finish_run-in-Ok.result c.from_residual-in_err-finish_run-in-Ok.ensures.1 in
     rw (e.1, e.2) (talked_told _ (tries_in key) _ some (λ told.
-    cleans_memory (plan_of key) table k0 k3 _ refl (all_shown key table d p k0 k1 k2 k3 c.in_ok-run.ensures.names (c.in_ok-run.ensures.begins told) (c.in_ok-run.ensures.says told) c.in_ok-progress.ensures.contributed c.in_ok-progress.ensures.filer c.in_ok-progress.ensures.messages
+    cleans_memory (plan_of key) table k0 k3 _ refl (all_shown key table d p k0 k1 k2 k3 (run_is c.in_ok-run.ensures.names c.in_ok-run.ensures.kinds c.in_ok-run.ensures.supported) (c.in_ok-run.ensures.begins told) (c.in_ok-run.ensures.says told)
+    (first_is c.in_ok-progress.ensures.contributed c.in_ok-progress.ensures.filer c.in_ok-progress.ensures.messages c.in_ok-progress.ensures.processed c.in_ok-progress.ensures.past)
     (c.show_rounds-outcome.ensures.attends told) (c.end_all.ensures.stops told) (Ok c.in-Ok.rounds) (c.in-Ok.ensures.ends told))))
 
-pub returns-clause-cleans : goal.returns-clause-cleans
-returns-clause-cleans g c =
+pub returns-in_ok-finish_run-in-Ok-clause-cleans : goal.returns-in_ok-finish_run-in-Ok-clause-cleans
+returns-in_ok-finish_run-in-Ok-clause-cleans g c =
     let C = g.C.Children in
     let key = c.args.project.now.key in
     let table = c.args.project.now.initial in
@@ -111,10 +113,11 @@ returns-clause-cleans g c =
     let starts : k3.starts ≡ k0.starts + length (tries_in key) = c.end_all.ensures.starts ∙ c.show_rounds-outcome.ensures.starts ∙ c.in_ok-run.ensures.starts in
     let count : c.count_of-started.result ≡ length (tries_in key) =
     c.count_of-started.ensures ∙ c.in_ok-run.ensures.listed.group ∙ sym c.in_ok-run.ensures.listed.names ∙ ap length c.in_ok-run.ensures.names ∙ length-map key.processors _ ∙ sym (length-map key.processors try_of) in
-    let closes : Closes rounds (length (tries_in key)) finished = subst (λ n. Closes rounds n finished) count c.in_ok-finish_run-in-Ok.ensures.is in
+    let closes : Closes rounds (length (tries_in key)) d.hellos finished = subst (λ n. Closes rounds n d.hellos finished) count c.in_ok-finish_run-in-Ok.ensures.is in
     talked_told _ (tries_in key) _ some (λ told.
-    cleans_so key table d p k0 k1 k2 k3 c.in_ok-run.ensures.names (c.in_ok-run.ensures.begins told) (c.in_ok-run.ensures.says told) c.in_ok-progress.ensures.contributed c.in_ok-progress.ensures.filer c.in_ok-progress.ensures.messages
-    (c.show_rounds-outcome.ensures.attends told) (c.end_all.ensures.stops told) (Ok rounds) (c.in-Ok.ensures.ends told) rounds finished refl starts closes c.in_ok-finish_run-in-Ok.ensures.has)
+    cleans_so key table d p k0 k1 k2 k3 (run_is c.in_ok-run.ensures.names c.in_ok-run.ensures.kinds c.in_ok-run.ensures.supported) (c.in_ok-run.ensures.begins told) (c.in_ok-run.ensures.says told)
+    (first_is c.in_ok-progress.ensures.contributed c.in_ok-progress.ensures.filer c.in_ok-progress.ensures.messages c.in_ok-progress.ensures.processed c.in_ok-progress.ensures.past)
+    (c.show_rounds-outcome.ensures.attends told) (c.end_all.ensures.stops told) (Ok rounds) (c.in-Ok.ensures.ends told) rounds finished refl closes c.in_ok-finish_run-in-Ok.ensures.has starts)
 
 pub returns-in-Err-clause-tried : goal.returns-in-Err-clause-tried
 returns-in-Err-clause-tried g c = λ told.
@@ -132,13 +135,13 @@ returns-in_err-finish_run-in-Ok-clause-tried g c = λ told.
 pub returns-in_err-finish_run-in-Ok-clause-says : goal.returns-in_err-finish_run-in-Ok-clause-says
 returns-in_err-finish_run-in-Ok-clause-says g c = λ told. (c.end_all.ensures.stops told).attends.same_says ∙ (c.show_rounds-outcome.ensures.attends told).same_says ∙ c.in_ok-run.ensures.says told
 
-pub returns-clause-tried : goal.returns-clause-tried
-returns-clause-tried g c = λ told.
+pub returns-in_ok-finish_run-in-Ok-clause-tried : goal.returns-in_ok-finish_run-in-Ok-clause-tried
+returns-in_ok-finish_run-in-Ok-clause-tried g c = λ told.
     let tries = c.in_ok-run.ensures.tried told in
     record { count = tries.count; few = tries.few; tried = (c.end_all.ensures.stops told).attends.same_tried ∙ (c.show_rounds-outcome.ensures.attends told).same_tried ∙ tries.tried }
 
-pub returns-clause-says : goal.returns-clause-says
-returns-clause-says g c = λ told. (c.end_all.ensures.stops told).attends.same_says ∙ (c.show_rounds-outcome.ensures.attends told).same_says ∙ c.in_ok-run.ensures.says told
+pub returns-in_ok-finish_run-in-Ok-clause-says : goal.returns-in_ok-finish_run-in-Ok-clause-says
+returns-in_ok-finish_run-in-Ok-clause-says g c = λ told. (c.end_all.ensures.stops told).attends.same_says ∙ (c.show_rounds-outcome.ensures.attends told).same_says ∙ c.in_ok-run.ensures.says told
 
 pub returns-in-Err-clause-starts : goal.returns-in-Err-clause-starts
 returns-in-Err-clause-starts g c =
@@ -156,8 +159,8 @@ returns-in_err-finish_run-in-Ok-clause-starts g c =
     let all : k3.starts ≡ k0.starts + length (tries_in c.args.project.now.key) = c.end_all.ensures.starts ∙ c.show_rounds-outcome.ensures.starts ∙ c.in_ok-run.ensures.starts in
     rw (e.1, e.2) (starts_memory (length (tries_in c.args.project.now.key)) stop.Memory k0 k3 refl (omega (arith, all)) (omega (arith, all)))
 
-pub returns-clause-starts : goal.returns-clause-starts
-returns-clause-starts g c = omega (arith, c.end_all.ensures.starts, c.show_rounds-outcome.ensures.starts, c.in_ok-run.ensures.starts)
+pub returns-in_ok-finish_run-in-Ok-clause-starts : goal.returns-in_ok-finish_run-in-Ok-clause-starts
+returns-in_ok-finish_run-in-Ok-clause-starts g c = omega (arith, c.end_all.ensures.starts, c.show_rounds-outcome.ensures.starts, c.in_ok-run.ensures.starts)
 
 pub returns-in-Err-clause-named : goal.returns-in-Err-clause-named
 returns-in-Err-clause-named g c = subst (λ names. NamesAmong names (stop_of c.in-Err.refusal)) c.in_ok-run.ensures.names c.in-Err.ensures.named
@@ -210,12 +213,12 @@ returns-in_err-run-clause-starts g c =
 pub returns-then-processors-eq0-clause-started : goal.returns-then-processors-eq0-clause-started
 returns-then-processors-eq0-clause-started g c =
     let empty : length c.args.project.now.key.processors ≡ 0 = search rules in
-    c.in_ok-finish_none.ensures.is.3 ∙ sym empty
+    c.in_ok-finish_none.ensures.is.started ∙ sym empty
 
-pub returns-clause-started : goal.returns-clause-started
-returns-clause-started g c =
+pub returns-in_ok-finish_run-in-Ok-clause-started : goal.returns-in_ok-finish_run-in-Ok-clause-started
+returns-in_ok-finish_run-in-Ok-clause-started g c =
     let key = c.args.project.now.key in
-    c.in_ok-finish_run-in-Ok.ensures.is.3 ∙ c.count_of-started.ensures ∙ c.in_ok-run.ensures.listed.group ∙ sym c.in_ok-run.ensures.listed.names ∙ ap length c.in_ok-run.ensures.names ∙ length-map key.processors _
+    c.in_ok-finish_run-in-Ok.ensures.is.started ∙ c.count_of-started.ensures ∙ c.in_ok-run.ensures.listed.group ∙ sym c.in_ok-run.ensures.listed.names ∙ ap length c.in_ok-run.ensures.names ∙ length-map key.processors _
 
 pub returns-in_err-run-clause-due : goal.returns-in_err-run-clause-due
 returns-in_err-run-clause-due g c =
@@ -261,8 +264,8 @@ returns-in_err-finish_run-in-Ok-clause-counted g c = λ told.
     let e = err_from_is_err_and c.from_residual-in_err-finish_run-in-Ok.result c.from_residual-in_err-finish_run-in-Ok.ensures.1 in
     rw (e.1, e.2) (inl so)
 
-pub returns-clause-counted : goal.returns-clause-counted
-returns-clause-counted g c = λ told.
+pub returns-in_ok-finish_run-in-Ok-clause-counted : goal.returns-in_ok-finish_run-in-Ok-clause-counted
+returns-in_ok-finish_run-in-Ok-clause-counted g c = λ told.
     let C = g.C.Children in
     let k0 = C.state c.args.children.now in
     let k1 = C.state c.begin_all.new.children in
@@ -270,3 +273,13 @@ returns-clause-counted g c = λ told.
     let all : IsCounted k0 k1 = c.in_ok-run.ensures.counted told in
     let so : IsCounted k0 k3 = counted_same k0 k1 k3 ((c.end_all.ensures.stops told).attends.same_tried ∙ (c.show_rounds-outcome.ensures.attends told).same_tried) (c.end_all.ensures.starts ∙ c.show_rounds-outcome.ensures.starts) all in
     so
+
+pub returns-then-processors-eq0-clause-hellos : goal.returns-then-processors-eq0-clause-hellos
+returns-then-processors-eq0-clause-hellos g c =
+    let empty : length c.args.project.now.key.processors ≡ 0 = search rules in
+    ap length c.in_ok-finish_none.ensures.is.hellos ∙ sym empty
+
+pub returns-in_ok-finish_run-in-Ok-clause-hellos : goal.returns-in_ok-finish_run-in-Ok-clause-hellos
+returns-in_ok-finish_run-in-Ok-clause-hellos g c =
+    let run = c.in_ok-run.ensures in
+    ap length c.in_ok-finish_run-in-Ok.ensures.is.hellos ∙ run.listed.hellos ∙ sym run.listed.names ∙ ap length run.names ∙ length-map c.args.project.now.key.processors _

@@ -1,0 +1,4 @@
+pub mod Shapes
+pub mod Next
+pub mod Stands
+pub mod Asked
