@@ -26,7 +26,7 @@ OWN = {
     "proc.file.create.last.round": "type {0} was created in the last round and is not processed",
 }
 # A line of the host's report.
-MESSAGE = re.compile(r"(error|warning|mandatory_warning|note|other): (?:(\S+\.java:\d+): )?\[([\w.]+)\] (.*)")
+MESSAGE = re.compile(r"(error|warning|mandatory_warning|note|other): (?:(\S+\.java:\d+): )?\[([\w.$]+)\] (.*)")
 AS_JAVAC = {"mandatory_warning": "warning", "other": "note"}
 
 
@@ -169,13 +169,11 @@ def host_message(line):
 
 def compare(own, javac, different=(), elsewhere=()):
     """The host's messages are javac's, and so are its files but for lines that are known: pairs of javac's line and the
-    host's. So are the places of messages but for those that are known: pairs of javac's and the host's. None in their
-    place leaves them out: javac says where an annotation is, and the host where the element is that has it. Where
-    there is an error the host has no files."""
+    host's. So are the places of messages but for those that are known: pairs of javac's and the host's. Where there is
+    an error the host has no files."""
     expect("the messages", own.messages, javac.messages)
-    if elsewhere is not None:
-        places = [(place, own_place) for place, own_place in zip(javac.places, own.places) if place != own_place]
-        expect("the places that differ", places, list(elsewhere))
+    places = [(place, own_place) for place, own_place in zip(javac.places, own.places) if place != own_place]
+    expect("the places that differ", places, list(elsewhere))
     if "error" in javac.kinds():
         expect("the files", own.files, {})
         return

@@ -17,7 +17,7 @@ import shutil
 import subprocess
 import sys
 
-from beside_javac import CLASSES, bridge, compare, compiled, stubs_of_the_jdk, under_host, under_javac, use
+from beside_javac import CLASSES, SECONDS, bridge, compare, compiled, stubs_of_the_jdk, under_host, under_javac, use
 from host import HERE, Cases, expect, frames
 from stubs import FAST, JAR, KIT, put
 
@@ -33,6 +33,25 @@ OF_EVERY_ENUM = [(f"METHOD {method}: EXPLICIT", f"METHOD {method}: MANDATED")
                  for method in ("values()", "valueOf(java.lang.String)")]
 # A file that is read after it was created, which the bridge gives and javac doesn't.
 READ, UNREAD = ("note", "after: done"), ("note", "after: FilerException")
+# There are no modules and no captured types, a method's receiver is of no type, and a raw type within another one is not
+# that of the same class with arguments.
+CAPTURED = "  captured: UnsupportedOperationException"
+PART, RAW_PART = "e.Calls.Outer<java.lang.String>.Part", "e.Calls.Outer.Part"
+METHOD = ("type <X>(X,java.lang.String[])void: EXECUTABLE executable XX,java.lang.String[]voidX,java.io.IOException{}"
+          "null0false")
+CALLS = [
+    ("module: java.base", "module: null"), ("module of: unnamed module", "module of: null"),
+    ("no modules: false", "no modules: true"), ("around package: unnamed module", "around package: null"),
+    ("type of no module: NullPointerException", "type of no module: null"),
+    ("  captured: java.util.List<capture of ? extends java.lang.Number>", CAPTURED),
+    ("  captured: java.util.List<capture of ? super java.lang.Integer>", CAPTURED),
+    (METHOD.format("null"), METHOD.format("none")),
+    ("  captured: java.util.List<capture of ? extends java.lang.String>", CAPTURED),
+    *(2 * [(f"{PART} and {RAW_PART}: -++-", f"{PART} and {RAW_PART}: ----")]),
+    *(2 * [(f"{RAW_PART} and {PART}: --+-", f"{RAW_PART} and {PART}: ----")]),
+]
+# What is said of a class with two annotations of a type that another one is to contain.
+REPEATED = "note", "r.Reps at [r.Repeated]"
 
 case = Cases("bridge")
 
@@ -230,6 +249,53 @@ def the_order_of_annotated_elements(project):
 
 
 @case
+def calls(project):
+    """What the other processors don't call. For javac a message at an annotation is in its line."""
+    same(project, ["Calling"], "calls", elsewhere=8 * [("Calls.java:7", "Calls.java:8")], different=CALLS)
+
+
+@case
+def annotations_that_contain_others(project):
+    """One that is not written, but contains those that are, is present in their place."""
+    own = same(project, ["Contained$Both", "Contained$Any"], "repeated")
+    expect("how often it is offered", own.messages.count(REPEATED), 2)
+
+
+def contained_alone(project, *written):
+    """What a processor that supports the containing annotation alone says under the host, and what under javac, where
+    these texts stand in a unit too."""
+    use(project, os.path.join(SOURCES, "repeated"), stubs=stubs_of_the_jdk())
+    for text in written:
+        put(project.folder, "src/s/Written.java", text)
+    own = under_host(project, {"alone": bridge("Contained", class_path=classes())})
+    return own, under_javac(project, ["Contained"], classes())
+
+
+@case
+def an_annotation_that_contains_others_alone(project):
+    """For the host an annotation is present where it is written, and it is asked only where one is present that the
+    processor supports."""
+    own, javac = contained_alone(project)
+    expect("the messages", (own.messages, javac.messages), ([], [REPEATED]))
+
+
+@case
+def an_annotation_that_contains_others_and_is_written(project):
+    own, javac = contained_alone(project, "package s; @r.Reps({@r.Rep(1), @r.Rep(2)}) class Written {}\n")
+    compare(own, javac)
+    expect("the messages", own.messages, [("note", "r.Reps at [r.Repeated, s.Written]")])
+
+
+@case
+def a_question_that_comes_late(project):
+    use(project, os.path.join(SOURCES, "files"), stubs=stubs_of_the_jdk())
+    project.configure({"asking": bridge("Afterwards", class_path=classes())})
+    run = project.run(["build"], seconds=SECONDS)
+    expect("the status", run.status, DONE)
+    expect("the messages", run.messages.decode(), "outside of a round the host answers nothing: TYPE_ELEMENT\n")
+
+
+@case
 def types_in_init(project):
     own = same(project, ["InInit"], "files")
     expect("whether a type was found", ("note", "initialised with java.lang.Object") in own.messages, True)
@@ -257,6 +323,11 @@ def a_processor_that_fails(project):
             ("Failing$WhereInitialised", f"lang.{on_purpose}", "Failing$WhereInitialised.init"),
             ("Failing$InOptions", f"lang.{on_purpose}", "Failing$InOptions.getSupportedOptions"),
             ("Failing$ByFiles", "io.UncheckedIOException: java.io.IOException: on purpose", "Failing$ByFiles.process"),
+            ("Failing$ByClassFile", "io.UncheckedIOException: javax.annotation.processing.FilerException: "
+             "The host creates no class files: p.Made", "Failing$ByClassFile.process"),
+            ("Failing$ByTrees", "lang.IllegalArgumentException", "jdk.compiler/com.sun.source.util.Trees.instance"),
+            ("Failing$ByCapture", "lang.UnsupportedOperationException: Types.capture of java.util.List<?>",
+             "dinxobhe.model.HostTypes.capture"),
             ("Failing$ByDepth", "lang.StackOverflowError", "")]:
         own = under_host(project, {"maker": bridge(name, class_path=classes())})
         expect("the files", own.files, {})

@@ -173,13 +173,13 @@ def auto_value(project):
         *((text.format("@Nullable String"), text.format("String")) for text in (
             "  private final List<{}> names;", "      List<{}> names,", "  public List<{}> names() {{",
             "    private List<{}> names;", "    public Typed.Builder names(List<{}> names) {{"))]
-    own = VALUE.same(project, "src", "rules", options=OPTIONS, different=different, elsewhere=None)
+    own = VALUE.same(project, "src", "rules", options=OPTIONS, different=different)
     expect("the number of files", len(own.files), 18)
 
 
 @case
 def auto_value_with_errors(project):
-    own = VALUE.same(project, "src", "errors", options=OPTIONS, elsewhere=None)
+    own = VALUE.same(project, "src", "errors", options=OPTIONS)
     expect("the messages", own.kinds(), 3 * ["error"] + ["warning"])
 
 
@@ -189,10 +189,10 @@ def auto_value_with_errors_by_other_rules(project):
     own, javac = VALUE.run(project, "refused")
     expect("javac's messages", javac.messages, [])
     expect("the number of javac's files", len(javac.files), 2)
-    expect("the messages", own.messages, [
+    expect("the messages", own.printed, [
         ("error", "[AutoValueUndefined] Did not generate @AutoValue class for zoo.Stars because it references "
-         "undefined types"),
-        ("error", "serialVersionUID must be a static final long compile-time constant")])
+         "undefined types", "Stars.java:9"),
+        ("error", "serialVersionUID must be a static final long compile-time constant", "Serial.java:9")])
 
 
 @case

@@ -1,3 +1,4 @@
+import com.sun.source.util.Trees;
 import java.io.IOException;
 import java.io.UncheckedIOException;
 import java.util.Set;
@@ -7,6 +8,7 @@ import javax.annotation.processing.RoundEnvironment;
 import javax.lang.model.SourceVersion;
 import javax.lang.model.element.TypeElement;
 import javax.lang.model.type.TypeMirror;
+import javax.lang.model.util.Types;
 
 /** Fails in the first round. The others fail elsewhere, or by something else. */
 public class Failing extends AbstractProcessor {
@@ -63,6 +65,37 @@ public class Failing extends AbstractProcessor {
         @Override
         public boolean process(Set<? extends TypeElement> annotations, RoundEnvironment environment) {
             throw new UncheckedIOException(new IOException("on purpose"));
+        }
+    }
+
+    /** Fails since the host creates no class files. */
+    public static final class ByClassFile extends Failing {
+        @Override
+        public boolean process(Set<? extends TypeElement> annotations, RoundEnvironment environment) {
+            try {
+                processingEnv.getFiler().createClassFile("p.Made").openOutputStream().close();
+            } catch (IOException e) {
+                throw new UncheckedIOException(e);
+            }
+            return false;
+        }
+    }
+
+    /** Fails since the host is no compiler of which there are trees. */
+    public static final class ByTrees extends Failing {
+        @Override
+        public boolean process(Set<? extends TypeElement> annotations, RoundEnvironment environment) {
+            return Trees.instance(processingEnv) == null;
+        }
+    }
+
+    /** Fails since wildcards are not captured. */
+    public static final class ByCapture extends Failing {
+        @Override
+        public boolean process(Set<? extends TypeElement> annotations, RoundEnvironment environment) {
+            Types types = processingEnv.getTypeUtils();
+            TypeElement list = processingEnv.getElementUtils().getTypeElement("java.util.List");
+            return types.capture(types.getDeclaredType(list, types.getWildcardType(null, null))) == null;
         }
     }
 

@@ -52,8 +52,13 @@ final class HostIntersectionType extends HostType implements IntersectionType {
         return bounds.hashCode();
     }
 
+    /** Interfaces alone stand behind the class of all objects. */
     @Override
     public String toString() {
-        return bounds.stream().map(Object::toString).collect(Collectors.joining("&"));
+        HostType first = bounds.get(0);
+        boolean areInterfaces = first instanceof HostDeclaredType
+            && ((HostDeclaredType) first).asElement().getKind().isInterface();
+        return (areInterfaces ? "java.lang.Object&" : "")
+            + bounds.stream().map(Object::toString).collect(Collectors.joining("&"));
     }
 }

@@ -26,7 +26,12 @@ import javax.lang.model.util.Types;
 final class HostTypes implements Types {
     private static final Set<TypeKind> NO_TYPES = EnumSet.of(TypeKind.EXECUTABLE, TypeKind.PACKAGE);
     private static final Set<TypeKind> NO_COMPONENTS =
-        EnumSet.of(TypeKind.EXECUTABLE, TypeKind.PACKAGE, TypeKind.VOID, TypeKind.NONE, TypeKind.WILDCARD);
+        EnumSet.of(TypeKind.EXECUTABLE, TypeKind.PACKAGE, TypeKind.VOID, TypeKind.WILDCARD);
+    private static final Set<TypeKind> NO_BOUNDS = EnumSet.complementOf(
+        EnumSet.of(TypeKind.ARRAY, TypeKind.DECLARED, TypeKind.ERROR, TypeKind.TYPEVAR));
+    private static final Set<TypeKind> NO_ARGUMENTS = EnumSet.complementOf(EnumSet.of(TypeKind.ARRAY,
+        TypeKind.DECLARED, TypeKind.ERROR, TypeKind.TYPEVAR, TypeKind.NULL, TypeKind.INTERSECTION,
+        TypeKind.WILDCARD));
 
     private final Model model;
 
@@ -68,6 +73,9 @@ final class HostTypes implements Types {
         if (one.getKind() == TypeKind.WILDCARD || other.getKind() == TypeKind.WILDCARD) {
             return false;
         }
+        if (one.getKind() == TypeKind.ERROR || other.getKind() == TypeKind.ERROR) {
+            return !NO_TYPES.contains(one.getKind());
+        }
         if (one instanceof HostExecutableType && other instanceof HostExecutableType) {
             HostExecutableType method = (HostExecutableType) one;
             HostExecutableType renamed = renamed((HostExecutableType) other, method);
@@ -92,11 +100,22 @@ final class HostTypes implements Types {
         boolean holds(Mirror one, Mirror other);
     }
 
+    /** An unknown type stands in each relation with all others, so that it causes no further errors. */
+    private static boolean isUnknown(HostType one, HostType other) {
+        return one instanceof HostErrorType || other instanceof HostErrorType;
+    }
+
     /**
      * The host has no intersections: one is below a type if one of its bounds is, and above if all of them
-     * are.
+     * are. What is below a wildcard is below its lower bound.
      */
     private static boolean holds(HostType one, HostType other, Relation relation) {
+        if (one == other || isUnknown(one, other)) {
+            return true;
+        }
+        if (other instanceof HostWildcardType && ((HostWildcardType) other).getSuperBound() != null) {
+            return holds(one, ((HostWildcardType) other).getSuperBound(), relation);
+        }
         if (other instanceof HostIntersectionType) {
             return ((HostIntersectionType) other).getBounds().stream()
                 .allMatch(bound -> holds(one, bound, relation));
@@ -111,7 +130,10 @@ final class HostTypes implements Types {
 
     @Override
     public boolean contains(TypeMirror one, TypeMirror other) {
-        return model.questions().contains(checked(one, NO_TYPES).mirror(), checked(other, NO_TYPES).mirror());
+        HostType container = checked(one, NO_TYPES);
+        HostType contained = checked(other, NO_TYPES);
+        return isUnknown(container, contained)
+            || model.questions().contains(container.mirror(), contained.mirror());
     }
 
     @Override
@@ -160,13 +182,20 @@ final class HostTypes implements Types {
     @Override
     public TypeMirror capture(TypeMirror type) {
         HostType of = checked(type, NO_TYPES);
-        boolean hasWildcard = of instanceof HostDeclaredType
-            && ((HostDeclaredType) of).getTypeArguments().stream()
-                .anyMatch(argument -> argument.getKind() == TypeKind.WILDCARD);
-        if (hasWildcard) {
+        if (hasWildcard(of)) {
             throw new UnsupportedOperationException("Types.capture of " + type);
         }
         return of;
+    }
+
+    /** Whether an argument of it is a wildcard, or one of a type around it. */
+    private static boolean hasWildcard(HostType type) {
+        if (!(type instanceof HostDeclaredType)) {
+            return false;
+        }
+        HostDeclaredType declared = (HostDeclaredType) type;
+        return hasWildcard(declared.getEnclosingType()) || declared.getTypeArguments().stream()
+            .anyMatch(argument -> argument.getKind() == TypeKind.WILDCARD);
     }
 
     @Override
@@ -237,7 +266,8 @@ final class HostTypes implements Types {
         Mirror.Bound bound = extendsBound != null ? Mirror.Bound.EXTENDS
             : superBound != null ? Mirror.Bound.SUPER : Mirror.Bound.NONE;
         return new HostWildcardType(model, bound, Stream.of(Optional.ofNullable(extendsBound),
-            Optional.ofNullable(superBound)).flatMap(Optional::stream).map(HostTypes::host).findFirst());
+            Optional.ofNullable(superBound)).flatMap(Optional::stream)
+            .map(one -> checked(one, NO_BOUNDS)).findFirst());
     }
 
     @Override
@@ -274,7 +304,8 @@ final class HostTypes implements Types {
         if (arguments.length != element.getTypeParameters().size()) {
             throw new IllegalArgumentException("Incorrect number of type arguments");
         }
-        List<HostType> types = Arrays.stream(arguments).map(HostTypes::host).collect(Collectors.toList());
+        List<HostType> types = Arrays.stream(arguments).map(one -> checked(one, NO_ARGUMENTS))
+            .collect(Collectors.toList());
         boolean isWrittenType = isWritten && enclosing instanceof HostDeclaredType;
         return new HostDeclaredType(model, element, enclosing, isWrittenType, types);
     }
