@@ -13,4 +13,4 @@ abbrev pub BeyondIsAsked : Type 0
 BeyondIsAsked =
     (d : Discovered) (table : TypeTable) (env : RoundEnv) (p : Progress) (number : ℕ) (exchanges : List Exchange)
     → T (processed_in d table env p number exchanges).beyond
-      ↔ SomeBeyond (kind_at d number) table (units_for (kind_at d number) env number p.processed (annotated_in table env)) env.offered (questions exchanges)
+    ↔ SomeBeyond (kind_at d number) table (units_for (kind_at d number) env number p.processed (annotated_in table env)) env.offered (questions exchanges)

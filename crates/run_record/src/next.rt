@@ -68,11 +68,7 @@ fn made_of(alloc: Global, project: &Project, run: &Finished) -> Result<Record, N
 ///
 /// `TooLarge` comes only where the record has more than `MAX_RECORD` bytes, and always where the shapes of its units have;
 /// `encode_record` finds the others. `Memory` comes where memory ran out.
-pub fn record_of(
-    alloc: Global,
-    project: &Project,
-    run: &Finished,
-) -> Result<Record, RecordFault>
+pub fn record_of(alloc: Global, project: &Project, run: &Finished) -> Result<Record, RecordFault>
     requires few { length project.now.key.processors ≤ max_processors }
     ensures is { IfOk result (λ value. value ≡ record_of project.now.key project.now.initial.table run.now) }
     ensures within { IfOk result (λ value. shapes_within project.now.initial.table run.now ≤ most_bytes) }
