@@ -32,6 +32,9 @@ REPORT_OF_ONE_FILE = (
 REPORT_OF_NO_FILE = b"mode: clean (Full), started 1\ndone: 2 rounds, 0 files, 0 errors, 0 warnings\n"
 REPORT_WITHOUT_PROCESSOR = b"mode: clean (Full), started 0\ndone: 2 rounds, 0 files, 0 errors, 0 warnings\n"
 
+# What `help` prints: each row of the table of words.
+HELP = b"build [--full] [key=value]..\nserve NAME\nhelp\n"
+
 case = Cases("first path")
 
 
@@ -233,6 +236,35 @@ def no_words(project):
 @case
 def an_unknown_command(project):
     refused(project, ["biuld"], BAD_WORDS, "BadWords(0)")
+
+
+@case
+def the_table_of_words(project):
+    # It does not look at the project, which a build would refuse, nor at the output of a former build.
+    project.publish_former()
+    project.write("apt.json", b"no JSON")
+    run = project.run(["help"])
+    expect("the output", run.output, HELP)
+    expect("the status", run.status, DONE_STATUS)
+    says(run)
+    former_stands(project)
+
+
+@case
+def a_word_behind_help(project):
+    refused(project, ["help", "build"], BAD_WORDS, "BadWords(1)")
+    refused(project, ["help", "help"], BAD_WORDS, "BadWords(1)")
+    refused(project, ["help", b"\xff"], BAD_WORDS, "BadWords(1)")
+    refused(project, ["Help"], BAD_WORDS, "BadWords(0)")
+
+
+@case
+def help_without_an_output(project):
+    with open("/dev/full", "wb") as full:
+        run = project.run(["help"], stdout=full)
+    expect("the status", run.status, SINK_FAULT)
+    # Neither the table nor the line of the refusal.
+    says(run, *2 * ["cannot write the standard output: No space left on device (os error 28)"])
 
 
 @case
@@ -792,10 +824,12 @@ USAGE = [
     "apt_cli: builds the project in the current folder; KEY=VALUE is an option of its processors",
     "apt_cli: usage: serve NAME",
     "apt_cli: is the processor NAME, one of the program's own, for the host at its input and output",
+    "apt_cli: usage: help",
+    "apt_cli: prints the words of each command",
 ]
 
 # Words that no command has.
-WORDS = [[], ["help"], ["--help"], ["--version"], ["biuld"], ["build", "maker"], ["build", b"\xff"]]
+WORDS = [[], ["help", "build"], ["--help"], ["--version"], ["biuld"], ["build", "maker"], ["build", b"\xff"]]
 
 # A file that is no Java file of level 11, and what is said of it.
 FILES = [

@@ -84,6 +84,8 @@ pub fn say_usage(messages: Stderr) {
     let _ = eprintln!(messages;
         "apt_cli: is the processor NAME, one of the program's own, for the host at its input and output"
     );
+    let _ = eprintln!(messages; "apt_cli: usage: help");
+    let _ = eprintln!(messages; "apt_cli: prints the words of each command");
 }
 
 /// Says it where the current folder has nothing of a project.

@@ -7,9 +7,7 @@ use Rattle.std.proofs.lemmas.List.{length-map}
 use Rattle.apt_outside.specs.Count.{Told}
 use Rattle.apt_outside.specs.Files.{Files, file_at}
 use Rattle.apt_outside.specs.Child.{Says, Try, State}
-use Rattle.tree_store.specs.declared.fault.StoreFault.{StoreFault}
 use Rattle.tree_store.specs.declared.record.StoredFile.{StoredFile}
-use Rattle.tree_store.specs.declared.fault.StoreFault.TheVariants as store
 use Rattle.apt_base.specs.Fields.{is_text}
 use Rattle.tree_store.specs.RecordFormat.{record_form, IsEntry}
 use Rattle.tree_store.specs.Output.{store_path, output_of, StoresStand}
@@ -28,17 +26,17 @@ use Rattle.round_engine.proofs.FrontsOfHellos.{shows_nothing}
 use Rattle.round_engine.proofs.NumberingLemmas.{All-from_AreLeast, AllPairs-from_AreLeast}
 use Rattle.project_reading.specs.declared.status.Status.{Status}
 use Rattle.project_reading.specs.Configuration.{Options}
-use Rattle.apt_host.specs.Words.{Build}
 use Rattle.project_reading.specs.Project.{Read, read_of}
 use Rattle.apt_host.specs.CleanBuild.{Summary, reported_in, summary, Outcome, outcome_of, outcome_of_run, clean, verdict_of}
 use Rattle.apt_host.specs.CleanBuild as outcome
 use Rattle.apt_host.specs.Report.{report_of, errors_report, report_text}
 use Rattle.project_reading.specs.Verdicts.{Verdict, Done, Errors, Refused, Failed, Input, Memory, is_free, is_finished, is_children, OrFree, verdict}
 use Rattle.apt_host.specs.Listed.{listed, entry_of, numbered_of, file_of, Gains, GainsFirst, Places, FitsEntry}
-use Rattle.project_reading.specs.Endings.{of_store, EndsEarly}
+use Rattle.project_reading.specs.Endings.{EndsEarly}
 use Rattle.project_reading.specs.Entering.{RefusesAs}
 use Rattle.apt_host.specs.Making.{finished_summary, concluded, concluding_report, outcome_with, Makes}
-use Rattle.apt_host.specs.Promises.{TalkedOf, ToldOf, Answers, Stores, Publishes, PublishesOutcome, PublishesClean, Leaves, LeavesUndone, StoresBuilt, StoresOutcome, StoresFirst, IsFront, CountsStarts, Reports, Adds, ShowsBy, ShowsOver}
+use Rattle.apt_host.specs.Texts.{IsFront, Adds, WritesText}
+use Rattle.apt_host.specs.Promises.{TalkedOf, ToldOf, Answers, Stores, Publishes, PublishesOutcome, PublishesClean, Leaves, LeavesUndone, StoresBuilt, StoresOutcome, StoresFirst, CountsStarts, Reports, ShowsBy, ShowsOver}
 use Rattle.apt_host.proofs.MakingLemmas.{talked_then}
 use Rattle.apt_host.proofs.Writing.{talked, front_more}
 use Rattle.apt_host.proofs.Leaving.{stands_by}
@@ -200,13 +198,10 @@ module _ (tells talks : Bool) (options : Options) (says : Says) (project : Files
   answer_of_read (Input fault) refuses = absurd refuses
   answer_of_read Memory refuses = λ free. absurd cc
 
-  pub answers_read : (v : Verdict) → Told tells (RefusesAs (read_of options project) v) → Answers tells talks (Build options) says project v
+  pub answers_read : (v : Verdict) → Told tells (RefusesAs (read_of options project) v) → Answers tells talks options says project v
   answers_read v refuses = λ told. talked talks (read_of options project) _ (answer_of_read v (refuses told))
 
-  pub answers_free : (v : Verdict) → is_free v ≡ true → Answers tells talks (Build options) says project v
-  answers_free v free = λ told. talked talks (read_of options project) _ (λ unfree. absurd (let e : true ≡ false = sym free ∙ unfree in cc))
-
-  pub publishes_not : (new : Files) (v : Verdict) → v ≢ Done → PublishesClean tells talks (Build options) says project new v
+  pub publishes_not : (new : Files) (v : Verdict) → v ≢ Done → PublishesClean tells talks options says project new v
   publishes_not new v ne = λ told. talked talks (read_of options project) _ (λ done. absurd (ne done))
 
 -- the whole run was shown
@@ -266,15 +261,6 @@ shows_unread rose (Ok read) state (Failed (Children processor)) refuses = absurd
 shows_unread rose (Ok read) state (Input fault) refuses = absurd refuses
 shows_unread rose (Ok read) state Memory refuses = record { by = tt; exempt = None; is_exempt = inl refl; fronts = no_fronts read state }
 
-pub shows_store : (rose : Type 0) (read : Result Read Refusal) (state : State) (fault : StoreFault) → ShowsOver rose read state state (verdict (of_store fault))
-shows_store rose (Err refusal) state fault = λ k. refl
-shows_store rose (Ok read) state store.Failed = record { by = inr refl; exempt = None; is_exempt = refl; fronts = no_fronts read state }
-shows_store rose (Ok read) state store.Memory = record { by = tt; exempt = None; is_exempt = inl refl; fronts = no_fronts read state }
-
-pub shows_memory : (rose : Type 0) (read : Result Read Refusal) (state : State) → ShowsOver rose read state state Memory
-shows_memory rose (Err refusal) state = λ k. refl
-shows_memory rose (Ok read) state = record { by = tt; exempt = None; is_exempt = inl refl; fronts = no_fronts read state }
-
 -- ---- a build whose run is known
 
 made_of : (talks : Bool) (processors : List Try) (M : Type 0) → Talked talks processors M → talks ≡ true → M
@@ -305,7 +291,7 @@ module _ (tells talks : Bool) (options : Options) (project : Files) (read : Read
     abbrev MakesHere : Type 0
     MakesHere = MakesAs (Err status)
 
-    pub answers_refused : Answers tells talks (Build options) before.says project (verdict status)
+    pub answers_refused : Answers tells talks options before.says project (verdict status)
     answers_refused = λ told. talked_over talks whole read MakesHere _ (is told) makes
         (λ m. subst (λ o. OrFree (verdict_of (outcome_of before.says o)) (verdict status)) (sym (is told)) m.comes)
 
@@ -389,7 +375,7 @@ module _ (tells talks : Bool) (options : Options) (project : Files) (read : Read
 
     module _ (v : Verdict) (answer : OrFree (concluded finished) v) where
       -- the verdict is that of the clean build
-      pub answers_finished : Answers tells talks (Build options) before.says project v
+      pub answers_finished : Answers tells talks options before.says project v
       answers_finished = λ told. talked_over talks whole read MadeHere _ (is told) makes
           (λ m. subst (λ o. OrFree (verdict_of o) v) (outcome_is_here told m) (subst (λ w. OrFree w v) verdict_here answer))
 
@@ -408,7 +394,7 @@ module _ (tells talks : Bool) (options : Options) (project : Files) (read : Read
             (λ some. absurd (let e : Done ≡ Errors finished.errors = sym done ∙ answer (ap is_free done) ∙ ap (λ b. cond b Done (Errors finished.errors)) some in cc))
 
         -- what a finished build published is the clean build's
-        pub publishes_finished : Told tells (v ≡ Done → PlacesHere) → PublishesClean tells talks (Build options) before.says project new v
+        pub publishes_finished : Told tells (v ≡ Done → PlacesHere) → PublishesClean tells talks options before.says project new v
         publishes_finished placed = λ told. talked_over talks whole read MadeHere _ (is told) makes
             (λ m done. subst (λ o. PublishesOutcome o project new) (outcome_is_here told m) (subst (λ t. PublishesOutcome outcome_here t new) (same told) (published_here told (placed told) done)))
 
@@ -427,16 +413,18 @@ module _ (tells talks : Bool) (options : Options) (project : Files) (read : Read
         -- what was written is the report of the outcome
         pub reports_finished : (rose : Type 0) (written written' : List ℕ) → after.starts ≡ before.starts + finished.started → Told tells (v ≡ Done → PlacesHere) → Told tells (finished.errors ≢ 0 → new ≡ old)
             → Adds (λ text. IsFront ⊥ (concluding_report names_here finished) v text × Told tells (finished.errors ≡ 0 → GainsFirst v text (map numbered_of finished.files) old new)) written written'
-            → Adds (Reports tells talks (Build options) project new before after v rose) written written'
-        reports_finished rose written written' starts placed unstored (text, (front, gains), added) = (
-          text,
-          record {
+            → WritesText (Reports tells talks options project new before after v) v rose written written'
+        reports_finished rose written written' starts placed unstored (text, (front, gains), added) = record {
+          whole = report_text outcome_here;
+          text = text;
+          prints = record {
             outcome = outcome_here;
-            is_outcome = outcome_told;
-            is_front = subst (λ r. IsFront rose r v text) (sym report_here) (front_more ⊥ rose _ v text (λ never. absurd never) front);
+            is_clean = outcome_told;
+            is_report = refl;
             ended = λ done. answer (ended_unfree v done) ∙ verdict_here;
             counted = λ some. counts_here starts;
             stores = λ told. stores_here text told (placed told) (unstored told) (gains told);
-          },
-          added,
-        )
+          };
+          is_front = subst (λ r. IsFront rose r v text) (sym report_here) (front_more ⊥ rose _ v text (λ never. absurd never) front);
+          added = added;
+        }

@@ -1,16 +1,14 @@
 -- What a part of a build that did not do its work is not.
-use Rattle.std.proofs.Common.{◌≡◌, ◌≢◌, ℕ, Bool, true, false, None, refl, sym, ◌∙◌, subst}
+use Rattle.std.proofs.Common.{◌≡◌, ◌≢◌, ℕ, Bool, true, false, None, Result, refl, sym, ◌∙◌, subst}
 use Rattle.std.proofs.lemmas.Bool.{false≢true}
 use Rattle.tree_store.specs.declared.fault.StoreFault.{StoreFault}
 use Rattle.tree_store.specs.declared.fault.StoreFault.TheVariants as store
-use Rattle.project_units.specs.Refusals.{BadWords, Object, Tree, Sink, Children}
-use Rattle.project_reading.specs.Verdicts.{Verdict, Done, Errors, Refused, Failed, Input, Memory, verdict, is_free, is_finished, has_run, is_input, is_tree, is_sink, is_children, named_in, fails}
+use Rattle.project_units.specs.Refusals.{Refusal, BadWords, Object, Tree, Sink, Children}
+use Rattle.project_reading.specs.Verdicts.{Verdict, Done, Errors, Refused, Failed, Input, Memory, verdict, is_finished, has_run, is_input, is_tree, is_sink, is_children, named_in, fails}
 use Rattle.project_reading.specs.Endings.{of_store, EndsEarly}
-use Rattle.project_reading.specs.Configuration.{Options}
-use Rattle.apt_host.specs.Words.{Build}
 use Rattle.apt_host.specs.BuildEndings.{IsConcluded}
-use Rattle.apt_host.specs.Promises.{IsOwn}
-use Rattle.project_reading.specs.Entering.{IsDueRead}
+use Rattle.apt_host.specs.Commands.{MayBuild}
+use Rattle.project_reading.specs.Entering.{RefusesAs, IsDueRead}
 
 module _ (is : Object → Bool) where
   pub not_done_early : (v : Verdict) → EndsEarly is v → v ≢ Done
@@ -27,8 +25,8 @@ module _ (is : Object → Bool) where
   no_input_early (Input fault) early = absurd early
   no_input_early Memory early = refl
 
-  pub own_early : (options : Options) (v : Verdict) → EndsEarly is v → IsOwn (Build options) v
-  own_early options v early = (λ at. on_table_early v at early, no_input_early v early)
+  pub own_early : (v : Verdict) → EndsEarly is v → MayBuild v
+  own_early v early = (λ at. on_table_early v at early, no_input_early v early)
 
   pub unfinished_early : (v : Verdict) → EndsEarly is v → is_finished v ≡ false
   unfinished_early Done early = absurd early
@@ -63,13 +61,14 @@ pub store_early : (fault : StoreFault) → EndsEarly is_tree (verdict (of_store 
 store_early store.Failed = refl
 store_early store.Memory = tt
 
-pub store_free : (fault : StoreFault) → is_free (verdict (of_store fault)) ≡ true
-store_free store.Failed = refl
-store_free store.Memory = refl
-
 pub store_due : (fault : StoreFault) → IsDueRead (verdict (of_store fault))
 store_due store.Failed = tt
 store_due store.Memory = tt
+
+-- the tree failed, or memory was wanted
+pub store_refuses : {A : Type 0} (due : Result A Refusal) (fault : StoreFault) → RefusesAs due (verdict (of_store fault))
+store_refuses due store.Failed = refl
+store_refuses due store.Memory = tt
 
 pub store_unnamed : (fault : StoreFault) → named_in (verdict (of_store fault)) ≡ None
 store_unnamed store.Failed = refl
@@ -104,5 +103,5 @@ own_input (Failed object) concluded = refl
 own_input (Input fault) concluded = absurd concluded
 own_input Memory concluded = refl
 
-pub own_concluded : (options : Options) (v : Verdict) → IsConcluded v → IsOwn (Build options) v
-own_concluded options v concluded = (λ at bad. subst IsConcluded bad concluded, own_input v concluded)
+pub own_concluded : (v : Verdict) → IsConcluded v → MayBuild v
+own_concluded v concluded = (λ at bad. subst IsConcluded bad concluded, own_input v concluded)

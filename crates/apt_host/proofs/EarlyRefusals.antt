@@ -4,19 +4,14 @@ use Rattle.std.proofs.lemmas.Bool.{false≢true}
 use Rattle.apt_outside.specs.Count.{Told}
 use Rattle.apt_outside.specs.Files.{Files}
 use Rattle.apt_outside.specs.Child.{State}
-use Rattle.tree_store.specs.declared.fault.StoreFault.{StoreFault}
-use Rattle.tree_store.specs.declared.fault.StoreFault.TheVariants as store
 use Rattle.project_units.specs.Refusals.{Refusal, BadWords, BadConfig, UnknownProcessor, BadStub, BadSource, DuplicateType, BadGenerated, LeavesProtocol, TooManyQuestions, ClaimBroken, GeneratedDuplicate, TooManyRounds, TooLarge}
 use Rattle.project_reading.specs.Configuration.{Options, is_of_project}
-use Rattle.apt_host.specs.Words.{Request, Build, Serve, Bad}
 use Rattle.project_reading.specs.Project.{read_of}
-use Rattle.project_reading.specs.Verdicts.{Verdict, Done, Errors, Refused, Failed, Input, Memory, is_free, named_in, verdict}
-use Rattle.project_reading.specs.Endings.{of_store}
+use Rattle.project_reading.specs.Verdicts.{Verdict, Done, Errors, Refused, Failed, Input, Memory, is_free, named_in}
 use Rattle.apt_host.specs.BuildEndings.{IsConcluded}
 use Rattle.project_reading.specs.Entering.{RefusesAs, IsDueRead}
 use Rattle.apt_host.specs.Making.{RefusesRun}
-use Rattle.apt_host.specs.Promises.{RefusesRead, IsDue, Finishes}
-use Rattle.apt_host.proofs.Writing.{memory_or_not}
+use Rattle.apt_host.specs.Promises.{RefusesRead, IsDue}
 
 -- ---- whose refusal it is
 
@@ -28,35 +23,19 @@ module _ (old new : State) where
 
 module _ (tells : Bool) (options : Options) (project : Files) (old new : State) where
   -- the project was not read
-  pub refuses_read : (v : Verdict) → Told tells (RefusesAs (read_of options project) v) → RefusesRead tells (Build options) project old new v
+  pub refuses_read : (v : Verdict) → Told tells (RefusesAs (read_of options project) v) → RefusesRead tells options project old new v
   refuses_read v refuses = λ told refusal is early. subst (RefusesAs (read_of options project)) is (refuses told)
 
   -- nothing was refused
-  pub refuses_free : (v : Verdict) → is_free v ≡ true → RefusesRead tells (Build options) project old new v
+  pub refuses_free : (v : Verdict) → is_free v ≡ true → RefusesRead tells options project old new v
   refuses_free v free = λ told refusal is early. absurd (false≢true (sym (ap is_free is) ∙ free))
 
-  pub refuses_concluded : (v : Verdict) → IsConcluded v → RefusesRead tells (Build options) project old new v
+  pub refuses_concluded : (v : Verdict) → IsConcluded v → RefusesRead tells options project old new v
   refuses_concluded v concluded = λ told refusal is early. absurd (subst IsConcluded is concluded)
 
   -- the run was refused
-  pub refuses_after : (v : Verdict) → RefusesRun old new v → RefusesRead tells (Build options) project old new v
+  pub refuses_after : (v : Verdict) → RefusesRun old new v → RefusesRead tells options project old new v
   refuses_after v run = λ told refusal is early. absurd (not_before old new refusal (subst (RefusesRun old new) is run) early)
-
-module _ (tells : Bool) (request : Request) (project : Files) (old new : State) where
-  refuses_memory : (r : Request) → RefusesRead tells r project old new Memory
-  refuses_memory (Build options) = refuses_free tells options project old new Memory refl
-  refuses_memory (Serve local) = tt
-  refuses_memory (Bad at) = tt
-
-  -- there was no memory for the words
-  pub refuses_unread : RefusesRead tells request project old new Memory
-  refuses_unread = refuses_memory request
-
-  -- behind the line of a refusal
-  pub refuses_finish : (v w : Verdict) → Finishes v w → RefusesRead tells request project old new v → RefusesRead tells request project old new w
-  refuses_finish v w finishes refuses = memory_or_not w (RefusesRead tells request project old new w)
-      (λ memory. subst (λ u. RefusesRead tells request project old new u) (sym memory) refuses_unread)
-      (λ ne. subst (λ u. RefusesRead tells request project old new u) (sym (finishes.same ne)) refuses)
 
 -- ---- what is due
 
@@ -82,10 +61,6 @@ module _ (old new : State) where
   due_project (Input fault) none due = tt
   due_project Memory none due = tt
 
-  pub due_store : (fault : StoreFault) → IsDue old new (verdict (of_store fault))
-  due_store store.Failed = tt
-  due_store store.Memory = tt
-
   pub due_concluded : (v : Verdict) → IsConcluded v → IsDue old new v
   due_concluded Done concluded = tt
   due_concluded (Errors count) concluded = tt
@@ -93,8 +68,3 @@ module _ (old new : State) where
   due_concluded (Failed object) concluded = tt
   due_concluded (Input fault) concluded = absurd concluded
   due_concluded Memory concluded = tt
-
-  pub due_finish : (v w : Verdict) → Finishes v w → IsDue old new v → IsDue old new w
-  due_finish v w finishes due = memory_or_not w (IsDue old new w)
-      (λ memory. subst (IsDue old new) (sym memory) tt)
-      (λ ne. subst (IsDue old new) (sym (finishes.same ne)) due)

@@ -1,15 +1,16 @@
 -- What a build leaves in the tree, and what its children were shown, also where the line of a refusal wants memory.
-use Rattle.std.proofs.Common.{◌≡◌, ◌≢◌, Result, Ok, Err, inr, refl, sym, subst, ℕ, List, Option, true, inl}
+use Rattle.std.proofs.Common.{◌≡◌, ◌≢◌, Bool, Result, Ok, Err, inr, refl, sym, subst, ℕ, List, Option, true, inl}
 use Rattle.apt_outside.specs.Files.{Files}
 use Rattle.apt_outside.specs.Child.{State}
 use Rattle.tree_store.specs.Output.{StoresStand}
 use Rattle.tree_store.specs.Storing.{AddsToStore}
-use Rattle.project_units.specs.Refusals.{Refusal, Tree, Sink, Children}
-use Rattle.apt_host.specs.Words.{Request, Build, Serve, Bad}
+use Rattle.project_units.specs.Refusals.{Refusal, Object, Tree, Sink, Children}
 use Rattle.project_reading.specs.Verdicts.{Verdict, Done, Errors, Refused, Failed, Input, Memory, OrMemory, is_children, fails}
-use Rattle.project_reading.specs.Project.{Read, read_of}
-use Rattle.apt_host.specs.Promises.{Leaves, LeavesBy, KeepsOutput, Finishes, ShowsOver, ShowsRun}
-use Rattle.apt_host.proofs.Writing.{memory_or_not, not_done}
+use Rattle.project_reading.specs.Endings.{EndsEarly}
+use Rattle.project_reading.specs.Project.{Read}
+use Rattle.apt_host.specs.Texts.{Finishes}
+use Rattle.apt_host.specs.Promises.{Leaves, KeepsOutput, ShowsOver}
+use Rattle.apt_host.proofs.Writing.{memory_or_not}
 use Rattle.apt_host.specs.Exempt.{IsExempt}
 
 -- ---- the tree
@@ -26,7 +27,7 @@ pub adds_same : (old new : Files) → new ≡ old → AddsToStore old new
 adds_same old new same = subst (λ files. AddsToStore old files) (sym same) (adds_none old)
 
 -- a refusal whose line wants memory
-leaves_memory : (v : Verdict) (old new : Files) → v ≢ Done → Leaves v old new → AddsToStore old new
+pub leaves_memory : (v : Verdict) (old new : Files) → v ≢ Done → Leaves v old new → AddsToStore old new
 leaves_memory Done old new ne leaves = absurd (ne refl)
 leaves_memory (Errors count) old new ne leaves = adds_same old new leaves
 leaves_memory (Refused refusal) old new ne leaves = adds_same old new leaves
@@ -44,18 +45,18 @@ leaves_keep v old new leaves = λ undone stand. (leaves_memory v old new undone 
 pub stands_by : (v : Verdict) (old new : Files) → v ≢ Done → Leaves v old new → StoresStand old → StoresStand new
 stands_by v old new ne leaves stand = (leaves_memory v old new ne leaves).stand stand
 
--- a refusal leaves the same
-leaves_finish : (v w : Verdict) (old new : Files) → Finishes v w → Leaves v old new → Leaves w old new
-leaves_finish v w old new finishes leaves = memory_or_not w (Leaves w old new)
-    (λ memory. subst (λ u. Leaves u old new) (sym memory) (leaves_memory v old new (not_done v w finishes memory) leaves))
-    (λ ne. subst (λ u. Leaves u old new) (sym (finishes.same ne)) leaves)
+-- a part that did not do its work, and left the tree as it was
+pub leaves_early : (is : Object → Bool) (v : Verdict) (old new : Files) → EndsEarly is v → new ≡ old → Leaves v old new
+leaves_early is Done old new early same = absurd early
+leaves_early is (Errors count) old new early same = absurd early
+leaves_early is (Refused refusal) old new early same = same
+leaves_early is (Failed Tree) old new early same = adds_same old new same
+leaves_early is (Failed Sink) old new early same = adds_same old new same
+leaves_early is (Failed (Children processor)) old new early same = same
+leaves_early is (Input fault) old new early same = absurd early
+leaves_early is Memory old new early same = adds_same old new same
 
-pub leaves_by_finish : (request : Request) (v w : Verdict) (old new : Files) → Finishes v w → LeavesBy request v old new → LeavesBy request w old new
-leaves_by_finish (Build options) v w old new finishes leaves = leaves_finish v w old new finishes leaves
-leaves_by_finish (Serve local) v w old new finishes leaves = leaves
-leaves_by_finish (Bad at) v w old new finishes leaves = leaves_finish v w old new finishes leaves
-
--- out of memory stays so
+-- out of memory stays so, behind the line of a refusal
 pub finishes_memory : (expected w : Verdict) → Finishes Memory w → OrMemory expected w
 finishes_memory expected w finishes = memory_or_not w (OrMemory expected w) (λ memory. inr memory) (λ ne. absurd (ne (finishes.same ne)))
 
@@ -73,17 +74,7 @@ exempt_memory rose (Input fault) exempt cause is = inl is
 exempt_memory rose Memory exempt cause is = is
 
 module _ (rose : Type 0) where
-  shown_memory : (read : Result Read Refusal) (v : Verdict) (old new : State) → (fails is_children v ≡ true → rose) → ShowsOver rose read old new v → ShowsOver rose read old new Memory
+  pub shown_memory : (read : Result Read Refusal) (v : Verdict) (old new : State) → (fails is_children v ≡ true → rose) → ShowsOver rose read old new v → ShowsOver rose read old new Memory
   shown_memory (Err refusal) v old new cause shown = shown
   shown_memory (Ok read) v old new cause shown =
       record { by = tt; exempt = shown.exempt; is_exempt = exempt_memory rose v shown.exempt cause shown.is_exempt; fronts = shown.fronts }
-
-  shows_run_memory : (request : Request) (project : Files) (v : Verdict) (old new : State) → (fails is_children v ≡ true → rose) → ShowsRun rose request project old new v → ShowsRun rose request project old new Memory
-  shows_run_memory (Build options) project v old new cause shown = shown_memory (read_of options project) v old new cause shown
-  shows_run_memory (Serve local) project v old new cause shown = tt
-  shows_run_memory (Bad at) project v old new cause shown = tt
-
-  pub shows_finish : (request : Request) (project : Files) (v w : Verdict) (old new : State) → (fails is_children v ≡ true → rose) → Finishes v w → ShowsRun rose request project old new v → ShowsRun rose request project old new w
-  shows_finish request project v w old new cause finishes shown = memory_or_not w (ShowsRun rose request project old new w)
-      (λ memory. subst (λ u. ShowsRun rose request project old new u) (sym memory) (shows_run_memory request project v old new cause shown))
-      (λ ne. subst (λ u. ShowsRun rose request project old new u) (sym (finishes.same ne)) shown)

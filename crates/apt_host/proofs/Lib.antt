@@ -5,6 +5,7 @@ pub mod EarlyRefusals
 pub mod MakingLemmas
 pub mod Using
 pub mod Building
-pub mod UnreadWords
+pub mod Keeping
+pub mod CommandLemmas
 pub mod ServingLemmas
 pub mod WordLemmas

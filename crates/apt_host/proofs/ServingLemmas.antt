@@ -1,44 +1,26 @@
 -- A child of another host: how it ends, and what it reads and writes.
-use Rattle.std.proofs.Common.{◌≡◌, ℕ, Bool, true, false, None, Result, Ok, Err, refl, sym, subst, arith}
+use Rattle.std.proofs.Common.{◌≡◌, ℕ, Bool, true, false, Result, Ok, Err, refl, sym, subst, arith}
 use Rattle.std.proofs.lemmas.Bool.{false≢true}
 use Rattle.apt_outside.specs.declared.stream.Source as source
 use Rattle.apt_outside.specs.declared.stream.Sink as sink
-use Rattle.apt_outside.specs.Child.{State}
 use Rattle.local_procs.specs.declared.local.Local.{Local}
 use Rattle.local_children.specs.declared.serving.ServeFault.{ServeFault}
 use Rattle.local_children.specs.declared.serving.ServeFault.TheVariants as faults
 use Rattle.local_children.specs.Serving as child
 use Rattle.local_children.specs.Serving.{IsCaused}
 use Rattle.project_units.specs.Refusals.{Object, Sink}
-use Rattle.project_reading.specs.declared.status.Status.{Status}
-use Rattle.project_reading.specs.Verdicts.{Verdict, Done, Errors, Refused, Failed, Input, Memory, is_sink, is_input, named_in, HasCause, HasSourceCause}
-use Rattle.apt_host.specs.Words as request
-use Rattle.apt_host.specs.Words.{Request, has_line}
-use Rattle.apt_host.specs.Promises.{is_served, IsDue}
-use Rattle.apt_host.specs.Serving.{served, ServesFor, Serves}
+use Rattle.project_reading.specs.Verdicts.{Verdict, Done, Errors, Refused, Failed, Input, Memory, is_sink, is_input, HasCause, HasSourceCause}
+use Rattle.apt_host.specs.Commands.{may_serve}
+use Rattle.apt_host.specs.Serving.{served, ServesFor}
 
 -- ---- its answer
 
-pub served_own : (result : Result Unit ServeFault) → is_served (served result) ≡ true
+pub served_own : (result : Result Unit ServeFault) → may_serve (served result) ≡ true
 served_own (Ok done) = refl
 served_own (Err faults.SourceFault) = refl
 served_own (Err faults.SinkFault) = refl
 served_own (Err (faults.Breach breach)) = refl
 served_own (Err faults.Memory) = refl
-
-pub served_due : (old new : State) (result : Result Unit ServeFault) → IsDue old new (served result)
-served_due old new (Ok done) = tt
-served_due old new (Err faults.SourceFault) = tt
-served_due old new (Err faults.SinkFault) = tt
-served_due old new (Err (faults.Breach breach)) = tt
-served_due old new (Err faults.Memory) = tt
-
-pub served_unnamed : (result : Result Unit ServeFault) → named_in (served result) ≡ None
-served_unnamed (Ok done) = refl
-served_unnamed (Err faults.SourceFault) = refl
-served_unnamed (Err faults.SinkFault) = refl
-served_unnamed (Err (faults.Breach breach)) = refl
-served_unnamed (Err faults.Memory) = refl
 
 -- ---- its causes
 
@@ -78,10 +60,3 @@ source_unread Memory count other = record { later = omega arith; rose = λ fails
 pub serves_as : {R W : Type 0} (r : source.Ghosts R) (w : sink.Ghosts W) (local : Local) (input input' : R) (output output' : W) (result : Result Unit ServeFault) (v : Verdict)
     → v ≡ served result → child.Serves r w local input input' output output' result → ServesFor r w local input input' output output' v
 serves_as r w local input input' output output' result v is serves = record { end = result; answers = is; serves = serves }
-
--- no other command does any of it
-pub serves_none : {R W : Type 0} (r : source.Ghosts R) (w : sink.Ghosts W) (asks : Request) (input input' : R) (output output' : W) (result : Status)
-    → has_line asks ≡ true → Serves r w asks input input' output output' result
-serves_none r w (request.Build options) input input' output output' result line = tt
-serves_none r w (request.Serve local) input input' output output' result line = absurd (false≢true line)
-serves_none r w (request.Bad at) input input' output output' result line = tt

@@ -1,9 +1,9 @@
--- Which words ask for a command whose refusals have lines.
-use Rattle.std.proofs.Common.{◌≡◌, ℕ, ◌+◌, Bool, true, false, List, [], ◌∷◌, ◌++◌, Option, None, Some, Result, Ok, Err, cond, refl, sym}
-use Rattle.std.specs.Prelude.{codes, bytes_eq, IfErr}
+-- The words behind `build` ask for a command whose refusals have lines.
+use Rattle.std.proofs.Common.{◌≡◌, ℕ, ◌+◌, Bool, true, false, List, [], ◌∷◌, ◌++◌, Option, None, Some, Result, Ok, Err, cond, refl}
+use Rattle.std.specs.Prelude.{bytes_eq, IfErr}
 use Rattle.project_config.specs.Options.{option_in}
 use Rattle.project_reading.specs.Configuration.{Options}
-use Rattle.apt_host.specs.Words.{Request, Bad, has_line, full_word, with_option, build_from, build_of, request_of}
+use Rattle.apt_host.specs.Words.{Request, Bad, has_line, full_word, with_option, build_from, build_of}
 
 either : (b : Bool) (x y : Request) → has_line x ≡ true → has_line y ≡ true → has_line (cond b x y) ≡ true
 either true x y first second = first
@@ -20,18 +20,9 @@ lines_from at full options (word ∷ words) =
     (either full (Bad at) (build_from (at + 1) true options words) refl (lines_from (at + 1) true options words))
     (optional at (option_in word) (λ option. build_from (at + 1) full (options ++ option ∷ []) words) (λ option. lines_from (at + 1) full (options ++ option ∷ []) words))
 
--- behind `build`
 pub build_has_line : (words : List (List ℕ)) → has_line (build_of words) ≡ true
 build_has_line words = lines_from 1 false [] words
 
 pub build_if_err : {T E : Type 0} (result : Result T E) (words : List (List ℕ)) → IfErr result (λ (fault : E). has_line (build_of words) ≡ true)
 build_if_err (Ok value) words = tt
 build_if_err (Err fault) words = build_has_line words
-
--- behind any word but `serve`
-pub others_have_line : (word : List ℕ) (words : List (List ℕ)) → has_line (cond (bytes_eq word (codes "build")) (build_of words) (Bad 0)) ≡ true
-others_have_line word words = either (bytes_eq word (codes "build")) (build_of words) (Bad 0) (build_has_line words) refl
-
--- any words that do not begin with `serve`
-pub line_unless_serve : (word : List ℕ) (words : List (List ℕ)) → bytes_eq word (codes "serve") ≡ false → true ≡ has_line (request_of (word ∷ words))
-line_unless_serve word words other = rw other (sym (others_have_line word words))

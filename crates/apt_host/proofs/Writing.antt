@@ -1,20 +1,23 @@
 -- What is written, by the verdict.
-use Rattle.std.proofs.Common.{◌≡◌, ◌≢◌, ℕ, Bool, true, false, List, [], ◌∷◌, ◌++◌, Result, Ok, Err, refl, sym, ap, ◌∙◌, subst, inl, inr, take, append-nil, append_assoc}
+use Rattle.std.proofs.Common.{◌≡◌, ◌≢◌, ℕ, Bool, true, false, List, [], ◌∷◌, Result, Ok, Err, refl, sym, ap, ◌∙◌, subst, inl, inr, take, append-nil}
 use Rattle.std.proofs.lemmas.Bool.{false≢true}
+use Rattle.apt_outside.specs.Count.{Rose}
 use Rattle.apt_outside.specs.Files.{Files}
 use Rattle.apt_outside.specs.Child.{Try, State}
 use Rattle.apt_outside.specs.declared.fault.Fault.{Fault}
 use Rattle.apt_outside.specs.declared.fault.Fault.TheVariants as outside
 use Rattle.apt_outside.specs.Stream.{Appends}
 use Rattle.apt_host.specs.BuildEndings.{sink_verdict}
-use Rattle.project_units.specs.Refusals.{Refusal, BadWords, Tree, Sink, Children}
+use Rattle.project_units.specs.Refusals.{Refusal, Object, Tree, Sink, Children}
 use Rattle.round_engine.specs.Clean.{Talked}
-use Rattle.apt_host.specs.Words.{Request, Build, Serve, Bad, has_line}
+use Rattle.project_reading.specs.Configuration.{Options}
 use Rattle.project_reading.specs.Project.{Read, read_of}
-use Rattle.apt_host.specs.CleanBuild.{Summary, Outcome, clean, verdict_of}
+use Rattle.apt_host.specs.CleanBuild.{Outcome, clean, verdict_of}
 use Rattle.apt_host.specs.CleanBuild as outcome
-use Rattle.project_reading.specs.Verdicts.{Verdict, Done, Errors, Refused, Failed, Input, Memory, is_finished, is_sink, fails}
-use Rattle.apt_host.specs.Promises.{TalkedOf, IsFront, IsLine, IsOutcome, StoresBuilt, StoresOutcome, Reports, Adds, Writes, AddsBy, WritesBy, Finishes}
+use Rattle.apt_host.specs.Report.{report_text}
+use Rattle.project_reading.specs.Verdicts.{Verdict, Done, Errors, Refused, Failed, Input, Memory, OrMemory, is_finished, is_sink, fails, HasCause}
+use Rattle.apt_host.specs.Texts.{IsFront, IsLine, Adds, WritesText, Writes, Finishes}
+use Rattle.apt_host.specs.Promises.{TalkedOf, StoresBuilt, StoresOutcome, Reports}
 
 -- a status is out of memory, or it is not
 pub memory_or_not : (v : Verdict) (A : Type 0) → (v ≡ Memory → A) → (v ≢ Memory → A) → A
@@ -107,9 +110,63 @@ stores_finish o v w old new finishes stores = memory_or_not w (StoresOutcome o w
     (λ memory. subst (λ u. StoresOutcome o u old new) (sym memory) (stores_memory o v old new (not_done v w finishes memory) stores))
     (λ ne. subst (λ u. StoresOutcome o u old new) (sym (finishes.same ne)) stores)
 
-module _ (tells talks : Bool) (request : Request) (project project' : Files) (before after : State) where
-  abbrev Written : Verdict → Type 0 → List ℕ → Type 0
-  Written v rose text = Reports tells talks request project project' before after v rose text
+-- ---- the text of any command
+
+-- nothing of it was written
+pub writes_nothing : (P : List ℕ → List ℕ → Type 0) (v : Verdict) (rose : Type 0) (whole old : List ℕ) → is_finished v ≡ false → fails is_sink v ≡ false → P whole [] → WritesText P v rose old old
+writes_nothing P v rose whole old unfinished other prints = record { whole = whole; text = []; prints = prints; is_front = nothing_yet rose whole v unfinished other; added = sym (append-nil old) }
+
+-- the sink failed or memory was wanted for it
+pub writes_some : (P : List ℕ → List ℕ → Type 0) (whole old new : List ℕ) (fault : Fault) (rose : Type 0) → whole ≢ [] → ((text : List ℕ) → P whole text) → Appends old new whole (Err fault)
+    → WritesText P (sink_verdict fault) rose old new
+writes_some P whole old new fault rose some prints appends =
+    let adds = some_written whole old new fault some appends in
+    record {
+      whole = whole;
+      text = adds.0;
+      prints = prints adds.0;
+      is_front = front_more ⊥ rose whole (sink_verdict fault) adds.0 (λ never. absurd never) adds.1;
+      added = adds.2;
+    }
+
+-- and then the line of the status
+pub writes_all : (P Q : List ℕ → List ℕ → Type 0) (v w : Verdict) (r1 r2 s : Type 0) (old mid new : List ℕ) → Finishes v w → (r1 → s) → (r2 → s) → (fails is_sink v ≡ true → s)
+    → ((whole text : List ℕ) → P whole text → Q whole text) → WritesText P v r1 old mid → Adds (IsLine w r2) mid new → Writes Q w s old new
+writes_all P Q v w r1 r2 s old mid new fin more more_line why keeps written (line, is_line, ends) = record {
+  mid = mid;
+  text = record {
+    whole = written.whole;
+    text = written.text;
+    prints = keeps written.whole written.text written.prints;
+    is_front = front_after s written.whole v w written.text why fin.same (front_more r1 s written.whole v written.text more written.is_front);
+    added = written.added;
+  };
+  line = (line, line_more w r2 s line more_line is_line, ends);
+}
+
+-- ---- the report of a build
+
+module _ (tells talks : Bool) (options : Options) (project project' : Files) (before after : State) where
+  abbrev IsReport : Verdict → List ℕ → List ℕ → Type 0
+  IsReport v = Reports tells talks options project project' before after v
+
+  abbrev cleaned : Outcome
+  cleaned = clean before.says options project
+
+  -- nothing of it stands yet
+  pub reports_nothing : (v : Verdict) → is_finished v ≡ false → IsReport v (report_text cleaned) []
+  reports_nothing v unfinished = record {
+    outcome = cleaned;
+    is_clean = λ told. talked talks (read_of options project) (cleaned ≡ cleaned) refl;
+    is_report = refl;
+    ended = λ done. absurd (false≢true (sym unfinished ∙ done));
+    counted = λ some. absurd (some refl);
+    stores = λ told some. absurd (some refl);
+  }
+
+  -- and nothing of it was written
+  pub begins_with_nothing : (v : Verdict) (rose : Type 0) (old : List ℕ) → is_finished v ≡ false → fails is_sink v ≡ false → WritesText (IsReport v) v rose old old
+  begins_with_nothing v rose old unfinished other = writes_nothing (IsReport v) v rose (report_text cleaned) old unfinished other (reports_nothing v unfinished)
 
   -- its answer is that of its outcome
   ended_after : (v w : Verdict) (o : Outcome) → (w ≢ Memory → w ≡ v) → (is_finished v ≡ true → v ≡ verdict_of o) → is_finished w ≡ true → w ≡ verdict_of o
@@ -117,68 +174,31 @@ module _ (tells talks : Bool) (request : Request) (project project' : Files) (be
       let as_before : w ≡ v = same (λ memory. false≢true (sym (ap is_finished memory) ∙ done)) in
       as_before ∙ ended (sym (ap is_finished as_before) ∙ done)
 
-  reports_after : (v w : Verdict) (r s : Type 0) (text : List ℕ) → Finishes v w → (r → s) → (fails is_sink v ≡ true → s) → Written v r text → Written w s text
-  reports_after v w r s text fin more why reports = record {
+  -- behind the line of a refusal
+  pub reports_finish : (v w : Verdict) → Finishes v w → (whole text : List ℕ) → IsReport v whole text → IsReport w whole text
+  reports_finish v w fin whole text reports = record {
     outcome = reports.outcome;
-    is_outcome = reports.is_outcome;
-    is_front = front_after s _ v w text why fin.same (front_more r s _ v text more reports.is_front);
+    is_clean = reports.is_clean;
+    is_report = reports.is_report;
     ended = ended_after v w reports.outcome fin.same reports.ended;
     counted = reports.counted;
     stores = λ told some. stores_finish reports.outcome v w project project' fin (reports.stores told some);
   }
 
-  pub written_all : (v w : Verdict) (r1 r2 s : Type 0) (old mid new : List ℕ) → Finishes v w → (r1 → s) → (r2 → s) → (fails is_sink v ≡ true → s)
-      → Adds (Written v r1) old mid → Adds (IsLine w r2) mid new → Writes (Written w s) (IsLine w s) old new
-  written_all v w r1 r2 s old mid new fin more more_line why (text, reports, added) (line, is_line, ends) = record {
-    text = text;
-    is_text = reports_after v w r1 s text fin more why reports;
-    line = line;
-    is_line = line_more w r2 s line more_line is_line;
-    added = ends ∙ ap (λ t. t ++ line) added ∙ append_assoc old text line;
-  }
+-- ---- the answer, behind the line of a refusal
 
-  outcome_for : Request → Outcome
-  outcome_for (Build options) = clean before.says options project
-  outcome_for (Serve local) = outcome.Refused (BadWords 0)
-  outcome_for (Bad at) = outcome.Refused (BadWords at)
+pub or_memory : (v w : Verdict) → Finishes v w → OrMemory v w
+or_memory v w fin = memory_or_not w (OrMemory v w) (λ memory. inr memory) (λ ne. inl (fin.same ne))
 
-  own_outcome : (r : Request) → has_line r ≡ true → IsOutcome tells talks r before.says project (outcome_for r)
-  unfolding outcome_for
-  own_outcome (Build options) line = λ told. talked talks (read_of options project) (clean before.says options project ≡ clean before.says options project) refl
-  own_outcome (Serve local) line = absurd (false≢true line)
-  own_outcome (Bad at) line = refl
+-- out of memory stays so
+pub memory_stays : (w : Verdict) → Finishes Memory w → w ≡ Memory
+memory_stays w fin = memory_or_not w (w ≡ Memory) (λ memory. memory) (λ ne. fin.same ne)
 
-  -- nothing was written yet
-  pub begins_with_nothing : (v : Verdict) (rose : Type 0) (old : List ℕ) → has_line request ≡ true → is_finished v ≡ false → fails is_sink v ≡ false → Adds (Written v rose) old old
-  begins_with_nothing v rose old line unfinished other = (
-    [],
-    record {
-      outcome = outcome_for request;
-      is_outcome = own_outcome request line;
-      is_front = nothing_yet rose _ v unfinished other;
-      ended = λ done. absurd (false≢true (sym unfinished ∙ done));
-      counted = λ some. absurd (some refl);
-      stores = λ told some. absurd (some refl);
-    },
-    sym (append-nil old),
-  )
-
--- ---- by what was asked for
-
-pub adds_by : (request : Request) (reports : List ℕ → Type 0) (old new : List ℕ) → Adds reports old new → AddsBy request reports old new
-adds_by (Build options) reports old new adds = adds
-adds_by (Serve local) reports old new adds = tt
-adds_by (Bad at) reports old new adds = adds
-
--- a command that has lines writes its report and then a line
-pub writes_by : (request : Request) (reports reports' lines : List ℕ → Type 0) (old mid new : List ℕ) → AddsBy request reports old mid
-    → (Adds reports old mid → Writes reports' lines old new) → WritesBy request reports' lines old new
-writes_by (Build options) reports reports' lines old mid new adds then = then adds
-writes_by (Serve local) reports reports' lines old mid new adds then = tt
-writes_by (Bad at) reports reports' lines old mid new adds then = then adds
-
--- `serve` has none
-pub writes_none : (request : Request) (reports lines : List ℕ → Type 0) (old new : List ℕ) → has_line request ≡ false → WritesBy request reports lines old new
-writes_none (Build options) reports lines old new none = absurd (false≢true (sym none))
-writes_none (Serve local) reports lines old new none = tt
-writes_none (Bad at) reports lines old new none = absurd (false≢true (sym none))
+-- its cause
+pub cause_finish : (is : Object → Bool) (v w : Verdict) (before now : ℕ) → Finishes v w → HasCause is v before now → HasCause is w before now
+cause_finish is v w before now fin cause = record {
+  later = cause.later;
+  rose = λ failed. memory_or_not w (Rose before now)
+      (λ memory. absurd (false≢true (sym (ap (fails is) memory) ∙ failed)))
+      (λ ne. cause.rose (ap (fails is) (sym (fin.same ne)) ∙ failed));
+}

@@ -18,7 +18,6 @@ use Rattle.apt_host.specs.declared.publish.Written.{Written}
 use Rattle.apt_host.specs.declared.report.Summary as code
 use Rattle.project_reading.specs.declared.status.Status.{Status}
 use Rattle.project_reading.specs.Configuration.{Options}
-use Rattle.apt_host.specs.Words.{Build}
 use Rattle.project_reading.specs.Project.{shown_project}
 use Rattle.apt_host.specs.CleanBuild.{Summary}
 use Rattle.apt_host.specs.Report.{errors_report}
@@ -30,12 +29,27 @@ use Rattle.project_reading.specs.Verdicts.{Verdict, Done, named_in}
 use Rattle.project_reading.specs.Endings.{ended}
 use Rattle.apt_host.specs.BuildEndings.{closed}
 use Rattle.apt_host.specs.Promises as promise
+use Rattle.apt_host.specs.Texts as text
+use Rattle.apt_host.specs.Texts.{WritesText}
 
--- ---- what is started
+-- ---- the whole build
 
--- what a build does with the children is done for the processors that were read
-abbrev pub Uses : {T C : Type 0} → tree.Ghosts T → children.Ghosts C → Options → T → C → C → Result Ending Status → Type 0
-Uses t c options tree old new result = promise.Uses t.tells c.tells (Build options) (t.files tree) (closed result) (c.state old) (c.state new)
+-- what it does
+abbrev pub Builds : {T C : Type 0} → tree.Ghosts T → children.Ghosts C → Options → T → T → C → C → Result Ending Status → Type 0
+Builds t c options tree tree' children children' result =
+    promise.Builds t.tells c.tells options (t.files tree) (t.files tree') (c.state children) (c.state children') (Rose (c.faults children) (c.faults children')) (closed result)
+
+-- its report
+abbrev pub IsReport : {T C : Type 0} → tree.Ghosts T → children.Ghosts C → Options → T → T → C → C → Result Ending Status → List ℕ → List ℕ → Type 0
+IsReport t c options tree tree' children children' result =
+    promise.Reports t.tells c.tells options (t.files tree) (t.files tree') (c.state children) (c.state children') (closed result)
+
+-- it was written, all of it or a front
+abbrev pub Reports : {T C W : Type 0} → tree.Ghosts T → children.Ghosts C → sink.Ghosts W → Options → T → T → C → C → W → W → Result Ending Status → Type 0
+Reports t c w options tree tree' children children' old new result =
+    Told w.tells (WritesText (IsReport t c options tree tree' children children' result) (closed result) (Rose (w.faults old) (w.faults new)) (w.written old) (w.written new))
+
+-- ---- what is made
 
 -- what a run does with the children is done for the processors of its key: one was started for each where it finished, their starts were tried in order, all of them where it finished, and
 -- no other
@@ -51,33 +65,11 @@ pub record UsesKey (talks : Bool) (key : Key) (v : Verdict) (old new : State) : 
 abbrev pub UsesFor : {C : Type 0} → children.Ghosts C → Project → C → C → Result Finished Status → Type 0
 UsesFor c project old new result = UsesKey c.tells project.key (ended result) (c.state old) (c.state new)
 
--- the children are shown exactly the run
-abbrev pub Shows : {T C : Type 0} → tree.Ghosts T → children.Ghosts C → Options → T → C → C → Result Ending Status → Type 0
-Shows t c options tree old new result =
-    Told t.tells (Told c.tells (promise.ShowsRun (Rose (c.faults old) (c.faults new)) (Build options) (t.files tree) (c.state old) (c.state new) (closed result)))
-
 -- what was made is the clean build's
 abbrev pub Makes : {C : Type 0} → children.Ghosts C → Project → C → C → Result Finished Status → Type 0
 Makes c project old new result = Talked c.tells (tries_in project.key) (making.Makes (shown_project project) (c.state old) (c.state new) result)
 
--- ---- what is answered and published
-
--- no build answers that its words are off the table, or that its input failed
-abbrev pub IsOwn : Options → Result Ending Status → Type 0
-IsOwn options result = promise.IsOwn (Build options) (closed result)
-
--- the answer is the clean build's
-abbrev pub Answers : {T C : Type 0} → tree.Ghosts T → children.Ghosts C → Options → T → C → Result Ending Status → Type 0
-Answers t c options tree children result = promise.Answers t.tells c.tells (Build options) (c.state children).says (t.files tree) (closed result)
-
--- a refusal before a run is that of the project
-abbrev pub Refuses : {T C : Type 0} → tree.Ghosts T → children.Ghosts C → Options → T → C → C → Result Ending Status → Type 0
-Refuses t c options tree old new result = promise.RefusesRead t.tells (Build options) (t.files tree) (c.state old) (c.state new) (closed result)
-
--- so is what is published
-abbrev pub Publishes : {T C : Type 0} → tree.Ghosts T → children.Ghosts C → Options → T → T → C → Result Ending Status → Type 0
-Publishes t c options old new children result =
-    promise.PublishesClean t.tells c.tells (Build options) (c.state children).says (t.files old) (t.files new) (closed result)
+-- ---- what is published
 
 -- the files of a finished run are in the store, and the record in its place
 abbrev pub PlacesMade : {T : Type 0} → tree.Ghosts T → Finished → T → T → Result Ending Status → Type 0
@@ -97,24 +89,14 @@ Spells summary made written = listed.Spells summary made written.stored written.
 -- what stands of the report of a build in which an error was printed
 abbrev pub AddsErrors : {W : Type 0} → sink.Ghosts W → List (List ℕ) → code.Summary → W → W → Result Unit Status → Type 0
 AddsErrors w processors summary old new result =
-    Told w.tells (promise.Adds (promise.IsFront ⊥ (errors_report (summary_of processors summary)) (ended result)) (w.written old) (w.written new))
+    Told w.tells (text.Adds (text.IsFront ⊥ (errors_report (summary_of processors summary)) (ended result)) (w.written old) (w.written new))
 
 -- what stands of the report that was spelled
 abbrev pub AddsFirst : {T W : Type 0} → tree.Ghosts T → sink.Ghosts W → Written → T → T → W → W → Result Unit Status → Type 0
 AddsFirst t w written tree tree' old new result =
-    Told w.tells (promise.Adds (promise.StandsFirst t.tells written.report.items written.stored (ended result) (t.files tree) (t.files tree')) (w.written old) (w.written new))
+    Told w.tells (text.Adds (text.StandsFirst t.tells written.report.items written.stored (ended result) (t.files tree) (t.files tree')) (w.written old) (w.written new))
 
 -- what stands of the report of a finished run
 abbrev pub Tells : {T W : Type 0} → tree.Ghosts T → sink.Ghosts W → List (List ℕ) → Finished → T → T → W → W → Result Ending Status → Type 0
 Tells t w names finished tree tree' old new result =
-    Told w.tells (promise.Adds (promise.StandsMade t.tells finished.errors (concluding_report names finished) (map numbered_of finished.files) (closed result) (t.files tree) (t.files tree')) (w.written old) (w.written new))
-
--- what stands of the report of a build
-abbrev pub IsReport : {T C W : Type 0} → tree.Ghosts T → children.Ghosts C → sink.Ghosts W → Options → T → T → C → C → W → W → Result Ending Status → List ℕ → Type 0
-IsReport t c w options tree tree' children children' old new result =
-    promise.Reports t.tells c.tells (Build options) (t.files tree) (t.files tree') (c.state children) (c.state children') (closed result) (Rose (w.faults old) (w.faults new))
-
--- it was added
-abbrev pub Reports : {T C W : Type 0} → tree.Ghosts T → children.Ghosts C → sink.Ghosts W → Options → T → T → C → C → W → W → Result Ending Status → Type 0
-Reports t c w options tree tree' children children' old new result =
-    Told w.tells (promise.Adds (IsReport t c w options tree tree' children children' old new result) (w.written old) (w.written new))
+    Told w.tells (text.Adds (text.StandsMade t.tells finished.errors (concluding_report names finished) (map numbered_of finished.files) (closed result) (t.files tree) (t.files tree')) (w.written old) (w.written new))

@@ -1,45 +1,37 @@
 -- The promises of `run` over the objects that it is given: each where the objects tell what it speaks of.
-use Rattle.std.specs.Prelude.{ℕ, List}
+use Rattle.std.specs.Prelude.{◌≡◌, ℕ, true, List}
 use Rattle.apt_outside.specs.declared.tree.Tree as tree
 use Rattle.apt_outside.specs.declared.children.Children as children
+use Rattle.apt_outside.specs.declared.stream.Source as source
 use Rattle.apt_outside.specs.declared.stream.Sink as sink
 use Rattle.apt_outside.specs.Count.{Rose, Told}
 use Rattle.project_reading.specs.declared.status.Status.{Status}
-use Rattle.apt_host.specs.Words.{Request}
 use Rattle.project_reading.specs.Verdicts.{verdict}
+use Rattle.apt_host.specs.Words.{Request, Build, Serve, Help, Bad, has_line, help_text}
 use Rattle.apt_host.specs.Promises as promise
+use Rattle.apt_host.specs.Serving.{ServesFor}
+use Rattle.apt_host.specs.Commands as command
+use Rattle.apt_host.specs.Commands.{SameUnless, SameBut, touched_by}
+use Rattle.apt_host.specs.Texts as text
+use Rattle.apt_host.specs.Texts.{WritesText}
 
--- ---- what is started
+-- ---- what all commands keep to
 
--- what is done with the children is done for the processors that were read
-abbrev pub Uses : {T C : Type 0} → tree.Ghosts T → children.Ghosts C → Request → T → C → C → Status → Type 0
-Uses t c request tree old new result = promise.Uses t.tells c.tells request (t.files tree) (verdict result) (c.state old) (c.state new)
+-- the tree and the children are as they were, if the command may not touch them
+abbrev pub Untouched : {T C : Type 0} → Request → T → T → C → C → Type 0
+Untouched request tree tree' children children' = SameUnless (touched_by request).tree tree tree' × SameUnless (touched_by request).children children children'
 
--- the children are shown exactly the run
-abbrev pub Shows : {T C : Type 0} → tree.Ghosts T → children.Ghosts C → Request → T → C → C → Status → Type 0
-Shows t c request tree old new result = Told t.tells (Told c.tells (promise.ShowsRun (Rose (c.faults old) (c.faults new)) request (t.files tree) (c.state old) (c.state new) (verdict result)))
+-- so is the source
+abbrev pub Unread : {R : Type 0} → Request → R → R → Type 0
+Unread request old new = SameUnless (touched_by request).source old new
 
--- ---- what is answered and published
+-- no file changes but those of the command's folder
+abbrev pub KeepsOthers : {T : Type 0} → tree.Ghosts T → Request → T → T → Type 0
+KeepsOthers t request old new = Told t.tells (SameBut (touched_by request).folder (t.files old) (t.files new))
 
--- the answer is one of those of its request
+-- the answer is one of those of the command
 abbrev pub IsOwn : Request → Status → Type 0
-IsOwn request result = promise.IsOwn request (verdict result)
-
--- the answer is the clean build's
-abbrev pub Answers : {T C : Type 0} → tree.Ghosts T → children.Ghosts C → Request → T → C → Status → Type 0
-Answers t c request tree children result = promise.Answers t.tells c.tells request (c.state children).says (t.files tree) (verdict result)
-
--- a refusal before a run is that of the project
-abbrev pub Refuses : {T C : Type 0} → tree.Ghosts T → children.Ghosts C → Request → T → C → C → Status → Type 0
-Refuses t c request tree old new result = promise.RefusesRead t.tells request (t.files tree) (c.state old) (c.state new) (verdict result)
-
--- so is what is published
-abbrev pub Publishes : {T C : Type 0} → tree.Ghosts T → children.Ghosts C → Request → T → T → C → Status → Type 0
-Publishes t c request old new children result = promise.PublishesClean t.tells c.tells request (c.state children).says (t.files old) (t.files new) (verdict result)
-
--- what the tree holds in the end
-abbrev pub Leaves : {T : Type 0} → tree.Ghosts T → Request → T → T → Status → Type 0
-Leaves t request old new result = Told t.tells (promise.LeavesBy request (verdict result) (t.files old) (t.files new))
+IsOwn request result = command.IsOwn request (verdict result)
 
 -- ---- what is written
 
@@ -47,25 +39,30 @@ Leaves t request old new result = Told t.tells (promise.LeavesBy request (verdic
 abbrev pub RoseIn : {W : Type 0} → sink.Ghosts W → W → W → Type 0
 RoseIn w old new = Rose (w.faults old) (w.faults new)
 
--- the line of a refusal
-abbrev pub IsLine : {W : Type 0} → sink.Ghosts W → W → W → Status → List ℕ → Type 0
-IsLine w old new result = promise.IsLine (verdict result) (RoseIn w old new)
-
--- it was added
+-- the line of a refusal was added
 abbrev pub AddsLine : {W : Type 0} → sink.Ghosts W → W → W → Status → Type 0
-AddsLine w old new result = Told w.tells (promise.Adds (IsLine w old new result) (w.written old) (w.written new))
+AddsLine w old new result = Told w.tells (text.Adds (text.IsLine (verdict result) (RoseIn w old new)) (w.written old) (w.written new))
 
--- what stands of the report
-abbrev pub IsReport : {T C W : Type 0} → tree.Ghosts T → children.Ghosts C → sink.Ghosts W → Request → T → T → C → C → W → W → Status → List ℕ → Type 0
-IsReport t c w request tree tree' children children' old new result =
-    promise.Reports t.tells c.tells request (t.files tree) (t.files tree') (c.state children) (c.state children') (verdict result) (RoseIn w old new)
+-- the table of words was written, all of it or a front
+abbrev pub WritesTable : {W : Type 0} → sink.Ghosts W → W → W → Status → Type 0
+WritesTable w old new result = Told w.tells (WritesText (λ whole part. whole ≡ help_text) (verdict result) (RoseIn w old new) (w.written old) (w.written new))
 
--- it was added
-abbrev pub Reports : {T C W : Type 0} → tree.Ghosts T → children.Ghosts C → sink.Ghosts W → Request → T → T → C → C → W → W → Status → Type 0
-Reports t c w request tree tree' children children' old new result =
-    Told w.tells (promise.AddsBy request (IsReport t c w request tree tree' children children' old new result) (w.written old) (w.written new))
+-- the whole text of the command
+abbrev pub Prints : {T C : Type 0} → tree.Ghosts T → children.Ghosts C → Request → T → T → C → C → Status → List ℕ → List ℕ → Type 0
+Prints t c request tree tree' children children' result =
+    command.Prints t.tells c.tells request (t.files tree) (t.files tree') (c.state children) (c.state children') (verdict result)
 
--- it was added, and then the line
+-- all of it or a front was written, and then the line of the status
 abbrev pub Writes : {T C W : Type 0} → tree.Ghosts T → children.Ghosts C → sink.Ghosts W → Request → T → T → C → C → W → W → Status → Type 0
 Writes t c w request tree tree' children children' old new result =
-    Told w.tells (promise.WritesBy request (IsReport t c w request tree tree' children children' old new result) (IsLine w old new result) (w.written old) (w.written new))
+    Told w.tells (has_line request ≡ true → text.Writes (Prints t c request tree tree' children children' result) (verdict result) (RoseIn w old new) (w.written old) (w.written new))
+
+-- ---- what the command does beside
+
+-- `help` and words that are no command do nothing more
+abbrev pub Does : {T C R W : Type 0} → tree.Ghosts T → children.Ghosts C → source.Ghosts R → sink.Ghosts W → Request → T → T → C → C → R → R → W → W → Status → Type 0
+Does t c r w (Build options) tree tree' children children' input input' output output' result =
+    promise.Builds t.tells c.tells options (t.files tree) (t.files tree') (c.state children) (c.state children') (Rose (c.faults children) (c.faults children')) (verdict result)
+Does t c r w (Serve local) tree tree' children children' input input' output output' result = ServesFor r w local input input' output output' (verdict result)
+Does t c r w Help tree tree' children children' input input' output output' result = Unit {0}
+Does t c r w (Bad at) tree tree' children children' input input' output output' result = Unit {0}

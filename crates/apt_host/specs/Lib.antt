@@ -3,7 +3,9 @@ pub mod Shown
 pub mod CleanBuild
 pub mod Report
 pub mod Listed
+pub mod Texts
 pub mod Promises
+pub mod Commands
 pub mod Serving
 pub mod Exempt
 pub mod Making

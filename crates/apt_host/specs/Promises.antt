@@ -1,5 +1,5 @@
--- What `run` promises, by what its words ask for.
-use Rattle.std.specs.Prelude.{◌≡◌, ◌≢◌, ◌⊎◌, ℕ, ◌+◌, ◌≤◌, Bool, true, false, List, [], ◌++◌, map, length, take, Contains, IfSome, Result, Ok, Err, Option}
+-- What a build promises.
+use Rattle.std.specs.Prelude.{◌≡◌, ◌≢◌, ◌⊎◌, ℕ, ◌+◌, ◌≤◌, Bool, true, List, [], ◌++◌, map, length, Contains, IfSome, Result, Ok, Err, Option}
 use Rattle.std.specs.FinMap as fin
 use Rattle.apt_outside.specs.Count.{Told}
 use Rattle.apt_outside.specs.Files.{Files}
@@ -7,24 +7,21 @@ use Rattle.apt_outside.specs.Child.{Says, Try, State, AllKept}
 use Rattle.tree_store.specs.declared.record.StoredFile.{StoredFile}
 use Rattle.tree_store.specs.RecordFormat.{record_form}
 use Rattle.tree_store.specs.Output.{store_path, output_of, record_path, StoresStand}
-use Rattle.tree_store.specs.Storing.{Numbered, AreTaken, AddsToStore, ChangesAmong, Holds}
+use Rattle.tree_store.specs.Storing.{AreTaken, AddsToStore, ChangesAmong, Holds}
 use Rattle.project_units.specs.Limits.{limit_of}
 use Rattle.round_engine.specs.Numbering.{AreLeast}
 use Rattle.project_units.specs.Refusals as stop
-use Rattle.project_units.specs.Refusals.{Refusal, BadWords, Object, Tree, Sink, Children}
+use Rattle.project_units.specs.Refusals.{Refusal, Object, Tree, Sink, Children}
 use Rattle.round_engine.specs.Run.{run_of, frames_of}
 use Rattle.round_engine.specs.Shown.{TriesInOrder, TellsMore, ShowsNoMore, IsDueStop}
 use Rattle.round_engine.specs.Clean.{Talked, ShowsWhole}
 use Rattle.apt_host.specs.Exempt.{IsExempt}
 use Rattle.project_reading.specs.Configuration.{Options, IsPlaceOf, is_of_project}
-use Rattle.apt_host.specs.Words.{Request, Build, Serve, Bad}
 use Rattle.project_reading.specs.Project.{Read, read_of}
 use Rattle.apt_host.specs.CleanBuild.{Outcome, clean, verdict_of}
 use Rattle.apt_host.specs.CleanBuild as outcome
 use Rattle.apt_host.specs.Report.{report_text}
-use Rattle.apt_host.specs.Listed.{GainsFirst}
-use Rattle.project_reading.specs.Verdicts.{Verdict, Done, Errors, Refused, Failed, Input, Memory, OrFree, OrMemory, is_finished, has_run, is_input, is_sink, named_in}
-use Rattle.apt_host.specs.RefusalLines.{refusal_of}
+use Rattle.project_reading.specs.Verdicts.{Verdict, Done, Errors, Refused, Failed, Input, Memory, OrFree, is_finished, has_run, named_in}
 
 -- ---- what is told
 
@@ -39,48 +36,15 @@ ToldOf tells talks options project P = Told tells (TalkedOf talks (read_of optio
 
 -- ---- the answer
 
--- what `serve` may answer; `ServesFor` says when
-abbrev pub is_served : Verdict → Bool
-is_served Done = true
-is_served (Errors count) = false
-is_served (Refused refusal) = false
-is_served (Failed object) = is_sink object
-is_served (Input fault) = true
-is_served Memory = true
-
--- no build answers that its words are no command, or that its input failed, and `serve` answers nothing of a build
-abbrev pub IsOwn : Request → Verdict → Type 0
-IsOwn (Build options) v = ((at : ℕ) → v ≢ Refused (BadWords at)) × (is_input v ≡ false)
-IsOwn (Serve local) v = is_served v ≡ true
-IsOwn (Bad at) v = Unit {0}
-
--- the answer to a request over a project is the clean build's, or that of words that no command has
-abbrev pub Answers : Bool → Bool → Request → Says → Files → Verdict → Type 0
-Answers tells talks (Build options) says project v = ToldOf tells talks options project (OrFree (verdict_of (clean says options project)) v)
-Answers tells talks (Serve local) says project v = Unit {0}
-Answers tells talks (Bad at) says project v = OrMemory (Refused (BadWords at)) v
+-- the answer of a build over a project is the clean build's
+abbrev pub Answers : Bool → Bool → Options → Says → Files → Verdict → Type 0
+Answers tells talks options says project v = ToldOf tells talks options project (OrFree (verdict_of (clean says options project)) v)
 
 -- Where the tree tells what it holds, a build that is refused before any child was started is refused as its project is, whatever the children tell. So is one whose
 -- refusal nothing but the files of the project come to.
-abbrev pub RefusesRead : Bool → Request → Files → State → State → Verdict → Type 0
-RefusesRead tells (Build options) project old new v =
+abbrev pub RefusesRead : Bool → Options → Files → State → State → Verdict → Type 0
+RefusesRead tells options project old new v =
     Told tells ((refusal : Refusal) → v ≡ Refused refusal → (new.starts ≡ old.starts) ⊎ (is_of_project refusal ≡ true) → read_of options project ≡ Err refusal)
-RefusesRead tells (Serve local) project old new v = Unit {0}
-RefusesRead tells (Bad at) project old new v = Unit {0}
-
--- ---- what is not touched
-
--- `serve`, and words that no command has, leave the tree and the children as they were
-abbrev pub Untouched : {T C : Type 0} → Request → T → T → C → C → Type 0
-Untouched (Build options) tree tree' children children' = Unit {0}
-Untouched (Serve local) tree tree' children children' = (tree' ≡ tree) × (children' ≡ children)
-Untouched (Bad at) tree tree' children children' = (tree' ≡ tree) × (children' ≡ children)
-
--- the source is read by `serve` alone; `ServesFor` says what it reads
-abbrev pub Unread : {R : Type 0} → Request → R → R → Type 0
-Unread (Build options) old new = new ≡ old
-Unread (Serve local) old new = Unit {0}
-Unread (Bad at) old new = new ≡ old
 
 -- ---- what is published
 
@@ -107,10 +71,8 @@ PublishesOutcome (outcome.Errors summary) old new = ⊥
 PublishesOutcome (outcome.Refused refusal) old new = ⊥
 
 -- a finished build published what the clean build gives
-abbrev pub PublishesClean : Bool → Bool → Request → Says → Files → Files → Verdict → Type 0
-PublishesClean tells talks (Build options) says old new v = ToldOf tells talks options old (v ≡ Done → PublishesOutcome (clean says options old) old new)
-PublishesClean tells talks (Serve local) says old new v = Unit {0}
-PublishesClean tells talks (Bad at) says old new v = v ≢ Done
+abbrev pub PublishesClean : Bool → Bool → Options → Says → Files → Files → Verdict → Type 0
+PublishesClean tells talks options says old new v = ToldOf tells talks options old (v ≡ Done → PublishesOutcome (clean says options old) old new)
 
 -- after any other answer the former output stands
 abbrev pub KeepsOutput : Files → Files → Verdict → Type 0
@@ -134,51 +96,11 @@ Leaves (Failed object) old new = LeavesFailed object old new
 Leaves (Input fault) old new = ⊥
 Leaves Memory old new = AddsToStore old new
 
--- by what was asked for; `serve` publishes nothing
-abbrev pub LeavesBy : Request → Verdict → Files → Files → Type 0
-LeavesBy (Build options) v old new = Leaves v old new
-LeavesBy (Serve local) v old new = new ≡ old
-LeavesBy (Bad at) v old new = Leaves v old new
-
 -- the same of a build that is not published
 abbrev pub LeavesUndone : Verdict → Files → Files → Type 0
 LeavesUndone v old new = v ≢ Done → Leaves v old new
 
--- ---- what is written
-
--- before a fault of this object nothing stands of a report, or the whole where the publishing failed, or a front of it where
--- the sink failed, which then was to take some of it
-abbrev pub IsFrontAt : Object → List ℕ → List ℕ → Type 0
-IsFrontAt Tree report text = (text ≡ []) ⊎ (text ≡ report)
-IsFrontAt Sink report text = (report ≢ []) × ((n : ℕ) × (text ≡ take n report))
-IsFrontAt (Children processor) report text = text ≡ []
-
--- what may stand of a report before the line of a refusal; a part of it only where the sink's count rose
-abbrev pub IsFront : Type 0 → List ℕ → Verdict → List ℕ → Type 0
-IsFront rose report Done text = text ≡ report
-IsFront rose report (Errors count) text = text ≡ report
-IsFront rose report (Refused refusal) text = text ≡ []
-IsFront rose report (Failed object) text = IsFrontAt object report text
-IsFront rose report (Input fault) text = text ≡ []
-IsFront rose report Memory text = (text ≡ []) ⊎ (text ≡ report) ⊎ (rose × ((n : ℕ) × (text ≡ take n report)))
-
--- what stands of a report; before anything of it, the store had gained the files
-abbrev pub StandsFirst : Bool → List ℕ → Numbered → Verdict → Files → Files → List ℕ → Type 0
-StandsFirst tells report stored v old new text = IsFront ⊥ report v text × Told tells (GainsFirst v text stored old new)
-
--- the same of the report of a run in which this many errors were printed: it is published where there are none
-abbrev pub StandsMade : Bool → ℕ → List ℕ → Numbered → Verdict → Files → Files → List ℕ → Type 0
-StandsMade tells errors report stored v old new text = IsFront ⊥ report v text × Told tells (errors ≡ 0 → GainsFirst v text stored old new)
-
--- the line of a refusal; a part of it only where the sink's count rose, and none where memory was wanted for it
-abbrev pub IsLine : Verdict → Type 0 → List ℕ → Type 0
-IsLine v rose line = (line ≡ refusal_of v) ⊎ ((v ≡ Memory) × (line ≡ [])) ⊎ (rose × ((n : ℕ) × (line ≡ take n (refusal_of v))))
-
--- the outcome whose report is written: the clean build's, or that of words that no command has; `serve` has none
-abbrev pub IsOutcome : Bool → Bool → Request → Says → Files → Outcome → Type 0
-IsOutcome tells talks (Build options) says project o = ToldOf tells talks options project (o ≡ clean says options project)
-IsOutcome tells talks (Serve local) says project o = ⊥
-IsOutcome tells talks (Bad at) says project o = o ≡ outcome.Refused (BadWords at)
+-- ---- its report
 
 -- the store files of a build stand and nothing else changed, or it is done and the record that names them was put in place behind them
 abbrev pub StoresBuilt : Files → Verdict → Files → Files → Type 0
@@ -201,47 +123,18 @@ CountsStarts (outcome.Built files summary) old new = new.starts ≡ old.starts +
 CountsStarts (outcome.Errors summary) old new = new.starts ≡ old.starts + summary.started
 CountsStarts (outcome.Refused refusal) old new = Unit {0}
 
--- what a request writes of its report
-pub record Reports (tells talks : Bool) (request : Request) (project project' : Files) (old new : State) (v : Verdict) (rose : Type 0) (text : List ℕ) : Type 0 where
+-- the whole text of a build is the report of an outcome, and this much of it stands
+pub record Reports (tells talks : Bool) (options : Options) (project project' : Files) (old new : State) (v : Verdict) (whole text : List ℕ) : Type 0 where
   pub outcome : Outcome
-  pub is_outcome : IsOutcome tells talks request old.says project outcome
-  pub is_front : IsFront rose (report_text outcome) v text
+  -- which is the clean build's
+  pub is_clean : ToldOf tells talks options project (outcome ≡ clean old.says options project)
+  pub is_report : whole ≡ report_text outcome
   -- a finished build writes the report of an outcome with its answer, whatever the tree and the children tell
   pub ended : is_finished v ≡ true → v ≡ verdict_of outcome
   -- wherever anything of the report stands, its mode line is of the children that were started
   pub counted : text ≢ [] → CountsStarts outcome old new
   -- wherever anything of it stands, the store files stand before it, whatever the answer
   pub stores : Told tells (StoresFirst outcome v text project project')
-
--- the text was added
-abbrev pub Adds : (List ℕ → Type 0) → List ℕ → List ℕ → Type 0
-Adds P old new = (text : List ℕ) × P text × (new ≡ old ++ text)
-
--- all that a request writes: what stands of its report, and the line of a refusal
-pub record Writes (reports lines : List ℕ → Type 0) (old new : List ℕ) : Type 0 where
-  pub text : List ℕ
-  pub is_text : reports text
-  pub line : List ℕ
-  pub is_line : lines line
-  pub added : new ≡ old ++ (text ++ line)
-
--- what the output gains: of `serve` the frames of its processor alone, as `ServesFor` says
-abbrev pub WritesBy : Request → (List ℕ → Type 0) → (List ℕ → Type 0) → List ℕ → List ℕ → Type 0
-WritesBy (Build options) reports lines old new = Writes reports lines old new
-WritesBy (Serve local) reports lines old new = Unit {0}
-WritesBy (Bad at) reports lines old new = Writes reports lines old new
-
--- the same before the line
-abbrev pub AddsBy : Request → (List ℕ → Type 0) → List ℕ → List ℕ → Type 0
-AddsBy (Build options) reports old new = Adds reports old new
-AddsBy (Serve local) reports old new = Unit {0}
-AddsBy (Bad at) reports old new = Adds reports old new
-
--- the refusal stays, but where its line wants memory
-pub record Finishes (before after : Verdict) : Type 0 where
-  pub same : after ≢ Memory → after ≡ before
-  pub done : is_finished before ≡ true → after ≡ before
-  pub refused : before ≢ Done → after ≢ Done
 
 -- ---- what children are started and shown
 
@@ -250,23 +143,12 @@ abbrev pub processors_in : Result Read Refusal → List Try
 processors_in (Ok read) = read.plan.processors
 processors_in (Err refusal) = []
 
-abbrev pub processors_of : Request → Files → List Try
-processors_of (Build options) project = processors_in (read_of options project)
-processors_of (Serve local) project = []
-processors_of (Bad at) project = []
-
--- these are the processors of a build, where the tree tells what it holds; `serve` and words that no command has name none
-abbrev pub AreRead : Bool → Request → Files → List Try → Type 0
-AreRead tells (Build options) project processors = Told tells (processors ≡ processors_of (Build options) project)
-AreRead tells (Serve local) project processors = processors ≡ []
-AreRead tells (Bad at) project processors = processors ≡ []
-
 -- Children are started for the processors that were read, which are those of the project where the tree tells what it holds: one for each where the run was finished. Their
 -- starts were tried in order, all of them where the run was finished, or up to one of them, and no other. A refusal or a fault that names a processor names one of them, and nothing is
--- told anew but of at most as many children, which are new. So nothing is started or tried for a project that is refused, and where the words name no command.
-pub record Uses (tells talks : Bool) (request : Request) (project : Files) (v : Verdict) (old new : State) : Type 0 where
+-- told anew but of at most as many children, which are new. So nothing is started or tried for a project that is refused.
+pub record Uses (tells talks : Bool) (options : Options) (project : Files) (v : Verdict) (old new : State) : Type 0 where
   pub processors : List Try
-  pub are : AreRead tells request project processors
+  pub are : Told tells (processors ≡ processors_in (read_of options project))
   pub finished : has_run v ≡ true → new.starts ≡ old.starts + length processors
   pub least : old.starts ≤ new.starts
   pub most : new.starts ≤ old.starts + length processors
@@ -306,12 +188,27 @@ pub record ShowsRead (rose : Type 0) (read : Read) (old new : State) (v : Verdic
   -- exempt. After a fault of the children that is the child of the processor which it names; out of memory exempts none, but behind such a fault.
   pub fronts : ShowsNoMore exempt read.plan.processors (frames_of (run_of old.says read.plan read.table)) old new
 
+-- `rose` says that the count of the faults of the children rose
 abbrev pub ShowsOver : Type 0 → Result Read Refusal → State → State → Verdict → Type 0
 ShowsOver rose (Err refusal) old new v = AllKept old.known new.known
 ShowsOver rose (Ok read) old new v = ShowsRead rose read old new v
 
--- `rose` says that the count of the faults of the children rose
-abbrev pub ShowsRun : Type 0 → Request → Files → State → State → Verdict → Type 0
-ShowsRun rose (Build options) project old new v = ShowsOver rose (read_of options project) old new v
-ShowsRun rose (Serve local) project old new v = Unit {0}
-ShowsRun rose (Bad at) project old new v = Unit {0}
+-- ---- all of it
+
+-- What a build with these options does, from the files of the tree and the children before it to those after it, and how it ends. `rose` says that the count of the faults of the
+-- children rose.
+pub record Builds (tells talks : Bool) (options : Options) (old new : Files) (before after : State) (rose : Type 0) (v : Verdict) : Type 0 where
+  -- The answer is the clean build's, unless it is a fault or out of memory. A refusal before any start, or of the configuration, is that of the project, whatever the children tell.
+  pub answer : Answers tells talks options before.says old v
+  pub refused : RefusesRead tells options old before after v
+  pub due : IsDue before after v
+  -- What is published is the clean build's; after any other answer the former output stands. Of the tree nothing else changes.
+  pub published : PublishesClean tells talks options before.says old new v
+  pub leaves : Told tells (Leaves v old new)
+  pub kept : Told tells (KeepsOutput old new v)
+  pub stand : Told tells (StoresStand old → StoresStand new)
+  -- No child is started or tried but those of the processors that were read, which are those of the project where the tree tells it, and none for a project that is refused. Each
+  -- processor that is started has a new child, which is shown exactly its frames of the run. Where the run stopped early, it is shown those up to that point; but for the child of
+  -- the processor that a fault of the children names.
+  pub uses : Uses tells talks options old v before after
+  pub shown : Told tells (Told talks (ShowsOver rose (read_of options old) before after v))

@@ -7,10 +7,7 @@ use Rattle.local_children.specs.Serving as child
 use Rattle.local_children.specs.declared.serving.ServeFault.{ServeFault}
 use Rattle.local_children.specs.declared.serving.ServeFault.TheVariants as faults
 use Rattle.project_units.specs.Refusals.{Sink}
-use Rattle.project_reading.specs.declared.status.Status.{Status}
-use Rattle.project_reading.specs.Verdicts.{SourceFails, HostLeaves, Verdict, Done, Failed, Input, Memory, verdict}
-use Rattle.apt_host.specs.Words as request
-use Rattle.apt_host.specs.Words.{Request}
+use Rattle.project_reading.specs.Verdicts.{SourceFails, HostLeaves, Verdict, Done, Failed, Input, Memory}
 
 -- how a child ends
 abbrev pub served : Result Unit ServeFault → Verdict
@@ -25,9 +22,3 @@ pub record ServesFor {R W : Type 0} (r : source.Ghosts R) (w : sink.Ghosts W) (l
   pub end : Result Unit ServeFault
   pub answers : v ≡ served end
   pub serves : child.Serves r w local input input' output output' end
-
--- no other command is a child
-abbrev pub Serves : {R W : Type 0} → source.Ghosts R → sink.Ghosts W → Request → R → R → W → W → Status → Type 0
-Serves r w (request.Build options) input input' output output' result = Unit {0}
-Serves r w (request.Serve local) input input' output output' result = ServesFor r w local input input' output output' (verdict result)
-Serves r w (request.Bad at) input input' output output' result = Unit {0}

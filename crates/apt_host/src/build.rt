@@ -4,7 +4,7 @@ ghost use Rattle.std.specs.List.Sorted.{IsStrictlyIncreasing};
 ghost use Rattle.apt_outside.specs.Count.{Told};
 ghost use Rattle.project_units.specs.Plans.{names_in};
 ghost use Rattle.round_engine.specs.Clean.{AreNumbered};
-ghost use Rattle.tree_store.specs.Output.{StoresStand, SameOutside};
+ghost use Rattle.tree_store.specs.Output.{SameOutside};
 ghost use Rattle.apt_base.specs.Fields.{is_text};
 ghost use Rattle.tree_store.specs.Storing.{AreDistinct, AreAbsent};
 ghost use Rattle.project_reading.specs.Verdicts.{verdict, OrFree, is_tree, is_sink, is_children, HasCause};
@@ -12,8 +12,9 @@ ghost use Rattle.project_reading.specs.Endings.{ended, EndsEarly};
 ghost use Rattle.apt_host.specs.BuildEndings.{closed, IsConcluded};
 ghost use Rattle.apt_host.specs.Making.{concluded, RefusesRun};
 ghost use Rattle.apt_host.specs.Listed.{numbered_of, finished_of, FitsEntry};
-ghost use Rattle.apt_host.specs.Promises.{Leaves, LeavesUndone, KeepsOutput, IsDue};
-ghost use Rattle.apt_host.specs.Builds.{Uses, UsesFor, Shows, Makes, IsOwn, Answers, Refuses, Publishes, PlacesMade, Tells, Reports};
+ghost use Rattle.apt_host.specs.Promises.{LeavesUndone, IsDue};
+ghost use Rattle.apt_host.specs.Commands.{MayBuild};
+ghost use Rattle.apt_host.specs.Builds.{Builds, Reports, UsesFor, Makes, PlacesMade, Tells};
 
 use crate::publish::{publish, spell, tell_errors};
 use crate::report::Summary;
@@ -179,17 +180,9 @@ pub fn build<T: Tree, C: Children, W: Sink>(
     ensures sink_cause { HasCause is_sink (closed result) (W.faults output.old) (W.faults output.new) }
     ensures live { (C.state children.new).live ≡ (C.state children.old).live }
     ensures says { Told C.tells ((C.state children.new).says ≡ (C.state children.old).says) }
-    ensures uses { Uses T.Tree C.Children options.now tree.old children.old children.new result }
-    ensures due { IsDue (C.state children.old) (C.state children.new) (closed result) }
-    ensures own { IsOwn options.now result }
-    ensures answer { Answers T.Tree C.Children options.now tree.old children.old result }
-    ensures refused { Refuses T.Tree C.Children options.now tree.old children.old children.new result }
-    ensures published { Publishes T.Tree C.Children options.now tree.old tree.new children.old result }
-    ensures leaves { Told T.tells (Leaves (closed result) (T.files tree.old) (T.files tree.new)) }
-    ensures kept { Told T.tells (KeepsOutput (T.files tree.old) (T.files tree.new) (closed result)) }
-    ensures stand { Told T.tells (StoresStand (T.files tree.old) → StoresStand (T.files tree.new)) }
     ensures outside { Told T.tells (SameOutside (T.files tree.old) (T.files tree.new)) }
-    ensures shown { Shows T.Tree C.Children options.now tree.old children.old children.new result }
+    ensures own { MayBuild (closed result) }
+    ensures builds { Builds T.Tree C.Children options.now tree.old tree.new children.old children.new result }
     ensures written { Reports T.Tree C.Children W.Sink options.now
         tree.old tree.new children.old children.new output.old output.new result }
 {

@@ -93,7 +93,8 @@ pub fn spell(
     })
 }
 
-fn of_sink(fault: Fault) -> Status
+/// How a call ends whose output was not written.
+pub fn of_sink(fault: Fault) -> Status
     ensures { verdict result ≡ sink_verdict fault }
 {
     match fault {

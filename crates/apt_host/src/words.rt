@@ -1,6 +1,6 @@
 // The words of a call.
 ghost use Rattle.std.specs.Prelude.{◌≡◌, map, string_bytes, true, IfOk, IfErr};
-ghost use Rattle.apt_host.specs.Words.{build_of, serve_of, has_line};
+ghost use Rattle.apt_host.specs.Words.{Help, build_of, serve_of, alone, has_line};
 ghost use Rattle.apt_host.specs.Shown.{shown_request, asked};
 
 use apt_base::{List, Name, NoMemory};
@@ -22,9 +22,11 @@ pub enum Request {
         /// The processor.
         local: Local,
     },
+    /// The table of words.
+    Help,
     /// The words are none of the table's.
     Bad {
-        /// The position of the first word that no command has there, or the number of words where one is missing.
+        /// The position of the first word that no line of the table has there, or the number of words where one is missing.
         at: u64,
     },
 }
@@ -67,23 +69,19 @@ fn read_serve(words: &[String]) -> Request
     }
 }
 
-/// Whether a refusal has a line after these words. The output of `serve` has the frames of its processor alone.
-#[tactic(auto, using(crate::proofs::WordLemmas::line_unless_serve))]
-pub fn has_line(words: &[String]) -> bool
-    ensures { result ≡ has_line (asked words.now) }
+// Reads the words behind `help`: there are none.
+fn read_help(words: &[String]) -> Request
+    ensures { shown_request result ≡ alone Help (map string_bytes words.now) }
 {
-    let Some((word, others)) = words.split_first() else {
-        return true;
-    };
-    if word.as_str() == "serve" {
-        !matches!(read_serve(others), Request::Serve { .. })
+    if words.is_empty() {
+        Request::Help
     } else {
-        true
+        Request::Bad { at: 1 }
     }
 }
 
 /// Reads the words: `build`, and behind it `--full` at most once and any number of options `KEY=VALUE`, in any order;
-/// or `serve` and the name of a processor that the program has itself. Only the options take memory.
+/// `serve` and the name of a processor that the program has itself; or `help` alone. Only the options take memory.
 pub fn read_words(alloc: Global, words: &[String]) -> Result<Request, NoMemory>
     ensures request { IfOk result (λ request. shown_request request ≡ asked words.now) }
     ensures memory { IfErr result (λ _. has_line (asked words.now) ≡ true) }
@@ -91,10 +89,12 @@ pub fn read_words(alloc: Global, words: &[String]) -> Result<Request, NoMemory>
     let Some((word, others)) = words.split_first() else {
         return Ok(Request::Bad { at: 0 });
     };
-    if word.as_str() == "serve" {
-        Ok(read_serve(others))
-    } else if word.as_str() == "build" {
+    if word.as_str() == "build" {
         read_build(alloc, others)
+    } else if word.as_str() == "serve" {
+        Ok(read_serve(others))
+    } else if word.as_str() == "help" {
+        Ok(read_help(others))
     } else {
         Ok(Request::Bad { at: 0 })
     }

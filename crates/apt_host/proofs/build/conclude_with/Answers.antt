@@ -5,7 +5,7 @@ use Rattle.project_reading.specs.Verdicts.{verdict, is_output}
 use Rattle.apt_host.specs.BuildEndings.{closed}
 use Rattle.apt_host.specs.Making.{concluding_report}
 use Rattle.apt_host.specs.Listed.{numbered_of, finished_of, Places, GainsFirst}
-use Rattle.apt_host.specs.Promises.{IsFront}
+use Rattle.apt_host.specs.Texts.{IsFront}
 use Rattle.apt_host.proofs.Early.{not_done_early}
 use Rattle.apt_host.proofs.Building.{report_is}
 use Rattle.apt_host.proofs.build.conclude_with.Goals as goal

@@ -3,7 +3,7 @@ use Rattle.apt_outside.specs.Stream.{Appends}
 use Rattle.std.proofs.lemmas.Result.{err_from_is_err_and}
 use Rattle.project_reading.specs.Verdicts.{verdict, is_finished, is_tree, is_sink, fails}
 use Rattle.project_reading.specs.Endings.{ended, of_store}
-use Rattle.apt_host.specs.Promises.{IsFront}
+use Rattle.apt_host.specs.Texts.{IsFront}
 use Rattle.apt_host.proofs.Early.{unfinished_early, no_sink_early, store_early}
 use Rattle.apt_host.proofs.Writing.{nothing_yet, some_written}
 use Rattle.apt_host.proofs.publish.publish.Goals as goal
